@@ -22,26 +22,26 @@ reason_of TooSlow = codes "Request Timeout"
 reason_of TooLong = codes "Request Header Fields Too Large"
 reason_of Unavailable = codes "Service Unavailable"
 
--- the first line, the type of what follows and how long that is
+-- the status line, the type of the body and its length
 unfoldable pub head_text : Status → List ℕ → ℕ → List ℕ
 head_text status kind size =
     codes "HTTP/1.1 " ++ decimal (number_of status) ++ codes " " ++ reason_of status ++ codes "\r\nContent-Type: " ++ kind
     ++ codes "\r\nContent-Length: " ++ decimal size ++ codes "\r\n"
 
--- which methods there are, where another one was wanted
+-- the `Allow` field with the methods that the listener answers; nothing for any other status
 unfoldable pub allow_text : Status → List ℕ
 allow_text NotAllowed = codes "Allow: GET, HEAD\r\n"
 allow_text status = []
 
--- what every answer says besides, and the end of its head
+-- the fields that stand in every answer, and the empty line that ends the head
 unfoldable pub fields_text : List ℕ
 fields_text = codes "Connection: close\r\nCache-Control: no-store\r\nX-Content-Type-Options: nosniff\r\nContent-Security-Policy: default-src 'none'; style-src 'unsafe-inline'; script-src 'unsafe-inline'; connect-src 'self'; frame-ancestors 'none'\r\n\r\n"
 
--- the body, where it is to be there
+-- the body, or nothing where the answer has none
 unfoldable pub body_text : List ℕ → Bool → List ℕ
 body_text body whole = if whole then body else []
 
--- all of an answer: its body stands behind an empty line, where it is to have one
+-- a whole answer: the head, and the body after the empty line where the answer has one
 abbrev pub answer_text : Status → List ℕ → List ℕ → Bool → List ℕ
 answer_text status kind body whole =
     head_text status kind (length body) ++ allow_text status ++ fields_text ++ body_text body whole

@@ -1,4 +1,4 @@
--- What bytes of a client ask.
+-- What a client's bytes ask for.
 use Rattle.std.specs.Prelude.{◌≡◌, ℕ, List, Option, Bool, codes, take, position, ◌==◌, if◌then◌else◌, ⊤}
 use Rattle.std.specs.Option.{option_map_or}
 use Rattle.std.specs.Str.{bytes_eq}
@@ -15,11 +15,11 @@ method_of word = if bytes_eq word (codes "GET") then Get else if bytes_eq word (
 abbrev pub is_question_mark : ℕ → Bool
 is_question_mark byte = byte == 63
 
--- what stands before the first question mark
+-- the part of a request target before its first question mark
 abbrev pub path_of : List ℕ → List ℕ
 path_of target = option_map_or (λ end. take end target) (position is_question_mark target) target
 
--- a head stands at the front of the bytes, and this is what it asks
+-- a head stands at the front of the bytes and asks this question
 pub record Asks (bytes : List ℕ) (question : Question) : Type 0 where
   pub head : RequestHead
   pub rest : List ℕ
@@ -27,7 +27,7 @@ pub record Asks (bytes : List ℕ) (question : Question) : Type 0 where
   pub method : question.method ≡ method_of head.method
   pub path : question.path.now ≡ path_of head.target
 
--- what is said of the bytes of a client
+-- what each answer of the reader says of the client's bytes
 abbrev pub Says : List ℕ → Asked → Type 0
 Says bytes (Whole question) = Asks bytes question
 Says bytes Part = HasNoRequest bytes × MayBecomeRequest bytes

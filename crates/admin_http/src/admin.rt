@@ -7,7 +7,7 @@ use std::os::fd::AsRawFd;
 use std::sync::atomic::{AtomicBool, Ordering};
 use std::sync::{Mutex, Wait};
 
-/// Where a running proxy is asked how it goes.
+/// The admin listener: the address where an operator asks a running proxy for its state.
 #[derive(Drop)]
 pub struct Admin {
     pub(crate) listener: TcpListener,
@@ -18,7 +18,7 @@ pub struct Admin {
 }
 
 impl Admin {
-    /// At a listener. None where the system has no poll to spare.
+    /// Makes an admin listener. Returns `None` where the system refuses a poll.
     pub fn new<R: Net>(rt: &R, alloc: Global, listener: TcpListener) -> Option<Admin> {
         let poll = Poll::new(rt).ok()?;
         let waker = Waker::new(poll.registry(), Token(WAKER)).ok()?;
@@ -37,15 +37,15 @@ impl Admin {
         })
     }
 
-    /// Where clients come; none where the system doesn't say.
+    /// Returns the address of the listener, or `None` where the system doesn't tell it.
     pub fn address(&self) -> Option<SocketAddr> {
         self.listener.local_addr().ok()
     }
 
-    /// All is over: whoever attends returns.
+    /// Ends the listener: the thread that attends to it returns.
     pub fn end(&self) {
         self.over.store(true, Ordering::SeqCst);
-        // It fails only where a wake is before it already.
+        // A wake fails only where an earlier one is still pending.
         let _ = self.waker.wake();
     }
 
@@ -53,7 +53,7 @@ impl Admin {
         self.over.load(Ordering::SeqCst)
     }
 
-    /// The poll, which one thread takes.
+    /// Takes the poll, which belongs to one thread.
     pub(crate) fn take_poll<R: Wait>(&self, rt: &R) -> Option<Poll> {
         self.poll.lock(rt).take()
     }

@@ -6,69 +6,70 @@ use std::alloc::{AllocError, Global};
 use std::io::{ErrorKind, Read, Write};
 use std::net::{Shutdown, TcpStream};
 
-/// So many steps are made for a client, before others are attended to.
+/// The most steps that are made for one client before the others get their turn.
 const STEPS: usize = 64;
 
-/// How long a client may take, in milliseconds since it came.
+/// The time that a client may take, in milliseconds since it connected.
 #[derive(Clone, Copy, Debug, PartialEq, Eq)]
 pub(crate) struct Patience {
-    /// Until its head is there.
+    /// Until its whole head has come.
     head: u64,
-    /// Until it has its answer, and has closed.
+    /// Until its answer is sent and its connection closed.
     all: u64,
 }
 
-/// Where there is room for others.
+/// While there is room for more clients.
 pub(crate) const CALM: Patience = Patience {
     head: 2000,
     all: 5000,
 };
 
-/// Where others may wait for its place.
+/// While other clients may wait for its place.
 pub(crate) const CROWDED: Patience = Patience {
     head: 200,
     all: 1000,
 };
 
-/// What is done for a client.
+/// The stage of a client.
 #[derive(Clone, Copy, Debug, PartialEq, Eq)]
 enum Stage {
     Reads,
     Writes,
-    /// All is written: what still comes is thrown away, so that the system doesn't take the answer back.
+    /// The whole answer is sent. What the client still sends is thrown away, so that the system
+    /// doesn't discard the answer.
     Leaves,
 }
 
-/// Someone who asks.
+/// A client of the admin listener.
 #[derive(Drop)]
 pub(crate) struct Client {
     stream: TcpStream,
     alloc: Global,
     stage: Stage,
     head: Vec<u8>,
-    /// What it is told, and how much of that was sent.
+    /// The text of the answer and how much of it has been sent.
     outbox: String,
     sent: usize,
-    /// In milliseconds: when it came.
+    /// The moment when it connected, in milliseconds.
     came: u64,
 }
 
-/// What becomes of a client.
+/// What the reception does with a client after a turn.
 #[derive(Clone, Copy, Debug, PartialEq, Eq)]
 pub(crate) enum Fate {
-    /// It stays until it is told of by the poll.
+    /// It stays, and waits until the poll reports it.
     Stays,
-    /// There is more to do for it.
+    /// It stays, and there is more to do for it at once.
     More,
     /// Its connection is closed.
     Closes,
 }
 
-// What a step came to.
+// The result of one step.
 #[derive(Clone, Copy, Debug, PartialEq, Eq)]
 enum Step {
     Done,
-    /// Nothing can be done at present.
+    /// Nothing can be done until the poll reports the client.
     Waits,
     Over,
 }
@@ -86,7 +87,7 @@ impl Client {
         }
     }
 
-    /// Does what can be done for it without waiting.
+    /// Does all that can be done for the client without waiting.
     pub(crate) fn work<A: Answers>(
         &mut self,
         answers: &mut A,
@@ -103,7 +104,7 @@ impl Client {
         Fate::More
     }
 
-    // It stays, as long as its time isn't over.
+    // Keeps the client until its time is over.
     fn wait(&mut self, now: u64, patience: Patience) -> Fate {
         let passed = now.saturating_sub(self.came);
         let is_late = patience.head <= passed;
@@ -139,7 +140,7 @@ impl Client {
         Ok(Step::Done)
     }
 
-    // Answers, once the head is there.
+    // Answers the client once its whole head has come.
     fn look<A: Answers>(&mut self, answers: &mut A) -> Result<(), AllocError> {
         let (page, has_body) = match asked_of(self.head.as_slice()) {
             Asked::Part if self.head.len() <= MOST_HEAD => return Ok(()),

@@ -1,7 +1,9 @@
-//! A small listener for HTTP, where a running proxy is asked how it goes. It reads a head, answers, and closes.
+//! A small HTTP listener that answers an operator's questions about a running proxy. It reads one
+//! head, answers and closes.
 //!
-//! It is a thread of its own beside those that serve, and has a few connections at once: what a client sends or takes slowly lies in buffers of its own, and each
-//! connection is over after some seconds.
+//! It has a thread of its own beside those that serve, and serves a few connections at once. A slow
+//! client holds up no other, since each has buffers of its own, and each connection is closed after
+//! some seconds.
 #![tactic(auto)]
 
 mod admin;

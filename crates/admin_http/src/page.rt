@@ -4,7 +4,7 @@ ghost use Rattle.admin_http.specs.Answers.{allow_text, answer_text, body_text, f
 use crate::question::Question;
 use std::alloc::AllocError;
 
-/// What an answer comes to.
+/// The status of an answer.
 #[derive(Clone, Copy, Debug, PartialEq, Eq)]
 pub enum Status {
     Good,
@@ -16,23 +16,23 @@ pub enum Status {
     Unavailable,
 }
 
-/// What is answered.
+/// The content of an answer.
 #[derive(Debug, Drop)]
 pub struct Page {
     pub status: Status,
-    /// The type of its body.
+    /// The media type of its body.
     pub kind: &'static str,
     pub body: String,
 }
 
-/// Whoever knows what is asked.
+/// The source of the answers.
 pub trait Answers {
-    /// The answer to a question. The thread that answers does nothing else until it is there.
+    /// Answers a question. The listener's thread does nothing else until this returns.
     fn answer(&mut self, question: &Question) -> Result<Page, AllocError>;
 }
 
 impl Status {
-    /// The number that HTTP has for it.
+    /// Returns the HTTP status code.
     pub fn number(self) -> u16
         ensures { result ≡ number_of self }
     {
@@ -62,7 +62,7 @@ impl Status {
     }
 }
 
-/// Writes a page as HTTP has it, with its body or without.
+/// Writes a page as an HTTP answer, with its body or, for `HEAD`, without it.
 pub fn push_answer(text: &mut String, page: &Page, has_body: bool) -> Result<(), AllocError>
     ensures { OnOk result (string_bytes text.new ≡ string_bytes text.old ++ answer_text page.now.status page.now.kind.now (string_bytes page.now.body) has_body) }
 {
@@ -72,7 +72,8 @@ pub fn push_answer(text: &mut String, page: &Page, has_body: bool) -> Result<(),
     text.push_str(body_of(page, has_body))
 }
 
-// What every answer says besides, with the end of its head. A page of it loads nothing from elsewhere, and is kept nowhere.
+// The fields that stand in every answer, and the end of the head. They forbid a page to load
+// anything from elsewhere, and a client to store it.
 #[tactic(auto, unfolding(crate::specs::Answers::fields_text))]
 fn fields() -> &'static str
     ensures { result.now ≡ fields_text }
@@ -99,7 +100,7 @@ fn push_head(text: &mut String, status: Status, kind: &str, size: usize) -> Resu
     )
 }
 
-// Which methods there are, where another one was wanted.
+// The `Allow` field where the method was refused, else nothing.
 #[tactic(auto, unfolding(crate::specs::Answers::allow_text))]
 fn allowed(status: Status) -> &'static str
     ensures { result.now ≡ allow_text status }

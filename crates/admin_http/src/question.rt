@@ -6,42 +6,42 @@ ghost use Rattle.admin_http.specs.Questions.{IsWhole, Says, is_question_mark, me
 use httparse::Status;
 use httparse::spans::{EMPTY_HEADER_SPAN, Span, parse_request};
 
-/// So many bytes a head has, at most.
+/// The most bytes of a head.
 pub const MOST_HEAD: usize = 8192;
 
-/// So many fields it has, at most.
+/// The most fields of a head.
 const MOST_FIELDS: usize = 64;
 
-/// What a client wants done.
+/// The method of a request.
 #[derive(Clone, Copy, Debug, PartialEq, Eq)]
 pub enum Method {
     Get,
     /// As `Get`, but for the body.
     Head,
-    /// Nothing that is done here.
+    /// Any method that the listener refuses.
     Other,
 }
 
-/// What a client asks.
+/// The question of a client.
 #[derive(Clone, Copy, Debug, PartialEq, Eq)]
 pub struct Question<'a> {
     pub method: Method,
-    /// What it names, without what stands behind a question mark.
+    /// The request target up to its first question mark.
     pub path: &'a [u8],
 }
 
-/// What bytes of a client are.
+/// What was found at the front of a client's bytes.
 #[derive(Clone, Copy, Debug, PartialEq, Eq)]
 pub enum Asked<'a> {
-    /// A head, whatever stands behind it.
+    /// A whole head, whatever follows it.
     Whole(Question<'a>),
-    /// What may become one.
+    /// The front of a head that isn't whole yet.
     Part,
-    /// What is none and becomes none, or has too many fields.
+    /// Bytes that can't become a head, or a head with too many fields.
     Nothing,
 }
 
-/// What bytes of a client are. `O(n)`, no memory.
+/// Reads the head at the front of a client's bytes. `O(n)`, no memory.
 pub fn asked_of(bytes: &[u8]) -> Asked<'_>
     ensures says { Says bytes.now result }
     ensures found { (head : RequestHead) (rest : List ℕ) → ReadsRequest bytes.now head rest → length head.fields ≤ 64 → IsWhole result }
@@ -78,7 +78,7 @@ fn method_of(word: &[u8]) -> Method
     }
 }
 
-// What stands before the first question mark.
+// Returns the part of a request target before its first question mark.
 fn path_of(target: &[u8]) -> &[u8]
     ensures { result.now ≡ path_of target.now }
 {

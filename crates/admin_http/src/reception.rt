@@ -12,7 +12,7 @@ use std::os::fd::AsRawFd;
 use std::sync::Wait;
 use std::time::{Clock, Duration, Instant};
 
-/// So many clients there are at once; others wait until one leaves.
+/// The most clients at once; others wait until one leaves.
 const MOST_CLIENTS: usize = 16;
 
 pub(crate) const LISTENER: usize = MOST_CLIENTS;
@@ -23,10 +23,10 @@ const EVENTS: usize = 32;
 
 const BUFFER: usize = 4096;
 
-/// How long nothing is looked at while clients are there, at most, in milliseconds.
+/// The longest wait of the thread while it has clients, in milliseconds.
 const SELDOM: u64 = 100;
 
-// What the thread works with.
+// The state of the listener's thread.
 #[derive(Drop)]
 struct Reception<'a, R> {
     rt: &'a R,
@@ -34,11 +34,11 @@ struct Reception<'a, R> {
     clients: Vec<Option<Client>>,
     buffer: Vec<u8>,
     start: Instant,
-    /// Some client has more to do.
+    /// Some client has more to do at once.
     more: bool,
 }
 
-/// Answers all clients until all is over. Fails where the system has nothing to spare for it.
+/// Answers all clients until the listener ends. Fails where the system refuses memory or the poll.
 pub fn attend<R: Clock + Wait, A: Answers>(
     rt: &R,
     admin: &Admin,
@@ -76,14 +76,14 @@ impl<'a, R: Clock + Wait> Reception<'a, R> {
             if self.admin.is_over() {
                 return;
             }
-            // What is told is looked at for every client: they are few.
+            // Every client is tried, whichever the poll reports: they are few.
             let _ = poll.poll(&mut events, self.patience());
             self.accept(&poll);
             self.attend_to_all(answers);
         }
     }
 
-    // How long the next wait is at most; none: until something is told.
+    // Returns how long the next wait lasts at most; `None` is without limit.
     fn patience(&self) -> Option<Duration> {
         if self.more {
             Some(Duration::from_millis(0))
@@ -94,7 +94,7 @@ impl<'a, R: Clock + Wait> Reception<'a, R> {
         }
     }
 
-    // Takes those that wait at the listener, as far as there is room.
+    // Accepts the clients that wait at the listener, as long as there is room.
     fn accept(&mut self, poll: &Poll) {
         let admin = self.admin;
         for number in 0..MOST_CLIENTS {
@@ -140,7 +140,7 @@ impl<'a, R: Clock + Wait> Reception<'a, R> {
             };
             match client.work(answers, self.buffer.as_mut_slice(), (now, patience)) {
                 Fate::Closes => {
-                    // Its place is free for one that waits.
+                    // The place is free for a client that waits.
                     self.more = true;
                     continue;
                 }

@@ -1,4 +1,4 @@
--- What an admin address answers.
+-- The paths that an admin address answers.
 use Rattle.std.specs.Prelude.{ℕ, List, Option, Some, None, codes, if◌then◌else◌}
 use Rattle.std.specs.Str.{bytes_eq}
 use Rattle.admin_http.specs.declared.page.Status.{Status}
@@ -8,7 +8,7 @@ use Rattle.admin_pages.specs.declared.answering.Health.TheVariants.{Serves, Unse
 use Rattle.admin_pages.specs.declared.paths.Wanted.{Wanted}
 use Rattle.admin_pages.specs.declared.paths.Wanted.TheVariants.{Metrics, State, Health as ItsHealth, Page}
 
--- what a path names
+-- the page that a path names
 abbrev pub wanted_at : List ℕ → Option Wanted
 wanted_at path =
     if bytes_eq path (codes "/metrics") then Some Metrics
@@ -17,7 +17,7 @@ wanted_at path =
     else if bytes_eq path (codes "/") then Some Page
     else None
 
--- whether a proxy is to be sent requests
+-- the status that a load balancer before the proxy is told
 abbrev pub status_of : Health → Status
 status_of Serves = Good
 status_of Unserved = Unavailable

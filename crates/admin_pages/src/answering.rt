@@ -6,24 +6,25 @@ use crate::paths::{Wanted, wanted_at};
 use admin_http::{Answers, Page, Question, Status};
 use std::alloc::{AllocError, Global};
 
-/// A text is made anew once so many milliseconds have passed, so that whoever asks often holds up nobody who counts.
+/// The least time between two makings of a text, in milliseconds. An operator who asks often
+/// doesn't hold up the threads that count.
 const SELDOM: u64 = 100;
 
 const PLAIN: &str = "text/plain; charset=utf-8";
 
-/// How a proxy is.
+/// The health of a proxy.
 #[derive(Clone, Copy, Debug, PartialEq, Eq)]
 pub enum Health {
-    /// Some server takes requests.
+    /// Some server is up and takes requests.
     Serves,
     /// No server is up and takes requests.
     Unserved,
-    /// No more clients are taken.
+    /// The proxy accepts no more clients.
     Stops,
 }
 
 impl Health {
-    /// What a proxy that is so answers to whoever is to send it requests.
+    /// Returns the status that a load balancer before the proxy is told.
     pub fn status(self) -> Status
         ensures { result ≡ status_of self }
     {
@@ -33,7 +34,7 @@ impl Health {
         }
     }
 
-    /// The same in words.
+    /// Returns the health in words.
     pub fn text(self) -> &'static str
         ensures { result.now ≡ health_text self }
     {
@@ -45,21 +46,21 @@ impl Health {
     }
 }
 
-/// Whoever knows the numbers of a proxy.
+/// The source of a proxy's numbers.
 pub trait Told {
-    /// In milliseconds since the proxy began.
+    /// Milliseconds since the proxy began.
     fn now(&self) -> u64;
 
     fn health(&self) -> Health;
 
-    /// The text for Prometheus.
+    /// Returns the numbers in Prometheus's text format.
     fn metrics(&self) -> Result<String, AllocError>;
 
-    /// One value of JSON.
+    /// Returns the numbers as one JSON value.
     fn state(&self) -> Result<String, AllocError>;
 }
 
-// A text, and when it was made.
+// A text and the moment when it was made.
 #[derive(Drop)]
 struct Kept {
     text: String,
@@ -76,7 +77,7 @@ pub struct Pages<T: Told + Drop> {
 }
 
 impl<T: Told + Drop> Pages<T> {
-    /// Of a proxy whose numbers these are.
+    /// Makes the answers from this source of numbers.
     pub fn new(alloc: Global, told: T) -> Pages<T> {
         Pages {
             alloc,
@@ -143,7 +144,7 @@ impl<T: Told + Drop> Answers for Pages<T> {
 }
 
 impl<T: Told + Drop> Pages<T> {
-    // What is answered where a path names nothing.
+    // The answer to a path that names no page.
     fn nothing(&self) -> Result<Page, AllocError> {
         let text = "there are /, /metrics, /state.json and /health\n";
         Ok(Page {

@@ -1,4 +1,5 @@
-//! What a proxy's admin address answers: its numbers for Prometheus and as JSON, whether it serves, and a page that shows it.
+//! The answers of a proxy's admin address: its numbers for Prometheus and as JSON, its health, and
+//! a page that shows them.
 #![tactic(auto)]
 
 mod answering;

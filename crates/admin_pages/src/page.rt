@@ -1,4 +1,4 @@
-//! The page. It needs nothing from elsewhere, and asks for the numbers each second.
+//! The HTML page. It loads nothing from elsewhere, and asks for the numbers each second.
 
 pub(crate) const PAGE: &str = r##"<!doctype html>
 <html lang="en">

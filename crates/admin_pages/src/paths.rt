@@ -1,20 +1,20 @@
 ghost use Rattle.std.specs.Prelude.{◌≡◌};
 ghost use Rattle.admin_pages.specs.Paths.{wanted_at};
 
-/// What a path names.
+/// The page that a path names.
 #[derive(Clone, Copy, Debug, PartialEq, Eq)]
 pub enum Wanted {
-    /// The numbers, for Prometheus.
+    /// The numbers in Prometheus's text format.
     Metrics,
     /// The numbers as JSON.
     State,
-    /// Whether requests are served.
+    /// The health of the proxy.
     Health,
-    /// The page that shows the numbers.
+    /// The HTML page.
     Page,
 }
 
-/// What a path names. None: nothing.
+/// Returns the page that a path names; `None` where it names none.
 pub fn wanted_at(path: &[u8]) -> Option<Wanted>
     ensures { result ≡ wanted_at path.now }
 {

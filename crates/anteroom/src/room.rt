@@ -8,7 +8,7 @@ use pend_queue::PendQueue;
 use std::alloc::{AllocError, Global};
 use std::marker::Model;
 
-/// Guests by class, due date and coming, the least first. It knows them by numbers that the caller gives them.
+/// The guests by class, due date and order of coming, the least first. The caller gives each guest a number.
 #[derive(Drop)]
 pub struct Anteroom<Q: PendQueue<Key, usize>> {
     queue: Q,
@@ -16,12 +16,12 @@ pub struct Anteroom<Q: PendQueue<Key, usize>> {
     ticket: u64,
 }
 
-/// Why a guest isn't let in.
+/// Why a guest is refused.
 #[derive(Clone, Copy, Debug, PartialEq, Eq)]
 pub enum Cause {
-    /// As many wait as there is room for.
+    /// The anteroom is full.
     Full,
-    /// Memory is short.
+    /// The system refuses memory.
     NoMemory,
 }
 
@@ -38,7 +38,7 @@ impl<Q: PendQueue<Key, usize>> Model for Anteroom<Q> {
 impl<Q: PendQueue<Key, usize>> Anteroom<Q> {
     ghost use Rattle.anteroom.specs.declared.room.Cause.TheVariants.{Full};
 
-    /// Nobody waits, and so many may. Refused only where memory is short.
+    /// Makes an empty anteroom with this room. Fails only where memory is refused.
     pub fn with_room(alloc: Global, room: usize) -> Result<Anteroom<Q>, AllocError>
         ensures { IfOk result (λ made. made ≡ nobody room) }
     {
@@ -49,21 +49,21 @@ impl<Q: PendQueue<Key, usize>> Anteroom<Q> {
         })
     }
 
-    /// Whether nobody else is let in: then nobody is accepted either.
+    /// Says whether the anteroom is full; the caller accepts no more clients then.
     pub fn is_full(&self) -> bool
         ensures { IsTrue result ↔ IsFull self.now }
     {
         self.room <= self.queue.len() || self.ticket == u64::MAX
     }
 
-    /// How many wait.
+    /// Returns the number of guests.
     pub fn len(&self) -> usize
         ensures { result ≡ length self.now.pairs }
     {
         self.queue.len()
     }
 
-    /// A guest comes now, and is answered its key.
+    /// Adds a guest that comes now, and returns its key.
     pub fn come(
         &mut self,
         alloc: Global,
@@ -90,7 +90,7 @@ impl<Q: PendQueue<Key, usize>> Anteroom<Q> {
         Ok(key)
     }
 
-    /// Looks at the guest for whom the next place is, who stays. None only where nobody waits.
+    /// Returns the guest that gets the next place, and leaves it in the room. `None` only where the room is empty.
     pub fn first(&mut self) -> Option<(Key, usize)>
         ensures first { result ≡ slice_get self.old.pairs 0 }
         ensures same { self.new ≡ self.old }
@@ -102,7 +102,8 @@ impl<Q: PendQueue<Key, usize>> Anteroom<Q> {
         Some(first)
     }
 
-    /// The guest for whom the next place is: all others come behind. None only where nobody waits.
+    /// Takes out the guest that gets the next place: the keys of all others are after its own.
+    /// `None` only where the room is empty.
     pub fn next(&mut self) -> Option<(Key, usize)>
         ensures first { result ≡ slice_get self.old.pairs 0 }
         ensures order { IfSome result (λ it. AllComeAfter it.0 self.new.pairs) }
@@ -112,7 +113,7 @@ impl<Q: PendQueue<Key, usize>> Anteroom<Q> {
         Some(Q::into_pair(node))
     }
 
-    /// A guest leaves, or has waited too long. None only where nobody has its key.
+    /// Takes out a guest that leaves or has waited too long. `None` only where no guest has the key.
     pub fn leave(&mut self, key: Key) -> Option<usize>
         ensures its { result ≡ option_map (λ p. p.1) (pair_at key_cmp key self.old.pairs) }
         ensures rest { self.new ≡ left self.old key }

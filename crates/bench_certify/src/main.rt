@@ -1,6 +1,6 @@
-//! What `bench/certify.sh` times: of the log of a script's events, so many times its reports.
+//! The program that `bench/certify.sh` times: it reads the reports of one log again and again.
 //!
-//! Its words are how often, and the file of the script.
+//! Its arguments are the number of rounds and the file of the script.
 #![tactic(auto)]
 
 use anyhow::{Context, Result, bail};
@@ -24,7 +24,7 @@ fn main(rt: HostRuntime) -> Result<()> {
 fn certify(rt: &HostRuntime, script: &[u8], times: u32) -> Result<()> {
     let replayed = replay_events::<BinomQueue<Key, usize>>(rt.alloc(), script)?;
     let done = report(rt, &replayed.core, times);
-    // A call of it is proved faster than the drops of all parts of a dispatcher.
+    // A call is proved faster than the drops of all parts of a dispatcher.
     drop(replayed);
     done
 }

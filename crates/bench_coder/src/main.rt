@@ -1,6 +1,7 @@
-//! What `bench/coder.sh` times: bodies that the coder takes from memory, and what it gives for them.
+//! The program that `bench/coder.sh` times: it codes bodies from memory to memory.
 //!
-//! Its words are a size, and how often. A size of 0 is a body of 1 MiB by length, and others are such a body in chunks of that size.
+//! Its arguments are a size and the number of rounds. With size 0 the body has 1 MiB and a length;
+//! with another size it is the same body in chunks of that size.
 #![tactic(auto)]
 
 ghost use Rattle.std.specs.Prelude.{◌<◌};
@@ -29,7 +30,7 @@ fn main(rt: HostRuntime) -> Result<()> {
     }
 }
 
-// A body, and how it is framed.
+// A body and its framing.
 #[derive(Drop)]
 struct Body {
     bytes: Vec<u8>,
@@ -58,7 +59,7 @@ fn body_of(alloc: Global, size: usize) -> Result<Body, AllocError> {
     })
 }
 
-// How many bytes were given in all.
+// Codes the body this many times, and returns the number of bytes written.
 fn run(alloc: Global, body: &Body, times: u32) -> Result<u64, AllocError> {
     let mut out = Outbox::new(alloc)?;
     let mut given = 0u64;
@@ -71,7 +72,7 @@ fn run(alloc: Global, body: &Body, times: u32) -> Result<u64, AllocError> {
     Ok(given)
 }
 
-// Feeds all of it; what is given is sent as soon as it is there.
+// Codes the whole body once, and counts its output as sent at once.
 fn pass(coding: &mut Coding, input: &[u8], out: &mut Outbox) -> u64 {
     let mut rest = input;
     let mut given = 0u64;

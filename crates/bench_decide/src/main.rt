@@ -1,6 +1,6 @@
-//! What `bench/decide.sh` times: of a configuration and a head, so many wishes or so many views.
+//! The program that `bench/decide.sh` times: it decides or parses one head again and again.
 //!
-//! Its words are `decide` or `view`, how often, and the files of the configuration and of the head.
+//! Its arguments are `decide` or `view`, the number of rounds, and the files of the configuration and of the head.
 #![tactic(auto)]
 
 use anyhow::{Context, Result, bail};
@@ -46,12 +46,12 @@ fn sum_of(
 fn decisions(alloc: Global, configuration: &[u8], head: &[u8], times: u32) -> Result<usize> {
     let config = read(alloc, configuration)?;
     let sum = pins(alloc, &config, head, times);
-    // A call of it is proved faster than the drops of all parts of a configuration.
+    // A call is proved faster than the drops of all parts of a configuration.
     drop(config);
     sum
 }
 
-// The sums have no carries: each decision and each view counts.
+// Combines the answers by exclusive or, which can't overflow, so that each decision and each view counts.
 fn pins(alloc: Global, config: &Config, head: &[u8], times: u32) -> Result<usize> {
     let head = whole(alloc, head)?;
     let mut pins = 0;

@@ -1,7 +1,9 @@
-//! What `bench/desk.sh` times: requests that go through one desk.
+//! The program that `bench/desk.sh` times: requests pass through one desk.
 //!
-//! Its words are how many threads, which is 1 or 4, how many places and how many requests. Each thread keeps its part of the places taken; of its requests
-//! it takes the pass of the oldest once it is offered, posts it, turns, and lets another arrive. Half of the places may be served at once.
+//! Its arguments are the number of threads, which is 1 or 4, of places and of requests. Each thread
+//! keeps its share of the places occupied: it takes the oldest request's pass once it is offered,
+//! posts it, makes a turn, and lets the next request arrive. Half of the places may be served at
+//! once.
 #![tactic(auto)]
 
 ghost use Rattle.std.specs.Prelude.{◌≡◌, ◌<◌, ◌∷◌, [], length, true, None, IfOk};
@@ -29,14 +31,14 @@ use std::sync::Wait;
 use std::thread::{Threads, join, yield_now};
 use verdict::Ending;
 
-/// How many requests a thread keeps, of how many that it serves.
+/// A thread's share: how many requests it keeps at once, and how many it serves in all.
 #[derive(Clone, Copy)]
 struct Share {
     live: usize,
     requests: u64,
 }
 
-/// What the words of the command line ask for.
+/// The arguments of the program.
 #[derive(Clone, Copy)]
 struct Asked {
     threads: u32,
@@ -44,7 +46,7 @@ struct Asked {
     requests: u64,
 }
 
-/// A dispatcher that has done nothing, and the board that was opened for its places and limits.
+/// A fresh dispatcher and the board for its places and limits.
 #[derive(Drop)]
 struct Opened {
     core: Core<Queues>,
@@ -67,7 +69,7 @@ fn main(rt: HostRuntime) -> Result<()> {
     Ok(())
 }
 
-// How many requests were served by all threads.
+// Serves the requests with all threads, and returns how many were served.
 fn serve_all<R: AllocGlobal + Threads + Wait + Sync>(rt: &R, asked: Asked) -> Result<u64> {
     let share = Share {
         live: asked.places,
@@ -78,7 +80,7 @@ fn serve_all<R: AllocGlobal + Threads + Wait + Sync>(rt: &R, asked: Asked) -> Re
         1 => Ok(one::<Brand, _>(rt, rt.alloc(), opened, share)),
         4 => Ok(four::<Brand, _>(rt, rt.alloc(), opened, share)),
         _ => {
-            // A call of it is proved faster than the drops of all parts of a dispatcher.
+            // A call is proved faster than the drops of all parts of a dispatcher.
             drop(opened);
             bail!("1 or 4 threads")
         }
@@ -96,7 +98,7 @@ fn read(words: &[String]) -> Result<Asked> {
     })
 }
 
-// One server that serves half as many at once as there are places.
+// Opens a dispatcher with one server that serves half as many requests at once as there are places.
 fn open(alloc: Global, places: usize) -> Result<Opened> {
     let limit = u32::try_from(places / 2).context("how many places")?;
     let setup = setup_of(alloc, places, limit)?;
@@ -114,7 +116,7 @@ fn open(alloc: Global, places: usize) -> Result<Opened> {
     })
 }
 
-// One server that serves so many at once, without a timeout in queues.
+// One server with this limit, without a timeout in queues.
 fn setup_of(alloc: Global, places: usize, limit: u32) -> Result<Setup>
     ensures servers { IfOk result (λ setup. setup.servers ≡ record { limit = limit; maxqueue = 0; weight = 1; rise_fall = None } ∷ []) }
     ensures places { IfOk result (λ setup. setup.places ≡ places) }
@@ -151,7 +153,7 @@ fn start<N: BoardName>(opened: Opened) -> (Desk<N>, RelaySeat)
     (Desk::new(core, board, seat, running), relay)
 }
 
-// How many requests were served by one thread.
+// Serves the requests with one thread, and returns how many were served.
 fn one<N: BoardName, R: Wait>(rt: &R, alloc: Global, opened: Opened, share: Share) -> u64
     requires named { opened.board ≡ N.board }
     requires terms { N.terms ≡ terms_of opened.core.setup }
@@ -160,7 +162,7 @@ fn one<N: BoardName, R: Wait>(rt: &R, alloc: Global, opened: Opened, share: Shar
     serve(rt, alloc, &desk, relay, share)
 }
 
-// The same by four, each with a fourth of all.
+// Serves the requests with four threads, a quarter each.
 fn four<N: BoardName + Send + Sync, R: Threads + Wait + Sync>(
     rt: &R,
     alloc: Global,
@@ -179,7 +181,7 @@ fn four<N: BoardName + Send + Sync, R: Threads + Wait + Sync>(
     pairs(rt, alloc, &desk, seats, share)
 }
 
-// The seats of four threads, two by two.
+// The seats of four threads, in two pairs.
 fn split(board: &Board, first: RelaySeat) -> ((RelaySeat, RelaySeat), (RelaySeat, RelaySeat))
     requires same_board { first.board ≡ board.now }
     requires first { first.view.first ≡ true }
@@ -243,7 +245,7 @@ fn two<N: BoardName + Send + Sync, R: Threads + Wait + Sync>(
     some.saturating_add(others)
 }
 
-// A thread's requests: the oldest is served, and another one comes in its place.
+// Serves a thread's share: the oldest request is served, and another one arrives in its place.
 fn serve<N: BoardName, R: Wait>(
     rt: &R,
     alloc: Global,
@@ -285,7 +287,7 @@ fn serve<N: BoardName, R: Wait>(
     served
 }
 
-/// A place of the board's, and its request's ticket.
+/// A place of the board and its request's ticket.
 #[derive(Drop)]
 struct Stands<N: BoardName> {
     it: Ticketed,
@@ -293,7 +295,7 @@ struct Stands<N: BoardName> {
     ghost in_range: { it.place < N.terms.places },
 }
 
-// A request arrives. Where the log is full, a new window begins first.
+// Lets a request arrive. Where the log is full, a new window begins first.
 fn arrive<N: BoardName, R: Wait>(
     rt: &R,
     alloc: Global,
@@ -329,7 +331,7 @@ fn admit<N: BoardName, R: Wait>(
     })
 }
 
-// The request's pass is taken and posted, where it is offered.
+// Takes and posts the request's pass where it is offered. Says whether it was.
 fn take<N: BoardName>(desk: &Desk<N>, relay: &mut RelaySeat, stands: &Stands<N>) -> bool
     requires named { relay.old.board ≡ N.board }
     requires terms { relay.old.view.terms ≡ N.terms }

@@ -1,7 +1,8 @@
-//! What `bench/exchanges.py` compares with a model of its own: exchanges on streams that do what a script says.
+//! The program whose output `bench/exchanges.py` compares with a model of its own: exchanges on
+//! streams that follow a script.
 //!
-//! It reads scripts from standard input and prints what came of each. A script begins with a line `exchange` and its terms, each further line is a move, and a
-//! line `end` ends it.
+//! It reads scripts from standard input and prints the outcome of each. A script begins with a line
+//! `exchange` and its terms, each further line is a move, and a line `end` ends it.
 #![tactic(auto)]
 
 mod playing;
@@ -53,7 +54,7 @@ fn play_all<W: Write>(alloc: Global, input: &[u8], output: &mut W) -> Result<()>
     Ok(())
 }
 
-// What comes of a script.
+// Plays a script and prints its outcome.
 fn print<W: Write>(alloc: Global, script: Script, output: &mut W) -> Result<()> {
     let record = played(alloc, script)?;
     let mut text = Vec::new(alloc);

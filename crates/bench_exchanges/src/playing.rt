@@ -1,4 +1,4 @@
-//! A client's connection, as a loop of `run` serves it: by the same calls, on streams that do what a script says.
+//! A client's connection, served by the same calls as in a loop of `run`, on streams that follow a script.
 ghost use Rattle.std.specs.Prelude.{◌≡◌, ◌<◌, length};
 
 use crate::record::Record;
@@ -16,40 +16,40 @@ use std::net::{IpAddr, Ipv4Addr};
 use std::rc::Rc;
 use std::sync::ledger::Ledger;
 
-/// A connection.
+/// A connection of the script.
 type Wire = Duplex<Source, Sink>;
 
-/// So many turns a driver takes at once.
+/// The most turns of a driver at once.
 const TURNS: u32 = 4;
 
-/// So often an exchange is driven at a moment, at most.
+/// The most times that an exchange is driven at one moment.
 const MOST: u32 = 1 << 20;
 
-/// So often a connection is opened in place of one that broke before a byte reached the server.
+/// The most connections that are opened in place of ones that broke before the server got a byte.
 const MOST_REDIALS: u32 = 1;
 
-/// A client's connection, beside its exchange.
+/// The state of a client's connection beside its exchange.
 #[derive(Drop)]
 pub(crate) struct Play {
     pub(crate) settings: Settings,
     past: Rc<Past>,
     client: Line<Wire>,
     server: Line<Wire>,
-    /// Its client sends no more.
+    /// The client sends no more.
     pub(crate) ended: bool,
     redials: u32,
-    /// So often in a row there was nothing to do.
+    /// The number of times in a row that there was nothing to do.
     quiet: u32,
     pub(crate) record: Record,
 }
 
-/// How far an exchange came.
+/// The state of an exchange after a move.
 pub(crate) enum Then<N: BoardName + Ledger> {
     /// There may be more to do.
     Goes(Seated<N>),
-    /// There is nothing to do before something happens.
+    /// There is nothing to do until something happens.
     Rests(Seated<N>),
-    /// It waits for a pass.
+    /// The exchange waits for a pass.
     Waits(Queued),
     Over,
 }
@@ -75,7 +75,8 @@ impl Play {
         })
     }
 
-    /// The next move happens, and those that come in one with it: their places. None: there is none.
+    /// Makes the next move, with all those that happen together with it, and returns their places
+    /// in the script; `None` at its end.
     pub(crate) fn advance(&mut self) -> Option<(usize, usize)> {
         let first = self.past.count.get();
         self.past.told_at(first)?;
@@ -85,20 +86,20 @@ impl Play {
         Some((first, last))
     }
 
-    /// The next move alone.
+    /// Makes the next move alone.
     pub(crate) fn advance_alone(&mut self) -> Option<Told> {
         let place = self.past.count.get();
         self.past.count.set(place.saturating_add(1));
         self.past.told_at(place)
     }
 
-    /// Another pass is there.
+    /// Begins to count for another pass.
     pub(crate) fn begin_pass(&mut self) {
         self.redials = 0;
         self.quiet = 0;
     }
 
-    // The server's connection is given up.
+    // Closes the server's connection.
     fn close_server(&mut self) {
         let server = std::mem::replace(&mut self.server, Line::without_socket(self.settings.alloc));
         if let Some(wire) = server.into_socket() {
@@ -106,7 +107,7 @@ impl Play {
         }
     }
 
-    /// The connection is over: what came of it.
+    /// Ends the connection, and returns its record.
     pub(crate) fn finish(self) -> Record {
         let mut play = self;
         play.close_server();
@@ -139,7 +140,7 @@ impl Play {
         }
     }
 
-    // A connection to a server, which does what happens from a place on.
+    // Opens a connection to a server, which follows the script from this place on.
     fn open_server(&mut self, place: usize) {
         let alloc = self.settings.alloc;
         match wire(alloc, &self.past, Side::Server, place) {
@@ -155,7 +156,7 @@ fn wire(alloc: Global, past: &Rc<Past>, side: Side, place: usize) -> Result<Wire
     Ok(Duplex::new(source, sink))
 }
 
-/// Goes on until there is nothing to do.
+/// Drives the exchange until there is nothing to do.
 pub(crate) fn go<N: BoardName + Ledger>(
     play: &mut Play,
     site: &mut Site<'_, N>,
@@ -219,7 +220,7 @@ fn end_or_ask_again<N: BoardName + Ledger>(
     }
 }
 
-/// An exchange is over, however far it is: its pass goes back.
+/// Ends the exchange at any stage: its pass is posted.
 pub(crate) fn end<N: BoardName + Ledger>(
     play: &mut Play,
     site: &mut Site<'_, N>,
@@ -232,7 +233,7 @@ pub(crate) fn end<N: BoardName + Ledger>(
     play.close_server();
 }
 
-// Both streams are told of once more, and read and written.
+// Reports both streams as ready once more, and drives the exchange.
 fn serve<N: BoardName + Ledger>(
     play: &mut Play,
     site: &mut Site<'_, N>,
@@ -250,7 +251,7 @@ fn serve<N: BoardName + Ledger>(
     settle(play, site, served)
 }
 
-/// It is told something.
+/// Reports an event to the exchange.
 pub(crate) fn tell<N: BoardName + Ledger>(
     play: &mut Play,
     site: &mut Site<'_, N>,
@@ -313,7 +314,7 @@ fn spent(moved: Option<Moved>) -> bool {
     }
 }
 
-// A pass goes back.
+// Posts the pass.
 fn part<N: BoardName + Ledger>(
     play: &mut Play,
     site: &mut Site<'_, N>,
@@ -328,7 +329,7 @@ fn part<N: BoardName + Ledger>(
     Then::Goes(seated)
 }
 
-// Another connection takes the place of one that broke, once.
+// Opens another connection in place of one that broke, once.
 fn redial<N: BoardName + Ledger>(
     play: &mut Play,
     site: &mut Site<'_, N>,
@@ -352,7 +353,7 @@ fn redial<N: BoardName + Ledger>(
     }
 }
 
-/// Something happens to an exchange that doesn't wait for a pass.
+/// Reports an event to an exchange that doesn't wait for a pass.
 pub(crate) fn hear<N: BoardName + Ledger>(
     play: &mut Play,
     site: &mut Site<'_, N>,
@@ -380,7 +381,7 @@ pub(crate) fn hear<N: BoardName + Ledger>(
     }
 }
 
-/// What its stage is called.
+/// The name of a stage in the output.
 pub(crate) fn name_of(stage: Stage) -> &'static str {
     match stage {
         Stage::Asking => "asking",

@@ -1,21 +1,21 @@
-//! What came of a client's connection, as lines.
+//! The outcome of a client's connection, as lines of text.
 
 use crate::texts::add_encoded;
 use std::alloc::{AllocError, Global};
 use verdict::Ending;
 
-/// What both sides got, and how the passes went out.
+/// What both sides got, and the verdicts of the passes.
 #[derive(Drop)]
 pub(crate) struct Record {
     pub(crate) told: Vec<u8>,
-    /// A line for each connection to a server, in order.
+    /// The bytes that the servers got: a line for each connection, in order.
     pub(crate) sent: Vec<u8>,
     pub(crate) endings: Vec<Ending>,
-    /// So many answers were whole.
+    /// The number of whole answers.
     pub(crate) answers: u64,
-    /// Where its last exchange is.
+    /// The stage of its last exchange.
     pub(crate) stage: &'static str,
-    /// There was no memory for it.
+    /// Memory was refused.
     pub(crate) short: bool,
 }
 
@@ -31,21 +31,21 @@ impl Record {
         }
     }
 
-    /// What a connection's server was sent.
+    /// Adds the bytes that a connection's server got.
     pub(crate) fn note_sent(&mut self, bytes: &[u8]) {
         if add_line(&mut self.sent, b"sent", bytes).is_err() {
             self.short = true;
         }
     }
 
-    /// How a pass went out.
+    /// Adds the verdict of a pass.
     pub(crate) fn note_ending(&mut self, ending: Ending) {
         if self.endings.push(ending).is_err() {
             self.short = true;
         }
     }
 
-    /// Puts its lines at the end.
+    /// Appends the record's lines to the text.
     pub(crate) fn add_to(&self, alloc: Global, text: &mut Vec<u8>) -> Result<(), AllocError> {
         if self.short {
             return Err(AllocError);

@@ -1,59 +1,59 @@
-//! What happens to a client's connection, line by line.
+//! The events of a client's connection, one a line.
 
 use crate::texts::decoded;
 use proxy_words::{Words, long_number};
 use std::alloc::{AllocError, Global};
 
-/// What happens next.
+/// An event of the script.
 #[derive(Drop)]
 pub(crate) enum Move {
-    /// The client sends this piece, which one read gives.
+    /// The client sends these bytes, which one read returns.
     Client(Vec<u8>),
     ClientEnd,
     ClientReset,
-    /// The client takes so many bytes more, and then none.
+    /// The client takes this number of bytes more, and then none.
     ClientTakes(u64),
-    /// The server sends this piece.
+    /// The server sends these bytes.
     Server(Vec<u8>),
     ServerEnd,
     ServerReset,
-    /// The server takes no byte any more, and may still send.
+    /// The server takes no more bytes, and may still send.
     ServerDeaf,
     ServerTakes(u64),
-    /// Who waits gets a pass.
+    /// The exchange that waits gets a pass.
     Grant,
-    /// Who waits gets none.
+    /// The exchange that waits is refused.
     Unserved,
-    /// The server is reached, on a connection that is new or was used before.
+    /// The server is reached, on a new connection or a used one.
     Connected { fresh: bool },
     Unreachable,
-    /// The time that runs is over.
+    /// The timeout that runs expires.
     Late,
 }
 
-/// A move, and whether it comes in one with the one before it.
+/// A move, and whether it happens together with the one before it.
 #[derive(Drop)]
 pub(crate) struct Step {
     pub(crate) what: Move,
     pub(crate) together: bool,
 }
 
-/// What the connection's exchanges are served with.
+/// The terms of service of the connection's exchanges.
 #[derive(Clone, Copy)]
 pub(crate) struct Terms {
-    /// Clients may ask again.
+    /// Clients may send several requests.
     pub(crate) keeps: bool,
     /// `option abortonclose`.
     pub(crate) aborts: bool,
-    /// Servers are asked to keep their connections.
+    /// Servers are asked to keep their connections open.
     pub(crate) asks: bool,
-    /// Servers are told the client's address.
+    /// Servers are told the client's address (`option forwardfor`).
     pub(crate) names: bool,
-    /// So many bytes are taken by one write at most.
+    /// The most bytes that one write takes.
     pub(crate) piece: usize,
 }
 
-/// What happens to a client's connection.
+/// The events of a client's connection.
 #[derive(Drop)]
 pub(crate) struct Script {
     pub(crate) terms: Terms,
@@ -61,7 +61,7 @@ pub(crate) struct Script {
 }
 
 impl Script {
-    /// Of which nothing is said yet.
+    /// Makes an empty script.
     pub(crate) fn new(alloc: Global) -> Script {
         Script {
             terms: Terms {
@@ -75,7 +75,7 @@ impl Script {
         }
     }
 
-    /// The place behind those moves that come in one with the one at a place.
+    /// Returns the place after the moves that happen together with the one at `place`.
     pub(crate) fn end_of(&self, place: usize) -> usize {
         let mut last = place.saturating_add(1);
         for next in last..self.steps.len() {
@@ -87,7 +87,7 @@ impl Script {
         last
     }
 
-    /// The connection's terms: a line's words behind `exchange`.
+    /// Sets the connection's terms, from a line's words after `exchange`.
     pub(crate) fn set_terms(&mut self, words: Words<'_>) -> bool {
         for word in words {
             match word {
@@ -104,7 +104,7 @@ impl Script {
         true
     }
 
-    /// A further step, by its line. Whether that says one.
+    /// Adds a step by its line. Says whether the line is one.
     pub(crate) fn add(&mut self, alloc: Global, line: &[u8]) -> Result<bool, AllocError> {
         let mut words = Words::new(line);
         let mut name = words.next();

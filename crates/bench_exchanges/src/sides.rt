@@ -1,4 +1,4 @@
-//! Both ends of a connection, which do what a script says up to a moment.
+//! Both ends of a connection, which follow the script up to a moment.
 ghost use Rattle.std.specs.Prelude.{◌≡◌, ◌≤◌, length, IfOk};
 
 use crate::script::{Move, Script};
@@ -8,14 +8,14 @@ use std::io;
 use std::io::{Error, ErrorKind, Read, Write};
 use std::rc::Rc;
 
-/// Of whom a stream is.
+/// The side that a stream belongs to.
 #[derive(Clone, Copy, Debug, PartialEq, Eq)]
 pub(crate) enum Side {
     Client,
     Server,
 }
 
-/// What happens, and how much of it has.
+/// The script, and how much of it has happened.
 #[derive(Drop)]
 pub(crate) struct Past {
     pub(crate) script: Script,
@@ -37,7 +37,7 @@ impl Past {
         }
     }
 
-    /// What is told at a place, if anything happens there.
+    /// Returns what the exchange is told of the move at a place; `None` where it hasn't happened.
     pub(crate) fn told_at(&self, place: usize) -> Option<Told> {
         match self.move_at(place) {
             Some(what) => Some(told_of(what)),
@@ -45,7 +45,7 @@ impl Past {
         }
     }
 
-    // What happened at a place, if it did.
+    // Returns the move at a place; `None` where it hasn't happened.
     fn at(&self, place: usize) -> Option<&Move> {
         if place < self.count.get() {
             self.move_at(place)
@@ -59,15 +59,15 @@ impl Past {
     }
 }
 
-/// What a move is to who serves a connection.
+/// What the exchange is told of a move.
 #[derive(Clone, Copy, Debug, PartialEq, Eq)]
 pub(crate) enum Told {
     Nothing,
     Granted,
     Unserved,
-    /// The client has gone.
+    /// The client has left.
     Gone,
-    /// It sends no more.
+    /// The client sends no more.
     Ended,
     Connected { fresh: bool },
     Unreachable,
@@ -87,7 +87,7 @@ fn told_of(what: &Move) -> Told {
     }
 }
 
-// What a move is to who reads of a side.
+// What a move means for a reader of one side.
 enum Comes<'a> {
     Bytes(&'a [u8]),
     End,
@@ -106,18 +106,18 @@ fn coming(side: Side, what: &Move) -> Comes<'_> {
     }
 }
 
-/// What a side sends. A read gives one piece of it at most.
+/// The source of a side's bytes. A read returns one piece at most.
 #[derive(Drop)]
 pub(crate) struct Source {
     past: Rc<Past>,
     side: Side,
-    /// The move that is read next, and how much of it was.
+    /// The next move that is read, and how much of it has been.
     next: usize,
     given: usize,
 }
 
 impl Source {
-    /// Of what happens from a place on.
+    /// Reads what happens from this place on.
     pub(crate) fn new(past: Rc<Past>, side: Side, place: usize) -> Source {
         Source {
             past,
@@ -156,13 +156,13 @@ impl Read for Source {
     }
 }
 
-/// What a side took. It takes a piece at a time, and no more before it is told of again.
+/// The bytes that a side took. It takes one piece at a time, and no more until it is reported as ready again.
 #[derive(Drop)]
 pub(crate) struct Sink {
     past: Rc<Past>,
     side: Side,
     next: usize,
-    /// So many bytes more are taken.
+    /// The number of bytes that it still takes.
     left: u64,
     piece: usize,
     rests: bool,
@@ -171,7 +171,7 @@ pub(crate) struct Sink {
 }
 
 impl Sink {
-    /// Of what happens from a place on.
+    /// Takes what the moves from this place on allow.
     pub(crate) fn new(alloc: Global, past: Rc<Past>, side: Side, place: usize) -> Sink {
         let piece = past.script.terms.piece;
         Sink {
@@ -186,7 +186,7 @@ impl Sink {
         }
     }
 
-    // What happened meanwhile.
+    // Applies the moves since the last call.
     fn catch_up(&mut self) {
         for _ in 0..self.past.len() {
             let Some(what) = self.past.at(self.next) else {

@@ -1,4 +1,4 @@
-//! Where a pass is had: a board with one place, and the seat that is lent there.
+//! The source of passes: a board with one place, and the seat that is lent there.
 
 ghost use Rattle.std.specs.Prelude.{◌≡◌, ◌<◌, ◌≤◌, [], IfSome};
 ghost use Rattle.relay_http.specs.States.{Serves};
@@ -21,7 +21,7 @@ pub(crate) struct Site<'a, N: BoardName + Ledger> {
 }
 
 impl<'a, N: BoardName + Ledger> Site<'a, N> {
-    /// With one seat.
+    /// Opens a board with one seat.
     pub(crate) fn open(
         alloc: Global,
         board: &'a Board,
@@ -40,7 +40,7 @@ impl<'a, N: BoardName + Ledger> Site<'a, N> {
         })
     }
 
-    /// The pass of the place's first ticket, where it is offered and is one of a server's slot.
+    /// Takes the pass of the place's first ticket, where it is offered and is for a server's slot.
     pub(crate) fn take(&mut self) -> Option<Taken<N>>
         ensures { IfSome result (λ taken. Serves taken.held.pass.verdict) }
     {
@@ -61,7 +61,7 @@ impl<'a, N: BoardName + Ledger> Site<'a, N> {
         }
     }
 
-    /// A pass goes back.
+    /// Posts a pass.
     pub(crate) fn post(&mut self, posting: Posting<N>) {
         let lent = posting.post(self.board);
         self.seats.give_back(lent);

@@ -1,10 +1,10 @@
-//! Bytes as words of a line: a byte that isn't printed, a blank and `%` are `%` and two digits.
+//! Bytes as words of a line: `%` and two digits stand for `%`, for a blank and for a byte that isn't printed.
 
 ghost use Rattle.std.specs.Prelude.{◌<◌};
 
 use std::alloc::{AllocError, Global};
 
-/// The bytes that a word stands for.
+/// Returns the bytes that a word stands for.
 pub(crate) fn decoded(alloc: Global, word: &[u8]) -> Result<Vec<u8>, AllocError> {
     let mut bytes = Vec::new(alloc);
     let mut rest = word;
@@ -36,7 +36,7 @@ fn digit(byte: u8) -> u8
 
 const DIGITS: [u8; 16] = *b"0123456789abcdef";
 
-/// Puts the word for these bytes at the end.
+/// Appends the word for these bytes.
 pub(crate) fn add_encoded(text: &mut Vec<u8>, bytes: &[u8]) -> Result<(), AllocError> {
     for byte in bytes {
         if byte.is_ascii_graphic() && *byte != b'%' {

@@ -1,4 +1,4 @@
-//! A client's connection from pass to pass: each has a board of its own, with one place.
+//! A client's connection from pass to pass: each pass has a board of its own, with one place.
 ghost use Rattle.std.specs.Prelude.{◌≡◌, ◌<◌, ◌≤◌, []};
 
 use crate::playing::{Play, Then, end, go, hear, name_of, tell};
@@ -13,18 +13,18 @@ use std::marker::Brand;
 use std::sync::ledger::{Blank, Ledger};
 use verdict::Verdict;
 
-/// How an exchange goes on.
+/// How the next visit begins.
 #[derive(Drop)]
 enum Entry {
-    /// A client comes.
+    /// A client connects.
     Comes,
-    /// A pass is there for who waits.
+    /// The exchange that waited gets its pass.
     Granted(Queued),
-    /// None comes.
+    /// The exchange that waited is refused.
     Refused(Queued),
 }
 
-/// What came of a client's connection.
+/// Plays a script, and returns the record of the client's connection.
 pub(crate) fn played(alloc: Global, script: Script) -> Result<Record, AllocError> {
     let most = script.steps.len();
     let mut play = Play::new(alloc, script)?;
@@ -41,7 +41,7 @@ pub(crate) fn played(alloc: Global, script: Script) -> Result<Record, AllocError
     Ok(play.finish())
 }
 
-// What happens to who waits. None: its client leaves, or nothing more happens.
+// Returns how the exchange that waits goes on; `None` where its client leaves, or the script ends.
 fn verdict_of(play: &mut Play, queued: Queued) -> Option<Entry> {
     for _ in 0..u32::MAX {
         if play.ended && play.settings.rules.aborts {
@@ -62,7 +62,7 @@ fn verdict_of(play: &mut Play, queued: Queued) -> Option<Entry> {
     None
 }
 
-// Goes on with an exchange until it waits for a pass, or is over.
+// Drives an exchange until it waits for a pass or is over.
 fn visit(alloc: Global, play: &mut Play, entry: Entry) -> Result<Option<Queued>, AllocError> {
     let (board, keeper, relay) = Board::open(alloc, 1, &[1])?;
     let mut keeper = keeper;
@@ -107,7 +107,7 @@ fn enter<N: BoardName + Ledger>(
     Ok(attend(play, site, then))
 }
 
-// What happens, one move after the other.
+// Makes the script's moves, one after the other.
 fn attend<N: BoardName + Ledger>(
     play: &mut Play,
     site: &mut Site<'_, N>,
@@ -144,7 +144,7 @@ fn hear_all<N: BoardName + Ledger>(
     then
 }
 
-// Nothing more happens to it here.
+// Ends an exchange at the script's end.
 fn stop<N: BoardName + Ledger>(
     play: &mut Play,
     site: &mut Site<'_, N>,

@@ -1,7 +1,7 @@
-//! What `bench/relay.sh` times: a message that is handed on from one address to another.
+//! The program that `bench/relay.sh` times: it hands a message on from one address to another.
 //!
-//! Its words are `forward` or `answer`, and two addresses to connect to; without these a small message is handed on from
-//! memory to memory.
+//! Its arguments are `forward` or `answer` and two addresses to connect to; without the addresses
+//! it hands a small message on from memory to memory.
 #![tactic(auto)]
 
 ghost use Rattle.std.specs.Prelude.{◌≡◌, OnOk};
@@ -37,7 +37,7 @@ fn hand_on_as(rt: &HostRuntime, words: &[String]) -> Result<()> {
     Ok(())
 }
 
-// How many bytes were written, from memory to memory.
+// Hands a message on in memory, and returns the number of bytes written.
 fn in_memory(alloc: Global, what: &str) -> Result<usize> {
     let mut message = if what == "forward" { REQUEST } else { ANSWER };
     let mut written = Vec::new(alloc);
@@ -51,7 +51,7 @@ fn between(rt: &HostRuntime, what: &str, from: &str, to: &str) -> Result<()> {
     hand_on(rt.alloc(), what, &mut reader, &mut writer)
 }
 
-// Hands a message on, on a pass that is posted then.
+// Hands a message on under a pass, and posts it.
 fn hand_on<R: Read, W: Write>(
     alloc: Global,
     what: &str,
@@ -103,7 +103,7 @@ fn answer<R: Read, W: Write>(
     Ok(())
 }
 
-// Hands a small request on, as far as memory.
+// Hands a small request on into memory.
 fn ask(alloc: Global, pass: &Pass, exchange: &mut Exchange) -> Result<View>
     requires new { IsAt Stage.New exchange.old }
     requires serves { Serves pass.now.verdict }

@@ -15,22 +15,23 @@ items (Of' box pair order child next) = pair ∷ (items child ++ items next)
 abbrev pub tree_items : {K V : Type 0} → Node K V → List (K × V)
 tree_items root = root.pair ∷ items root.child
 
--- how many trees stand in a row
+-- the number of trees of a row
 abbrev pub trees : {K V : Type 0} → Forest K V → ℕ
 trees Empty = 0
 trees (Of' box pair order child next) = trees next + 1
 
--- how many nodes the longest walk passes that goes on by a child or a next tree each time
+-- the number of nodes on the longest walk that goes to a child or to the next tree at each step
 abbrev pub depth : {K V : Type 0} → Forest K V → ℕ
 depth Empty = 0
 depth (Of' box pair order child next) = max (depth child) (depth next) + 1
 
--- the pair at the root of an order
+-- the pair at the root of this order
 abbrev pub root_of : {K V : Type 0} → ℕ → Forest K V → Option (K × V)
 root_of n Empty = None
 root_of n (Of' box pair order child next) = if nat_eq order n then Some pair else root_of n next
 
--- what stands below a root of order n that has this key: a tree of each smaller order, the greatest first, with no key below its root's
+-- the trees below a root of order n with this key: one of each smaller order, the greatest first,
+-- with no key below the root's
 abbrev pub AreChildren : {K V : Type 0} → (K → K → Ordering) → K → ℕ → Forest K V → Type 0
 AreChildren cmp key zero Empty = Unit {0}
 AreChildren cmp key zero (Of' box pair order child next) = ⊥
@@ -38,7 +39,7 @@ AreChildren cmp key (suc n) Empty = ⊥
 AreChildren cmp key (suc n) (Of' box pair order child next) =
     (order ≡ n) × (cmp key pair.0 ≢ Greater) × AreChildren cmp pair.0 n child × AreChildren cmp key n next
 
--- a root with what belongs below it, and no tree after it
+-- a root with its trees below it, and no tree after it
 pub record IsTree {K V : Type 0} (cmp : K → K → Ordering) (root : Node K V) : Type 0 where
   pub children : AreChildren cmp root.pair.0 root.order root.child
   pub alone : root.next ≡ Empty
@@ -48,14 +49,16 @@ abbrev pub AreRoots : {K V : Type 0} → (K → K → Ordering) → ℕ → Fore
 AreRoots cmp n Empty = Unit {0}
 AreRoots cmp n (Of' box pair order child next) = (n ≤ order) × AreChildren cmp pair.0 order child × AreRoots cmp (suc order) next
 
--- A tree that was taken out of a row, and what the row is without it. What is below its root fits there, if not below the root's own key.
+-- One tree is taken out of a row; `new` is the rest of the row. The trees below its root fit there
+-- with any key that isn't above the root's own.
 pub record IsTakenOut {K V : Type 0} (cmp : K → K → Ordering) (old new : Forest K V) (root : Node K V) : Type 0 where
   pub below : (key : K) × AreChildren cmp key root.order root.child
   pub alone : root.next ≡ Empty
   pub rest : (n : ℕ) → AreRoots cmp n old → AreRoots cmp n new
   pub pairs : IsPermutation (items old) (tree_items root ++ items new)
 
--- The pair of a key came to a root from the root itself or from below it. The pairs are the same, and what is below the root fits where it was.
+-- The pair with the key is exchanged with the root's pair, or is already there. The pairs are the
+-- same, and the trees below the root fit where they were.
 pub record IsRaised {K V : Type 0} (cmp : K → K → Ordering) (key : K) (above : K × V) (below : Forest K V) (raised : K × V) (left : Forest K V) : Type 0 where
   pub has_key : cmp raised.0 key ≡ Equal
   pub fits : (n : ℕ) → AreChildren cmp above.0 n below → AreChildren cmp above.0 n left

@@ -13,11 +13,11 @@ use std::alloc::{AllocError, AllocFailed, Global};
 use std::marker::Model;
 use std::mem;
 
-/// A queue as a row of binomial trees: heap-ordered, of rising orders, one for each one among the binary digits of the
-/// length.
+/// A queue as a row of binomial trees: heap-ordered, of rising orders, one for each 1 among the
+/// binary digits of the length.
 ///
-/// Adding, removing and merging take no memory, and free none but with the nodes that they hand out. They are recursive, no
-/// deeper than twice the binary digits of the length.
+/// Adding, removing and merging allocate nothing, and free only the nodes that they return. They
+/// recurse no deeper than twice the number of binary digits of the length.
 #[derive(Drop)]
 pub struct BinomQueue<K: Ord, V> {
     roots: Forest<K, V>,
@@ -37,8 +37,9 @@ impl<K: Ord, V> Model for BinomQueue<K, V> {
 }
 
 impl<K: Ord + Drop, V: Drop> BinomQueue<K, V> {
-    /// Moves all pairs of `other` over as [`merge`](PendQueue::merge) does, and answers how often it linked two trees for
-    /// that: once for each carry where the two lengths are added in binary. `O(log n)` for `n` pairs in both.
+    /// Moves all pairs of `other` over as [`merge`](PendQueue::merge) does, and returns the number
+    /// of times that it linked two trees: one for each carry in the binary addition of the two
+    /// lengths. `O(log n)` for `n` pairs in both.
     pub fn merge_counted(&mut self, other: &mut Self) -> u64
         requires room { length self.old.pairs + length other.old.pairs ≤ self.old.room }
         requires apart { HaveNoCommonKey K.cmp self.old.pairs other.old.pairs }
@@ -47,12 +48,12 @@ impl<K: Ord + Drop, V: Drop> BinomQueue<K, V> {
         ensures emptied { other.new.pairs ≡ [] }
         ensures other_room { other.new.room ≡ other.old.room }
 
-        // The ones of both lengths, less those of their sum, and that many links more.
+        // The number of links is the number of 1 digits of both lengths less that of their sum.
         ensures answer { let n = length self.old.pairs in let m = length other.old.pairs in result ≡ count_ones n + count_ones m - count_ones (n + m) }
         ensures links { self.new.links ≡ self.old.links + result }
         ensures other_links { other.new.links ≡ other.old.links }
 
-        // What `pairs` means: the pairs of both, by rising key.
+        // The pairs of both queues, by rising key.
         ensures ascending { IsAscending K.cmp self.new.pairs }
         ensures permutation { IsPermutation (self.old.pairs ++ other.old.pairs) self.new.pairs }
     {
@@ -77,10 +78,10 @@ impl<K: Ord + Drop, V: Drop> PendQueue<K, V> for BinomQueue<K, V> {
 
     ghost links = { λ queue. queue.links };
 
-    // A link for each carry where the two lengths are added in binary.
+    // One link for each carry in the binary addition of the two lengths.
     ghost links_of_merge = { λ held more. count_ones held + count_ones more - count_ones (held + more) };
 
-    /// It takes no memory, and never fails.
+    /// Allocates nothing, and never fails.
     fn with_room(alloc: Global, places: usize) -> Result<Self, AllocError>
         ensures empty { IfOk result (λ queue. queue.pairs ≡ []) }
         ensures room { IfOk result (λ queue. queue.room ≡ places) }
@@ -108,8 +109,9 @@ impl<K: Ord + Drop, V: Drop> PendQueue<K, V> for BinomQueue<K, V> {
         pair
     }
 
-    /// Its type keeps that there is a tree for each one among the binary digits of the length, and that no walk from a root
-    /// on, by children and siblings, is longer than twice those digits.
+    /// By the type's invariant there is one tree for each 1 among the binary digits of the length,
+    /// and no walk from a root, by children and siblings, passes more nodes than twice the number
+    /// of those digits.
     fn len(&self) -> usize
         ensures len { result ≡ length self.now.pairs }
         ensures ascending { IsAscending K.cmp self.now.pairs }
@@ -132,7 +134,7 @@ impl<K: Ord + Drop, V: Drop> PendQueue<K, V> for BinomQueue<K, V> {
         }
     }
 
-    /// `O(1)` on average over the pushes in a row, `O(log n)` at most: a link for each carry of the length.
+    /// `O(1)` on average over consecutive pushes, `O(log n)` at most: one link for each carry of the length.
     fn push(&mut self, node: Single<K, V>) {
         let roots = mem::replace(&mut self.roots, Forest::Empty);
         self.roots = add(roots, node.root, &mut self.links);
@@ -147,7 +149,8 @@ impl<K: Ord + Drop, V: Drop> PendQueue<K, V> for BinomQueue<K, V> {
         Some(part(&mut self.roots, root, &mut self.links))
     }
 
-    /// Looks below a root only where its key is smaller, at all of the `n` pairs at most. Taking the pair out is `O(log n)`.
+    /// Looks below a root only where its key is smaller, so at `n` pairs at most. Taking the pair
+    /// out is `O(log n)`.
     fn remove(&mut self, key: &K) -> Option<Single<K, V>> {
         let root = detach_key(&mut self.roots, key)?;
         self.len -= 1;
@@ -160,7 +163,7 @@ impl<K: Ord + Drop, V: Drop> PendQueue<K, V> for BinomQueue<K, V> {
     }
 }
 
-// Puts the trees below a root that was taken out back.
+// Puts the trees below a root that was taken out back into the row.
 fn part<K: Ord + Drop, V: Drop>(
     roots: &mut Forest<K, V>,
     mut root: Box<Node<K, V>>,

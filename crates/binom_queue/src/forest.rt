@@ -1,11 +1,11 @@
-//! Rows of trees, each a root with its first child and its next tree.
+//! Rows of trees: each is a root with its first child and its next tree.
 ghost use Rattle.std.specs.Prelude.{◌≡◌};
 ghost use Rattle.std.specs.Box.{with_value};
 ghost use Rattle.binom_queue.specs.declared.forest.Forest.TheVariants.{Empty, Of};
 
 use std::mem;
 
-/// Trees in a row: the first one's root, with its children, and the trees after it.
+/// A row of trees: the root of the first one, with its children, and the trees after it.
 #[cycle(forest)]
 #[derive(Drop)]
 pub(crate) enum Forest<K, V> {
@@ -27,7 +27,7 @@ pub(crate) struct Node<K, V> {
     pub(crate) next: Forest<K, V>,
 }
 
-// A root's own tree, and the trees after it.
+// Separates a root's own tree from the trees after it.
 #[inline(always)]
 pub(crate) fn cut<K: Drop, V: Drop>(mut root: Box<Node<K, V>>) -> (Box<Node<K, V>>, Forest<K, V>)
     ensures tree { result.0 ≡ with_value root (record root.value { next = Empty }) }
@@ -37,7 +37,7 @@ pub(crate) fn cut<K: Drop, V: Drop>(mut root: Box<Node<K, V>>) -> (Box<Node<K, V
     (root, rest)
 }
 
-// A tree and the trees after it.
+// Puts a tree before a row of trees.
 #[inline(always)]
 pub(crate) fn before<K: Drop, V: Drop>(
     mut root: Box<Node<K, V>>,

@@ -1,4 +1,5 @@
-//! Trees linked to larger ones. Each recursion goes on to a next tree in each call, so it is no deeper than there are trees.
+//! Trees that are linked to larger ones. Each recursive call goes to the next tree, so the depth is
+//! at most the number of trees.
 ghost use Rattle.std.specs.Prelude.{◌≡◌, ◌≢◌, ℕ, ◌+◌, ◌^◌, ◌<◌, ◌≤◌, ◌∷◌, ◌++◌, length, IsPermutation};
 ghost use Rattle.std.specs.declared.cmp.Ordering.TheVariants.{Greater};
 ghost use Rattle.binom_queue.specs.declared.forest.Forest.TheVariants.{Empty};
@@ -7,7 +8,7 @@ ghost use Rattle.binom_queue.specs.Trees.{items, tree_items, trees, AreChildren,
 use crate::forest::{Forest, Node, before, cut};
 use crate::links::{Links, link};
 
-// Puts a tree before trees of no smaller order.
+// Adds a tree to a row of trees of no smaller order.
 pub(crate) fn add<K: Ord + Drop, V: Drop>(
     roots: Forest<K, V>,
     tree: Box<Node<K, V>>,
@@ -34,7 +35,7 @@ pub(crate) fn add<K: Ord + Drop, V: Drop>(
     }
 }
 
-// The trees of two rows as one row.
+// Merges two rows of trees.
 pub(crate) fn union<K: Ord + Drop, V: Drop>(
     left: Forest<K, V>,
     right: Forest<K, V>,
@@ -68,7 +69,7 @@ pub(crate) fn union<K: Ord + Drop, V: Drop>(
     }
 }
 
-// The children of a root before trees of no smaller orders than its own.
+// Puts the children of a root before a row of trees whose orders aren't smaller than its own.
 pub(crate) fn raised<K: Ord + Drop, V: Drop>(
     children: Forest<K, V>,
     greater: Forest<K, V>,

@@ -1,5 +1,6 @@
-//! Two trees linked to one, and how often a queue did that, as a number for contracts alone. Nothing outside this file
-//! raises the number, and only who has an allocator, so who makes a queue, begins one.
+//! The linking of two trees, and the number of times that a queue did it, which contracts alone
+//! see. Only this file raises the number, and only the holder of an allocator, who makes a queue,
+//! begins one.
 ghost use Rattle.std.specs.Prelude.{◌≡◌, ◌≢◌, ℕ, ◌+◌, ◌<◌, ◌∷◌, ◌++◌, IsPermutation};
 ghost use Rattle.std.specs.Borrow.{ftrue};
 ghost use Rattle.std.specs.declared.cmp.Ordering.TheVariants.{Greater};
@@ -11,7 +12,7 @@ use std::cmp::Ordering;
 use std::marker::Model;
 use std::mem;
 
-/// It takes no memory, and its methods do nothing at run time.
+/// The number of links of a queue. It takes no memory, and its methods do nothing at run time.
 #[derive(Drop)]
 pub(crate) struct Links {
     ghost count: { ℕ },
@@ -22,7 +23,7 @@ impl Model for Links {
 }
 
 impl Links {
-    /// A new queue has linked nothing.
+    /// The number of a new queue, which is 0.
     pub(crate) fn of_new_queue(_alloc: Global) -> Links
         ensures { result.count ≡ 0 }
     {
@@ -43,7 +44,7 @@ impl Links {
     }
 }
 
-// The tree of two trees of one order.
+// Links two trees of one order to one tree.
 pub(crate) fn link<K: Ord + Drop, V: Drop>(
     first: Box<Node<K, V>>,
     second: Box<Node<K, V>>,
@@ -65,7 +66,7 @@ pub(crate) fn link<K: Ord + Drop, V: Drop>(
     }
 }
 
-// The second tree as the first child of the first one.
+// Puts the second tree below the first one's root, as its first child.
 fn under<K: Ord + Drop, V: Drop>(
     mut root: Box<Node<K, V>>,
     mut child: Box<Node<K, V>>,

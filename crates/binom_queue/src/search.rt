@@ -1,4 +1,5 @@
-//! Roots found by their order, and pairs found by their key. Each recursion goes on to a child or a next tree in each call.
+//! Searches for roots by their order, and for pairs by their key. Each recursive call goes to a
+//! child or to the next tree.
 ghost use Rattle.std.specs.Prelude.{◌≡◌, ◌≢◌, ◌⊎◌, ℕ, ◌+◌, Some, None, IfNone, IfSome, IsPermutation, ◌∷◌, option_map, true, false};
 ghost use Rattle.std.specs.List.{AllByRecursion};
 ghost use Rattle.std.specs.declared.cmp.Ordering.TheVariants.{Equal, Greater};
@@ -10,7 +11,7 @@ use crate::forest::{Forest, Node, before, cut};
 use std::cmp::Ordering;
 use std::mem;
 
-// The root of the least key.
+// Returns the root with the least key.
 pub(crate) fn least<K: Ord, V>(roots: &Forest<K, V>) -> Option<&Node<K, V>>
     requires { AreRoots K.cmp 0 roots.now }
     ensures none { IfNone result (roots.now ≡ Empty) }
@@ -24,7 +25,7 @@ pub(crate) fn least<K: Ord, V>(roots: &Forest<K, V>) -> Option<&Node<K, V>>
     Some(least_with(root, &root.next))
 }
 
-// The root of the least key among one root and the ones of a row.
+// Returns the root with the least key among `first` and the roots of a row.
 fn least_with<'a, K: Ord, V>(first: &'a Node<K, V>, roots: &'a Forest<K, V>) -> &'a Node<K, V>
     requires { AreRoots K.cmp 0 roots.now }
     ensures found { (result.now ≡ first.now) ⊎ (root_of result.now.order roots.now ≡ Some result.now.pair) }
@@ -41,7 +42,7 @@ fn least_with<'a, K: Ord, V>(first: &'a Node<K, V>, roots: &'a Forest<K, V>) -> 
     }
 }
 
-// Takes the tree of an order out.
+// Takes out the tree of this order.
 pub(crate) fn detach<K: Ord + Drop, V: Drop>(
     roots: &mut Forest<K, V>,
     order: u32,
@@ -67,7 +68,7 @@ pub(crate) fn detach<K: Ord + Drop, V: Drop>(
     }
 }
 
-// Takes the tree out that holds a key, with the key's pair at its root.
+// Takes out the tree that holds a key, with the key's pair at its root.
 pub(crate) fn detach_key<K: Ord + Drop, V: Drop>(
     roots: &mut Forest<K, V>,
     key: &K,
@@ -93,7 +94,8 @@ pub(crate) fn detach_key<K: Ord + Drop, V: Drop>(
     }
 }
 
-// Whether a tree holds a key, whose pair is at the root then. It goes down only from roots of smaller keys.
+// Says whether a tree holds a key, and brings the key's pair to the root. It looks below a root
+// only where its key is smaller.
 #[cycle(raise)]
 fn holds<K: Ord, V>(root: &mut Node<K, V>, key: &K) -> bool
     requires { AreChildren K.cmp root.old.pair.0 root.old.order root.old.child }
@@ -108,7 +110,7 @@ fn holds<K: Ord, V>(root: &mut Node<K, V>, key: &K) -> bool
     }
 }
 
-// Whether trees hold a key, whose pair then changes places with the one above them.
+// Says whether trees hold a key, and exchanges the key's pair with the one above them.
 #[cycle(raise)]
 fn raise<K: Ord, V>(above: &mut (K, V), trees: &mut Forest<K, V>, key: &K) -> bool
     requires { (n : ℕ) × AreChildren K.cmp above.old.0 n trees.old }

@@ -1,11 +1,11 @@
-//! A node outside of any queue.
+//! A node that stands in no queue.
 ghost use Rattle.std.specs.Prelude.{◌≡◌, IfOk, IfErr};
 
 use crate::forest::{Forest, Node};
 use std::alloc::{AllocFailed, Global};
 use std::marker::Model;
 
-/// A pair with all the memory that it takes in a queue.
+/// A pair with all the memory that it needs in a queue.
 #[derive(Drop)]
 pub struct Single<K, V> {
     pub(crate) root: Box<Node<K, V>>,

@@ -31,7 +31,7 @@ fn numbers_of_words(rt: HostRuntime) {
     same(&rt, decode_encode(last), Some(last));
 }
 
-// Takes the ticket where it is offered, and posts that it is done.
+// Takes the ticket where it is offered, and posts that its exchange is over.
 fn serve_one(board: &Board, seat: &mut RelaySeat, place: usize, ticket: u64) -> bool
     requires same_board { seat.old.board ≡ board.now }
     requires in_range { place < seat.old.view.terms.places }
@@ -49,7 +49,7 @@ fn serve_one(board: &Board, seat: &mut RelaySeat, place: usize, ticket: u64) -> 
     }
 }
 
-// The same where the board is known by its name alone.
+// The same for a board that is known only by its name.
 fn serve_named<N: BoardName>(board: &Board, seat: &mut RelaySeat, place: usize, ticket: u64) -> bool
     requires named { (board.now ≡ N.board) × (seat.old.board ≡ N.board) × (seat.old.view.terms ≡ N.terms) }
     requires in_range { place < N.terms.places }

@@ -13,7 +13,8 @@ const TICKET: u64 = 7;
 
 const SEATS: u64 = 8;
 
-// Two seats are lent, and one takes a pass and posts it. Whether no third was idle, the pass was found, and all came back.
+// Two seats are lent, and one takes a pass and posts it. Says whether no third seat was free, the
+// pass was found, and all seats came back.
 fn lend_two<N: BoardName + Ledger>(
     alloc: Global,
     board: &Board,

@@ -17,14 +17,14 @@ const SERVE: Verdict = Verdict::Serve(0);
 
 type Mail<N> = Mutex<VecDeque<Held<N>>>;
 
-/// What a pass was of that a thread posted.
+/// The parts of a pass that a thread posted.
 type Seen = (usize, u64, Verdict);
 
 const OF_THE_FIRST: Seen = (0, TICKET, SERVE);
 
 const OF_THE_SECOND: Seen = (1, TICKET, SERVE);
 
-// A seat takes a pass and goes with it into the mail. It comes back without one.
+// A seat takes a pass and is sent through the mail with it. Returns a seat without a pass.
 fn take_into<R: Wait, N: BoardName>(
     rt: &R,
     board: &Board,
@@ -46,7 +46,7 @@ fn take_into<R: Wait, N: BoardName>(
     }
 }
 
-// A seat with its pass comes out of the mail, and posts it.
+// Takes a seat with its pass from the mail, and posts the pass.
 fn post_from<R: Wait, N: BoardName>(
     rt: &R,
     board: &Board,
@@ -64,7 +64,7 @@ fn post_from<R: Wait, N: BoardName>(
     }
 }
 
-// Two threads take a pass each, and then two others post them. None where a seat didn't get its pass.
+// Two threads take a pass each, and then two others post them. `None` where a seat didn't get its pass.
 fn exchange_passes<R: Threads + Wait + Sync, N: BoardName + Send + Sync>(
     rt: &R,
     board: &Board,
@@ -94,7 +94,7 @@ fn exchange_passes<R: Threads + Wait + Sync, N: BoardName + Send + Sync>(
     )
 }
 
-// What is left in the mail is posted.
+// Posts the passes that are left in the mail.
 fn post_rest<N: BoardName>(board: &Board, held: VecDeque<Held<N>>)
     requires { board.now ≡ N.board }
 {
@@ -105,7 +105,7 @@ fn post_rest<N: BoardName>(board: &Board, held: VecDeque<Held<N>>)
     held.destroy_empty();
 }
 
-// The passes that the two threads posted.
+// Returns the passes that the two threads posted.
 fn posted<R: Abort + Threads + Wait + Sync, N: BoardName + Send + Sync>(
     rt: &R,
     alloc: Global,

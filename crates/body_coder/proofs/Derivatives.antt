@@ -25,7 +25,7 @@ feeds_as {a} {b} {x} {y} {g} {h} e f p = record {
   goes_on = λ more. ap (λ l. read a (l ++ more)) (sym e) ∙ p.goes_on more ∙ ap (λ l. behind l (read b more)) f;
 }
 
--- a body of so many bytes
+-- a body of this many bytes
 pub feeds_length : (left : ℕ) (x : List ℕ) → length x ≤ left → Feeds (Length left) (Length (left - length x)) x x
 feeds_length left x few = record {
   goes_on = λ more.

@@ -8,7 +8,7 @@ use crate::outbox::{OUTBOX_BYTES, Outbox};
 use crate::parts::next;
 use crate::texts::tell;
 
-// Takes a byte, if there is room for what it gives.
+// Takes a byte, if there is room for its text.
 fn step_byte(framed: bool, part: &mut Part, byte: u8, out: &mut Outbox) -> bool
     ensures took { IsTrue result → part.new ≡ coded.next part.old byte }
     ensures told { IsTrue result → out.new ≡ out.old ++ coded.told framed part.old byte }
@@ -23,7 +23,7 @@ fn step_byte(framed: bool, part: &mut Part, byte: u8, out: &mut Outbox) -> bool
     false
 }
 
-// Takes data of a chunk, as far as there is room for it.
+// Takes data of a chunk, as long as there is room for it.
 fn step_data(framed: bool, left: &mut u64, input: &[u8], out: &mut Outbox) -> usize
     ensures within { result ≤ length input.now }
     ensures hands { Hands (Coding.Chunked framed (Part.Data left.old)) (Coding.Chunked framed (Part.Data left.new)) (take result input.now) out.old out.new }
@@ -49,7 +49,7 @@ fn step_one(framed: bool, part: &mut Part, input: &[u8], out: &mut Outbox) -> us
     0
 }
 
-// Takes a byte, or data of a chunk; 0 where there is no room.
+// Takes a byte, or data of a chunk, and returns the number of bytes taken: 0 where there is no room.
 fn step(framed: bool, part: &mut Part, input: &[u8], out: &mut Outbox) -> usize
     requires some { 0 < length input.now }
     requires going { coded.is_over part.old ≡ false }
@@ -84,7 +84,7 @@ fn is_over(part: &Part) -> bool
     }
 }
 
-// Takes bytes of a body in chunks, as far as there is room for what they give.
+// Takes bytes of a chunked body, as long as there is room for their text.
 pub(crate) fn feed_chunked(framed: bool, part: &mut Part, input: &[u8], out: &mut Outbox) -> usize
     ensures within { result ≤ length input.now }
     ensures hands { Hands (Coding.Chunked framed part.old) (Coding.Chunked framed part.new) (take result input.now) out.old out.new }
@@ -101,7 +101,7 @@ pub(crate) fn feed_chunked(framed: bool, part: &mut Part, input: &[u8], out: &mu
     used
 }
 
-// The state behind all of these bytes.
+// Returns the state after all of these bytes.
 pub(crate) fn after_all(framed: bool, part: Part, input: &[u8]) -> Part
     ensures { (read_parts framed part input.now).coding ≡ Coding.Chunked framed result }
 {

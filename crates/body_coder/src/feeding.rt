@@ -8,20 +8,20 @@ use crate::outbox::{OUTBOX_BYTES, Outbox};
 use crate::plain::{feed_length, feed_to_end};
 use relay_body::Framing;
 
-/// Why no more was taken.
+/// Why a feed took no more bytes.
 #[derive(Clone, Copy, Debug, PartialEq, Eq)]
 pub enum State {
-    /// All that came was taken.
+    /// All input was taken.
     Hungry,
-    /// There is no room for what comes next.
+    /// There is no room for the text of the next byte.
     Full,
     /// The body is whole.
     Done,
-    /// What came can't become a body.
+    /// The bytes can't become a body.
     Bad,
 }
 
-/// How much was taken, and why no more.
+/// How many bytes a feed took, and why no more.
 #[derive(Clone, Copy, Debug, PartialEq, Eq)]
 pub struct Fed {
     pub used: usize,
@@ -63,7 +63,8 @@ fn state_of(coding: Coding, all: bool) -> State
 }
 
 impl Coding {
-    /// How a body of this framing begins; `framed` is false where chunks are handed on as their data alone.
+    /// Makes the coding of a body of this framing. `framed` is false where a chunked body is handed
+    /// on as its data alone.
     pub fn new(framing: Framing, framed: bool) -> Coding
         ensures { result ≡ start_of framing framed }
     {
@@ -75,21 +76,21 @@ impl Coding {
         }
     }
 
-    /// Is the body whole?
+    /// Says whether the body is whole.
     pub fn is_whole(&self) -> bool
         ensures { result ≡ is_done self.now }
     {
         is_done(*self)
     }
 
-    /// Is what came no front of a body?
+    /// Says whether the bytes so far aren't the front of any body.
     pub fn is_broken(&self) -> bool
         ensures { result ≡ is_bad self.now }
     {
         is_bad(*self)
     }
 
-    /// Is what comes next no front of the body, whatever follows it? `O(n)`.
+    /// Says whether this input can't go on the body, whatever follows it. `O(n)`.
     pub fn breaks(&self, input: &[u8]) -> bool
         ensures { result ≡ is_bad (read self.now input.now).coding }
     {
@@ -103,7 +104,7 @@ impl Coding {
         }
     }
 
-    /// Takes what came, up to the body's end and as far as there is room for what is given for it. `O(n)`.
+    /// Takes input up to the body's end, as long as there is room for its text. `O(n)`.
     pub fn feed(&mut self, input: &[u8], out: &mut Outbox) -> Fed
         ensures within { result.used ≤ length input.now }
         ensures hands { Hands self.old self.new (take result.used input.now) out.old out.new }

@@ -9,8 +9,9 @@ ghost use Rattle.body_coder.specs.Stops.{is_done, is_bad};
 use crate::coding::Coding;
 use relay_body::Framing;
 
-/// What a new coding makes of an input is what bodies at its front become: the text of as much as is there; it is done
-/// where a whole body stands there, and bad only where none will, whatever follows.
+/// A new coding makes of an input what the bodies at its front become: it writes the text of as
+/// much as is there, is done where a whole body stands there, and is bad only where none can stand
+/// there, whatever follows.
 pub fn a_coding_reads_bodies()
     ensures sent { (framing : framings.Framing) (framed : Bool) (input : List ℕ) → IsSent framing framed input (read (start_of framing framed) input).text }
     ensures whole { (framing : framings.Framing) (framed : Bool) (used text rest : List ℕ) → framing ≢ Framing.ToEnd → IsBody framing framed used text
@@ -25,8 +26,9 @@ pub fn a_coding_reads_bodies()
         → is_done (read (start_of framing framed) input).coding ≡ false → LacksBody framing input }
 {}
 
-/// Whatever feeds there were, what was given is the text of what was taken, and a front of the text of all that comes; where
-/// the coding is done what was taken is a whole body. It doesn't matter how the input was cut.
+/// After any sequence of feeds the text written is the text of the bytes taken, and a front of the
+/// text of the whole input; where the coding is done, the bytes taken are a whole body. How the
+/// input was cut doesn't matter.
 pub fn runs_of_feeds()
     ensures text { (framing : framings.Framing) (framed : Bool) (steps : List Step) (c : Coding) → Runs (start_of framing framed) steps c
         → IsSent framing framed (all_taken steps) (all_given steps) }

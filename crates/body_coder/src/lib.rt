@@ -1,4 +1,5 @@
-//! The body of a message as a value that can be asked again at any byte: what came goes in, what is sent comes out.
+//! The body of a message as a value that stops and goes on at any byte: input goes in, and the
+//! bytes to send come out.
 #![tactic(auto)]
 
 mod chunked;

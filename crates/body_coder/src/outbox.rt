@@ -3,7 +3,8 @@ ghost use Rattle.std.specs.Prelude.{◌≡◌, ◌+◌, ◌≤◌, ◌++◌, [],
 use std::alloc::{AllocError, Global};
 use std::marker::Model;
 
-/// The most bytes that wait to be sent. The text of a head has room, which can be longer than the head by some hundred bytes.
+/// The most bytes that wait to be sent. It has room for the text of a head, which can be some
+/// hundred bytes longer than the head.
 pub const OUTBOX_BYTES: usize = 20_480;
 
 /// The bytes that wait to be sent.
@@ -23,7 +24,7 @@ impl Model for Outbox {
 }
 
 impl Outbox {
-    /// Takes its memory, once for its life.
+    /// Allocates its memory, once for its life.
     pub fn new(alloc: Global) -> Result<Outbox, AllocError>
         ensures { IfOk result (λ outbox. outbox ≡ []) }
     {
@@ -31,21 +32,21 @@ impl Outbox {
         Ok(Outbox { bytes })
     }
 
-    /// What waits.
+    /// Returns the bytes that wait.
     pub fn as_slice(&self) -> &[u8]
         ensures { result.now ≡ self.now }
     {
         self.bytes.as_slice()
     }
 
-    /// How many bytes more it takes.
+    /// Returns the number of bytes that it still takes.
     pub fn room(&self) -> usize
         ensures { length self.now + result ≡ OUTBOX_BYTES }
     {
         OUTBOX_BYTES - self.bytes.len()
     }
 
-    /// Puts the bytes at the end.
+    /// Appends the bytes.
     pub fn push(&mut self, bytes: &[u8])
         requires { length self.old + length bytes.now ≤ OUTBOX_BYTES }
         ensures { self.new ≡ self.old ++ bytes.now }
@@ -56,7 +57,7 @@ impl Outbox {
         }
     }
 
-    /// Forgets the first bytes, which were sent. `O(n)`.
+    /// Removes the first bytes, which were sent. `O(n)`.
     pub fn sent(&mut self, count: usize)
         requires { count ≤ length self.old }
         ensures { self.new ≡ drop count self.old }
@@ -66,7 +67,7 @@ impl Outbox {
         self.bytes.truncate(len - count);
     }
 
-    /// Takes back what stands behind so many bytes.
+    /// Keeps the first bytes alone, and removes those after them.
     pub fn keep_front(&mut self, count: usize)
         ensures { self.new ≡ take count self.old }
     {

@@ -1,4 +1,4 @@
--- Steps of a pipe: some input is used, and the text that is given for it goes on its way.
+-- The steps of a pipe: it takes input, and puts the input's text on its way.
 use Rattle.std.specs.Prelude.{◌≡◌, ℕ, ◌+◌, ◌*◌, ◌^◌, ◌<◌, ◌≤◌, ◌⊎◌, List, ◌++◌, length}
 use Rattle.std.specs.Io.KnownBytes.{Consumes, IsAtEnd}
 use Rattle.counted_io.specs.Streams.{Stream}
@@ -7,7 +7,7 @@ use Rattle.relay_body.specs.declared.fault.Fault.TheVariants.{Framing, Read, Wri
 use Rattle.body_pipe.specs.declared.pipe.Pipe.{Pipe}
 use Rattle.relay_body.specs.Texts.{Wrote, WritesFront}
 
--- a pipe, where its bytes come from and where they go
+-- a pipe with its source and its sink
 pub record Ends : Type 0 where
   pub pipe : Pipe
   pub source : Stream
@@ -16,12 +16,12 @@ pub record Ends : Type 0 where
 abbrev pub ends : Pipe → Stream → Stream → Ends
 ends pipe source sink = record { pipe = pipe; source = source; sink = sink }
 
--- all reads and writes that the turns allow can be counted
+-- the numbers of bytes that the remaining turns allow fit into 64 bits
 pub record Countable (e : Ends) : Type 0 where
   pub reads : e.source.calls + e.pipe.turns < 2 ^ 64
   pub writes : e.sink.calls + e.pipe.turns < 2 ^ 64
 
--- the bytes were read, each read and each write for one turn
+-- the bytes were read; each read and each write costs one turn
 pub record Reads (old new : Ends) (taken : List ℕ) : Type 0 where
   pub same_source : new.source.name ≡ old.source.name
   pub same_sink : new.sink.name ≡ old.sink.name
@@ -31,7 +31,7 @@ pub record Reads (old new : Ends) (taken : List ℕ) : Type 0 where
   pub writes : old.sink.calls ≤ new.sink.calls
   pub spent : new.source.calls + new.sink.calls + new.pipe.turns ≡ old.source.calls + old.sink.calls + old.pipe.turns
 
--- No call failed. Of what was held and what was read `used` is gone, and for it the text was put behind what waited.
+-- No call failed. The pipe has taken `used` from what it held and read, and has put `text` after what waited.
 pub record Moves (old new : Ends) (used text : List ℕ) : Type 0 where
   pub taken : List ℕ
   pub reads : Reads old new taken
@@ -42,8 +42,9 @@ pub record Moves (old new : Ends) (used text : List ℕ) : Type 0 where
   pub good_reads : new.source.failures ≡ old.source.failures
   pub good_writes : new.sink.failures ≡ old.sink.failures
 
--- Whose the fault is, where Lacks says of an input that what is wanted doesn't stand at its front: a read failed, or
--- the input ended too early; a write failed; all turns are spent; or whatever follows, it will never stand there.
+-- Which fault it is, where Lacks says that the wanted part doesn't stand at the front of an input:
+-- a read failed, or the input ended too early; a write failed; all turns are spent; or the part
+-- can't stand there, whatever follows.
 abbrev pub Blames : Ends → Ends → (List ℕ → Type 0) → List ℕ → Fault → Type 0
 Blames old new Lacks input Read = (new.sink.failures ≡ old.sink.failures)
     × ((new.source.failures ≡ old.source.failures + 1) ⊎ ((new.source.failures ≡ old.source.failures) × IsAtEnd new.source.bytes × Lacks input))
@@ -52,8 +53,8 @@ Blames old new Lacks input Turns = (new.source.failures ≡ old.source.failures)
 Blames old new Lacks input Framing = (new.source.failures ≡ old.source.failures) × (new.sink.failures ≡ old.sink.failures)
     × ((more : List ℕ) → Lacks (input ++ more))
 
--- A fault was met. `used` stands at the front of what was held and read, and of what waited and of the text that is
--- given for it a front was written.
+-- A fault was met. `used` stands at the front of what was held and read. A front of what waited and
+-- of the text was written.
 pub record Breaks (old new : Ends) (used text : List ℕ) (Lacks : List ℕ → Type 0) (fault : Fault) : Type 0 where
   pub taken : List ℕ
   pub reads : Reads old new taken
@@ -62,6 +63,6 @@ pub record Breaks (old new : Ends) (used text : List ℕ) (Lacks : List ℕ → 
   pub writes : WritesFront old.sink new.sink (old.pipe.outbox ++ text)
   pub blames : Blames old new Lacks (old.pipe.inbox ++ taken) fault
 
--- what never lacks
+-- the demand that nothing lacks
 abbrev pub LacksNothing : List ℕ → Type 0
 LacksNothing input = ⊥

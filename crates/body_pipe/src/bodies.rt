@@ -9,8 +9,8 @@ use counted_io::{Sink, Source};
 use relay_body::{Fault, Framing};
 
 impl Pipe {
-    /// Hands on a body. In chunks it is written in chunks, or for an old client as its data alone. What is written
-    /// last may still wait in the pipe.
+    /// Hands on a body. A chunked body is written in chunks, or for an HTTP/1.0 client as its data
+    /// alone. The last bytes may still wait in the pipe.
     pub fn pass_body<S: Source, K: Sink>(
         &mut self,
         source: &mut S,
@@ -38,7 +38,7 @@ impl Pipe {
         }
     }
 
-    // Writes all that waits, and reads once where nothing is held: false at the end of the input.
+    // Writes all that waits, and reads once where nothing is held. Returns false at the end of the input.
     fn advance<S: Source, K: Sink>(&mut self, source: &mut S, sink: &mut K) -> Result<bool, Fault>
         requires some { (self.old.inbox ≡ []) ⊎ (0 < length self.old.outbox) }
         requires countable { Countable (ends self.old (S.stream source.old) (K.stream sink.old)) }
@@ -57,7 +57,7 @@ impl Pipe {
     }
 }
 
-// The input ended before the coding was done.
+// What it means for the body that the input ended.
 fn ended(framing: Framing) -> Result<(), Fault>
     ensures ok { OnOk result (framing ≡ Framing.ToEnd) }
     ensures err { IfErr result (λ fault. (fault ≡ Fault.Read) × (framing ≢ Framing.ToEnd)) }

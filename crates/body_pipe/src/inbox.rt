@@ -6,7 +6,7 @@ use counted_io::{Failed, Source};
 use std::alloc::{AllocError, Global};
 use std::marker::Model;
 
-/// The most bytes that are read and not used yet.
+/// The most bytes that are held.
 pub const INBOX_BYTES: usize = 65_536;
 
 /// The bytes that were read and aren't used yet.
@@ -28,7 +28,7 @@ impl Model for Inbox {
 }
 
 impl Inbox {
-    /// Takes its memory, once for its life.
+    /// Allocates its memory, once for its life.
     pub(crate) fn new(alloc: Global) -> Result<Inbox, AllocError>
         ensures { IfOk result (λ inbox. inbox ≡ []) }
     {
@@ -62,7 +62,7 @@ impl Inbox {
         self.start += count;
     }
 
-    /// Holds these bytes alone.
+    /// Holds these bytes in place of the old ones.
     pub(crate) fn hold(&mut self, bytes: &[u8])
         requires { length bytes.now ≤ INBOX_BYTES }
         ensures { self.new ≡ bytes.now }
@@ -72,7 +72,7 @@ impl Inbox {
         self.end = bytes.len();
     }
 
-    /// One read, behind the bytes that are held.
+    /// Reads once, after the bytes that are held.
     pub(crate) fn fill<S: Source>(&mut self, source: &mut S) -> Result<usize, Failed>
         requires room { length self.old < INBOX_BYTES }
         requires countable { (S.stream source.old).calls < 2 ^ 64 - 1 }
@@ -117,7 +117,7 @@ fn read_at<S: Source>(source: &mut S, buf: &mut Vec<u8>, at: usize) -> Result<us
     source.take(&mut buf.as_mut_slice()[at..])
 }
 
-// Puts the bytes from a position on.
+// Writes the bytes into the buffer, from a position on.
 fn put_at(buf: &mut Vec<u8>, at: usize, bytes: &[u8])
     requires { at + length bytes.now ≤ vec_len buf.old }
     ensures front { take (at + length bytes.now) buf.new.items ≡ take at buf.old.items ++ bytes.now }

@@ -1,8 +1,9 @@
-//! Bodies of HTTP/1.x messages handed on by calls that wait: from a source, through two buffers, to a sink.
+//! The bodies of HTTP/1.x messages, handed on by blocking calls: from a source, through two buffers, to a sink.
 //!
-//! A `Pipe` holds what was read and isn't used yet, what waits to be written, and how many reads and writes it may
-//! still make. A body is read by the coder of `body_coder`, which `pass_body` feeds what is held. Each call says which bytes
-//! it used and which text it gave for them, and for each fault whose it was.
+//! A `Pipe` keeps the bytes that were read and aren't used, the bytes that wait to be written, and
+//! the number of reads and writes that it may still make. `pass_body` feeds the coder of
+//! `body_coder` with the held bytes. Each call tells which bytes it used and which text it wrote
+//! for them, and for each fault on which side it arose.
 #![tactic(auto)]
 
 mod bodies;

@@ -6,12 +6,13 @@ use crate::pipe::Pipe;
 use counted_io::Sink;
 use relay_body::Fault;
 
-/// What a text is put on, piece by piece: a pipe, which is written from where there is no room, or memory, which never is.
+/// The target of a text that is written piece by piece: a pipe, which writes to its sink where it
+/// has no room, or memory, which never does.
 pub trait Page {
-    // The pipe that it is, or is like.
+    // The pipe that it is or behaves as.
     ghost pipe: { Self → pipes.Pipe };
 
-    /// Puts the bytes behind what waits.
+    /// Appends the bytes after those that wait.
     fn put<K: Sink>(&mut self, sink: &mut K, bytes: &[u8]) -> Result<(), Fault>
         requires { (K.stream sink.old).calls + (pipe self.old).turns < 2 ^ 64 }
         ensures ok { OnOk result (Emits (K.stream sink.old) (K.stream sink.new) (pipe self.old).turns (pipe self.new).turns (pipe self.old).outbox (pipe self.new).outbox bytes.now) }

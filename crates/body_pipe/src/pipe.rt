@@ -13,7 +13,8 @@ use counted_io::{Sink, Source};
 use relay_body::Fault;
 use std::alloc::{AllocError, Global};
 
-/// What was read and isn't used, what waits to be written, and the reads and writes that may still be made.
+/// The bytes that were read and aren't used, the bytes that wait to be written, and the number of
+/// reads and writes that may still be made.
 #[derive(Drop)]
 pub struct Pipe {
     inbox: Inbox,
@@ -22,7 +23,7 @@ pub struct Pipe {
 }
 
 impl Pipe {
-    /// A pipe that holds nothing. It takes 84 KiB, once for its life.
+    /// Makes an empty pipe. It takes 84 KiB, once for its life.
     pub fn new(alloc: Global, turns: u64) -> Result<Pipe, AllocError>
         ensures inbox { IfOk result (λ pipe. pipe.inbox ≡ []) }
         ensures outbox { IfOk result (λ pipe. pipe.outbox ≡ []) }
@@ -35,7 +36,7 @@ impl Pipe {
         })
     }
 
-    /// Makes it as `new` does, without memory.
+    /// Makes the pipe empty as `new` does, without allocating.
     pub fn renew(&mut self, turns: u64)
         ensures inbox { self.new.inbox ≡ [] }
         ensures outbox { self.new.outbox ≡ [] }
@@ -46,14 +47,14 @@ impl Pipe {
         self.turns = turns;
     }
 
-    /// How many reads and writes it may still make.
+    /// Returns the number of reads and writes that it may still make.
     pub fn turns(&self) -> u64
         ensures { result ≡ self.now.turns }
     {
         self.turns
     }
 
-    /// The bytes that were read and aren't used yet.
+    /// Returns the bytes that were read and aren't used yet.
     pub fn held(&self) -> &[u8]
         ensures value { result.now ≡ self.now.inbox }
         ensures small { length self.now.inbox ≤ INBOX_BYTES }
@@ -61,7 +62,7 @@ impl Pipe {
         self.inbox.as_slice()
     }
 
-    /// Holds these bytes in place of those that it held. `O(n)`.
+    /// Holds these bytes in place of the old ones. `O(n)`.
     pub fn hold(&mut self, bytes: &[u8])
         requires { length bytes.now ≤ INBOX_BYTES }
         ensures inbox { self.new.inbox ≡ bytes.now }
@@ -71,7 +72,7 @@ impl Pipe {
         self.inbox.hold(bytes);
     }
 
-    /// Forgets the first bytes of those that it holds.
+    /// Removes the first held bytes.
     pub fn consume(&mut self, count: usize)
         requires { count ≤ length self.old.inbox }
         ensures inbox { self.new.inbox ≡ drop count self.old.inbox }
@@ -81,7 +82,7 @@ impl Pipe {
         self.inbox.consume(count);
     }
 
-    /// Forgets what waits to be written.
+    /// Drops the bytes that wait to be written.
     pub fn forget_waiting(&mut self)
         ensures inbox { self.new.inbox ≡ self.old.inbox }
         ensures outbox { self.new.outbox ≡ [] }
@@ -90,7 +91,7 @@ impl Pipe {
         self.outbox.keep_front(0);
     }
 
-    /// Puts the text behind what waits, and writes where there is no room for it.
+    /// Appends the text after what waits, and writes to the sink where there is no room for it.
     pub fn emit<K: Sink>(&mut self, sink: &mut K, bytes: &[u8]) -> Result<(), Fault>
         requires { (K.stream sink.old).calls + self.old.turns < 2 ^ 64 }
         ensures ok { OnOk result (Emits (K.stream sink.old) (K.stream sink.new) self.old.turns self.new.turns self.old.outbox self.new.outbox bytes.now) }
@@ -111,8 +112,8 @@ impl Pipe {
         text::flush(&mut self.outbox, &mut self.turns, sink)
     }
 
-    // Feeds the coding what is held, and puts what it gives behind what waits: true where the body is whole, and false where
-    // nothing is held any more or there is no room.
+    // Feeds the coding with the held bytes, and appends its text after what waits. Returns true
+    // where the body is whole, false where nothing is held any more or there is no room.
     pub(crate) fn feed(&mut self, coding: &mut Coding) -> Result<bool, Fault>
         ensures moves { (s w : Stream) → (used : List ℕ) × (text : List ℕ) × Feeds coding.old coding.new used text
             × Moves (ends self.old s w) (ends self.new s w) used text }
@@ -130,7 +131,7 @@ impl Pipe {
         }
     }
 
-    /// Reads once; 0 at the end of the input. What waits goes on waiting.
+    /// Reads once, and returns the number of bytes: 0 at the end of the input. It writes nothing.
     pub fn fill<S: Source>(&mut self, source: &mut S) -> Result<usize, Fault>
         requires room { length self.old.inbox < INBOX_BYTES }
         requires countable { (S.stream source.old).calls + self.old.turns < 2 ^ 64 }
@@ -152,7 +153,7 @@ impl Pipe {
         }
     }
 
-    /// Writes all that waits, and then reads once; 0 at the end of the input.
+    /// Writes all that waits, and then reads once: 0 at the end of the input.
     pub fn supply<S: Source, K: Sink>(
         &mut self,
         source: &mut S,

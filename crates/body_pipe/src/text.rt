@@ -5,7 +5,7 @@ use body_coder::Outbox;
 use counted_io::Sink;
 use relay_body::Fault;
 
-/// Writes the text whole, in as few writes as the sink allows.
+/// Writes the whole text, in as few writes as the sink allows.
 pub(crate) fn write_text<K: Sink>(turns: &mut u64, sink: &mut K, text: &[u8]) -> Result<(), Fault>
     requires { (K.stream sink.old).calls + turns.old < 2 ^ 64 }
     ensures ok { OnOk result (Emits (K.stream sink.old) (K.stream sink.new) turns.old turns.new [] [] text.now) }
@@ -36,7 +36,7 @@ fn write_once<K: Sink>(turns: &mut u64, sink: &mut K, text: &[u8]) -> Result<usi
     }
 }
 
-/// Writes the bytes, or keeps them until more come: those that fit wait, others are written from where they are.
+/// Keeps the bytes until more come where they fit; otherwise writes them directly from where they are.
 pub(crate) fn emit<K: Sink>(
     outbox: &mut Outbox,
     turns: &mut u64,

@@ -66,7 +66,7 @@ fn arrive<N: BoardName>(
     answer.expect(rt, "an arrival")
 }
 
-// The first place that a turn wakes.
+// Makes a turn, and returns the first place that it wakes.
 fn turn<N: BoardName>(rt: &impl Abort, board: &Board, book: &mut Book<Lists, N>) -> Option<usize>
     requires { board.now ≡ N.board }
 {
@@ -80,7 +80,7 @@ fn worst<N: BoardName>(book: &Book<Lists, N>) -> Option<i64> {
     book.worst(Queue::Backend, Class::clamp(0))
 }
 
-// How many passes the seat has between its take and its post, and after it.
+// Returns the number of passes that the seat has between its take and its post, and after it.
 fn vouch<N: BoardName>(
     rt: &impl Abort,
     board: &Board,
@@ -102,7 +102,8 @@ fn vouch<N: BoardName>(
     (taken, posted)
 }
 
-// Two requests arrive; the second one is offered once the first one is over. Passes, the place that was woken, and the worst.
+// Two requests arrive; the second one is offered once the first one is over. Returns the passes,
+// the place that was woken and the worst lateness.
 fn serve_two<N: BoardName>(
     rt: &impl Abort,
     alloc: Global,

@@ -30,7 +30,7 @@ mod redispatch;
 mod threads;
 mod windows;
 
-// A dispatcher that has done nothing, and the board that was opened for its places and limits.
+// A fresh dispatcher and the board for its places and limits.
 #[derive(Drop)]
 struct Opened {
     core: Core<Queues>,
@@ -45,7 +45,7 @@ struct Opened {
     ghost told_nothing: { IsNew running (length core.setup.servers) },
 }
 
-// A server whose health one result of a check decides.
+// A server whose health one check result decides.
 fn server(limit: u32) -> ServerSet
     ensures { result.limit ≡ limit }
 {
@@ -64,7 +64,7 @@ fn open(rt: &impl Abort, alloc: Global, setup: Setup, limits: &[u32]) -> Opened
     opened.expect(rt, "a sound setup")
 }
 
-// None where the setup isn't sound.
+// Opens a dispatcher and its board; `None` where the setup isn't sound.
 fn open_sound(alloc: Global, setup: Setup, limits: &[u32]) -> Result<Option<Opened>, AllocError>
     requires limits { map (λ server. server.limit) setup.servers ≡ limits.now }
 {
@@ -82,7 +82,7 @@ fn open_sound(alloc: Global, setup: Setup, limits: &[u32]) -> Result<Option<Open
     }))
 }
 
-// One server, so many places, and a timeout of 10 ms in queues.
+// Opens one server with this limit, this number of places, and a queue timeout of 10 ms.
 fn one_server(rt: &impl Abort, alloc: Global, places: usize, log: usize, limit: u32) -> Opened {
     let setup = setup_of_one(alloc, places, log, limit).expect(rt, "memory");
     open(rt, alloc, setup, &[limit])
@@ -102,7 +102,7 @@ fn setup_of_one(alloc: Global, places: usize, log: usize, limit: u32) -> Result<
     })
 }
 
-// A desk over what was opened, and the first of the seats that take.
+// Makes a desk of what was opened, and the first of the seats that take passes.
 fn start<N: BoardName>(opened: Opened) -> (Desk<N>, RelaySeat)
     requires named { opened.board ≡ N.board }
     requires terms { N.terms ≡ terms_of opened.core.setup }
@@ -119,7 +119,7 @@ fn start<N: BoardName>(opened: Opened) -> (Desk<N>, RelaySeat)
     (Desk::new(core, board, seat, running), relay)
 }
 
-// What a request of class 0 without a pin asks for.
+// The wish of a request of class 0 with this offset and without a pin.
 fn offset(millis: i64) -> Wanted {
     Wanted {
         class: Class::clamp(0),
@@ -128,12 +128,12 @@ fn offset(millis: i64) -> Wanted {
     }
 }
 
-// A moment; 0 for a number that is none.
+// Makes a moment of a number; 0 where it is out of range.
 fn at(millis: u64) -> Moment {
     Moment::new(millis).unwrap_or(Moment::zero())
 }
 
-// A request arrives and isn't refused.
+// Lets a request arrive that isn't refused.
 fn arrive<N: BoardName, R: Abort + Wait>(
     rt: &R,
     alloc: Global,
@@ -148,7 +148,7 @@ fn arrive<N: BoardName, R: Abort + Wait>(
     answer.expect(rt, "an arrival")
 }
 
-// A turn that isn't refused, and the first place that it woke.
+// Makes a turn that isn't refused, and returns the first place that it woke.
 fn turn<N: BoardName, R: Abort + Wait>(rt: &R, desk: &Desk<N>, moment: u64) -> Option<usize> {
     let mut woken = PlaceSet::new();
     let answer = desk.turn(rt, at(moment), &mut woken);
@@ -184,7 +184,7 @@ fn serve(board: &Board, relay: &mut RelaySeat, it: Ticketed) -> Option<Verdict>
     }
 }
 
-// The greatest lateness of a class in the backend's queue.
+// Returns the greatest lateness of a class in the backend's queue.
 fn worst<N: BoardName, R: Wait>(rt: &R, desk: &Desk<N>, class: i64) -> Option<i64> {
     desk.worst(rt, Queue::Backend, Class::clamp(class))
 }
@@ -202,7 +202,8 @@ fn stay(ticket: u64, joined: usize, slot: usize, moment: u64, offset: i64) -> St
     }
 }
 
-// Whether these are one report on class 0 of the backend's queue: how many, the worst and its due date; the cut and the slot.
+// Says whether these are one report on class 0 of the backend's queue, with this count, worst
+// lateness and due date, cut and slot.
 fn is_report(
     reports: &Reports,
     numbers: (usize, i64, i64),

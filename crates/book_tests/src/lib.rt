@@ -1,4 +1,5 @@
-//! Tests of the dispatcher beside its board and of the layers between: a crate of their own, so that what they test isn't proved once more with them.
+//! Tests of the dispatcher with its board and of the layers between them. They are a crate of their
+//! own, so that the crates under test aren't proved a second time with them.
 #![tactic(auto)]
 
 #[cfg(test)]

@@ -2,7 +2,7 @@ ghost use Rattle.std.specs.Prelude.{◌≡◌, [], length};
 ghost use Rattle.dispatch_log.specs.Histories.{first_window};
 
 use crate::assertions::{holds, same};
-use dispatch_core::Core;
+use dispatch_core::{Core, Event};
 use dispatch_log::{Queue, ServerSet, Servers, Setup};
 use due_key::{Class, Key, Moment, Offset};
 use late_cert::Running;
@@ -13,7 +13,8 @@ use std::process::Abort;
 
 type Lists = ListQueue<Key, usize>;
 
-// One server that serves one request at a time, four places, and a log of so many entries.
+// A dispatcher with one server that serves one request at a time, four places, and a log with room
+// for this many entries.
 fn dispatcher(rt: &impl Abort, alloc: Global, log: usize) -> Core<Lists>
     ensures first { result ≡ first_window result.setup [] }
     ensures one_server { length result.setup.servers ≡ 1 }
@@ -41,12 +42,12 @@ fn reporting(rt: &impl Abort, alloc: Global, log: usize) -> ReportingCore<Lists>
     ReportingCore::new(dispatcher(rt, alloc, log), running)
 }
 
-// A moment; 0 for a number that is none.
+// Makes a moment of a number; 0 where it is out of range.
 fn moment(number: u64) -> Moment {
     Moment::new(number).unwrap_or(Moment::zero())
 }
 
-// A request of class 0 without an offset and a pin.
+// Lets a request of class 0 without an offset and a pin arrive.
 fn arrive(rt: &impl Abort, alloc: Global, core: &mut ReportingCore<Lists>, number: u64) -> u64 {
     let class = Class::clamp(0);
     let offset = Offset::clamp(0);
@@ -55,10 +56,14 @@ fn arrive(rt: &impl Abort, alloc: Global, core: &mut ReportingCore<Lists>, numbe
 }
 
 fn done(rt: &impl Abort, core: &mut ReportingCore<Lists>, number: u64, ticket: u64) {
-    core.done(moment(number), ticket).expect(rt, "an end");
+    let event = Event::Done {
+        moment: moment(number),
+        ticket,
+    };
+    core.apply(event).expect(rt, "an end");
 }
 
-// Two requests, and the end of the first one.
+// Two requests arrive, and the first one ends.
 fn serve_one(rt: &impl Abort, alloc: Global, core: &mut ReportingCore<Lists>) {
     let first = arrive(rt, alloc, core, 1);
     arrive(rt, alloc, core, 2);
@@ -69,7 +74,7 @@ fn worst(core: &ReportingCore<Lists>, class: i64) -> Option<i64> {
     core.worst(Queue::Backend, Class::clamp(class))
 }
 
-// How many reports there are, and the line of the one server.
+// Returns the number of reports, and the line of the one server.
 fn window_told(rt: &impl Abort, alloc: Global, core: &ReportingCore<Lists>) -> (usize, ServerLine) {
     let lines = core.servers(alloc).expect(rt, "memory");
     holds(rt, lines.len() == 1);
@@ -77,7 +82,7 @@ fn window_told(rt: &impl Abort, alloc: Global, core: &ReportingCore<Lists>) -> (
     (reports.len(), lines[0])
 }
 
-// How many reports and lines the window has that makes room; `None` where there is room.
+// Returns the number of reports and lines of the window that ends to make room; `None` where there is room.
 fn make_room(
     rt: &impl Abort,
     alloc: Global,
@@ -89,7 +94,8 @@ fn make_room(
     }
 }
 
-// What is told of a window in which one request was served: the worst of two classes, how many reports, and the server's line.
+// What is told of a window in which one request was served: the worst of two classes, the number of
+// reports, and the server's line.
 #[derive(Clone, Copy, Debug, PartialEq)]
 struct Told {
     worst: (Option<i64>, Option<i64>),

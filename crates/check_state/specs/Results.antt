@@ -1,15 +1,15 @@
--- Whether a server is up, by the list of its results, the oldest first; `true` is a success.
+-- Whether a server is up, by the list of its check results, the oldest first; `true` is a success.
 use Rattle.std.specs.Prelude.{ℕ, zero, suc, Bool, true, false, not, ◌&&◌, ◌||◌, List, [], ◌∷◌, reverse}
 use Rattle.std.specs.Bool.{beq}
 use Rattle.std.specs.List.{prefix_len}
 
--- the list begins with so many of one result
+-- the list begins with `n` results of one kind
 abbrev pub begins_with : ℕ → Bool → List Bool → Bool
 begins_with zero which results = true
 begins_with (suc count) which [] = false
 begins_with (suc count) which (result ∷ later) = beq result which && begins_with count which later
 
--- so many of one result stand in a row somewhere
+-- somewhere in the list stand `n` results of one kind in a row
 abbrev pub has_run : ℕ → Bool → List Bool → Bool
 has_run count which [] = begins_with count which []
 has_run count which (result ∷ later) = begins_with count which (result ∷ later) || has_run count which later
@@ -23,6 +23,6 @@ is_down rise fall (result ∷ later) = (begins_with fall false (result ∷ later
 abbrev pub is_up : ℕ → ℕ → List Bool → Bool
 is_up rise fall results = not (is_down rise fall results)
 
--- how many of one result stand in a row at the end of the list
+-- the number of results of one kind in a row at the end of the list
 abbrev pub run_at_end : Bool → List Bool → ℕ
 run_at_end which results = prefix_len (λ result. beq result which) (reverse results)

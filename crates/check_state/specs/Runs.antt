@@ -1,7 +1,7 @@
--- What it means that results stand in a row, and that a server is down, by the parts of the list.
+-- What it means that results stand in a row, and that a server is down, in terms of the parts of the list.
 use Rattle.std.specs.Prelude.{◌≡◌, ℕ, Bool, true, false, List, ◌++◌, replicate}
 
--- so many of one result stand in a row
+-- somewhere in the list stand `n` results of one kind in a row
 abbrev pub StandInARow : ℕ → Bool → List Bool → Type 0
 StandInARow count which results = (before : List Bool) × (after : List Bool) × (results ≡ before ++ (replicate count which ++ after))
 

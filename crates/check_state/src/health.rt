@@ -4,7 +4,7 @@ ghost use Rattle.check_state.specs.Standing.{IsHealthOf, limit_of, change_betwee
 
 use std::marker::Model;
 
-/// What a result changed.
+/// The change that a result makes.
 #[derive(Clone, Copy, Debug, PartialEq, Eq)]
 pub enum Change {
     /// The server is up or down as before.
@@ -13,13 +13,13 @@ pub enum Change {
     WentUp,
 }
 
-/// A server's standing: HAProxy's `rise` and `fall` of a `server` line.
+/// A server's standing by its health checks, with HAProxy's `rise` and `fall` of a `server` line.
 #[derive(Clone, Copy, Debug, PartialEq, Eq)]
 pub struct Health {
     rise: u32,
     fall: u32,
     up: bool,
-    // How many results in a row, up to the last one, speak against the standing.
+    // The number of the latest results in a row that speak against the standing.
     against: u32,
 }
 
@@ -36,7 +36,7 @@ impl Model for Health {
 }
 
 impl Health {
-    /// A server of which no result is known: it is up.
+    /// Makes the health of a server without any result: it is up.
     pub fn new(rise: u32, fall: u32) -> Health
         requires rise { 1 ≤ rise }
         requires fall { 1 ≤ fall }
@@ -50,7 +50,7 @@ impl Health {
         }
     }
 
-    /// Takes the next result of a health check. `O(1)`.
+    /// Takes the next result of a health check, and returns the change. `O(1)`.
     pub fn result(&mut self, ok: bool) -> Change
         ensures health { (rise fall : ℕ) (results : List Bool) → IsHealthOf rise fall results self.old → IsHealthOf rise fall (results ++ ok ∷ []) self.new }
         ensures change { (rise fall : ℕ) (results : List Bool) → IsHealthOf rise fall results self.old → result ≡ change_between (is_up rise fall results) (is_up rise fall (results ++ ok ∷ [])) }
@@ -69,14 +69,14 @@ impl Health {
         }
     }
 
-    // How many results in a row turn the standing over.
+    // Returns the number of results in a row that reverse the standing.
     fn limit(&self) -> u32
         ensures { result ≡ limit_of self.now }
     {
         if self.up { self.fall } else { self.rise }
     }
 
-    /// Whether the server is up.
+    /// Says whether the server is up.
     pub fn up(&self) -> bool
         ensures { (rise fall : ℕ) (results : List Bool) → IsHealthOf rise fall results self.now → result ≡ is_up rise fall results }
     {

@@ -1,4 +1,4 @@
-//! Whether a server is up, by the results of its health checks. No memory, no handle.
+//! Whether a server is up, by the results of its health checks. The crate allocates nothing and uses no handle.
 #![tactic(auto)]
 
 mod health;

@@ -85,7 +85,7 @@ the one with the smaller key (class, due date) got its slot first; else 1.
 For example, dueproxy demo --keep
 leaves the proxy and its servers running, and prints a line of curl to try.";
 
-/// The program's words: one of its subcommands has to be there.
+/// Returns the program's command line: it needs a subcommand.
 pub(crate) fn commands<'a>(alloc: Global) -> Result<Command<'a>, AllocError> {
     let command = with(dueproxy(alloc), replay(alloc))?;
     let command = with(command, demo(alloc))?;
@@ -104,7 +104,7 @@ fn with<'a>(
     command.subcommand(below?)
 }
 
-/// A command of this name, what it is for, and what its help says besides.
+/// Makes a command with this name, purpose and further help.
 pub(crate) fn told<'a>(alloc: Global, name: &'a str, about: &'a str, help: &'a str) -> Command<'a> {
     Command::new(alloc, name).about(about).after_help(help)
 }
@@ -181,7 +181,7 @@ fn ticket<'a>(alloc: Global) -> Arg<'a> {
         .help("The request: the first that came has ticket 1, the next 2")
 }
 
-/// The configuration's name.
+/// The argument with the configuration's file name.
 fn file<'a>(alloc: Global) -> Arg<'a> {
     Arg::new(alloc, "FILE")
         .required(true)

@@ -1,10 +1,10 @@
-//! The words of `convert`.
+//! The arguments of `convert`.
 
 use crate::commands::told;
 use clap::{Arg, ArgAction, ArgMatches, Command};
 use std::alloc::{AllocError, Global};
 
-/// The configuration that is to be converted, and the sections that are named.
+/// The configuration to convert, and the sections that the arguments name.
 #[derive(Debug, PartialEq, Eq, Drop)]
 pub struct Sections {
     pub file: String,
@@ -25,7 +25,7 @@ of it; 1 no memory, read fault, write fault; 2 these words.
 
 For example, dueproxy convert /etc/haproxy/haproxy.cfg --frontend web > web.cfg";
 
-/// The words of `convert`.
+/// Returns the command `convert`.
 pub(crate) fn convert<'a>(alloc: Global, file: Arg<'a>) -> Result<Command<'a>, AllocError> {
     let about = "Makes of a configuration of HAProxy one that run takes, and says what changes";
     told(alloc, "convert", about, HELP)
@@ -41,7 +41,7 @@ fn section<'a>(alloc: Global, name: &'a str) -> Arg<'a> {
         .value_name("NAME")
 }
 
-/// What the words name.
+/// Returns what the arguments of `convert` name.
 pub(crate) fn sections_of(alloc: Global, words: &ArgMatches) -> Result<Sections, AllocError> {
     let file = String::from_str(alloc, words.get_str("FILE").unwrap_or_default())?;
     let frontend = name_of(alloc, words, "frontend")?;

@@ -1,27 +1,27 @@
-//! The word FILE of commands that also read standard input.
+//! The argument FILE of commands that also read standard input.
 
 use clap::{Arg, ArgAction, ArgMatches};
 use std::alloc::{AllocError, Global};
 
-/// Where a script or a trace is read from.
+/// The place that a script or a trace is read from.
 #[derive(Debug, PartialEq, Eq, Drop)]
 pub enum Input {
-    /// Standard input, since no word names anything.
+    /// Standard input, since there is no argument.
     Unnamed,
     /// Standard input, which `-` names.
     Standard,
-    /// The file of this name.
+    /// The file with this name.
     File(String),
 }
 
-/// The word FILE, which may be left out.
+/// The optional argument FILE.
 pub(crate) fn optional_file<'a>(alloc: Global) -> Arg<'a> {
     Arg::new(alloc, "FILE")
         .action(ArgAction::Set)
         .help("What is read; - or no word: standard input")
 }
 
-/// What the word FILE names.
+/// Returns the input that the argument FILE names.
 pub(crate) fn input_of(alloc: Global, words: &ArgMatches) -> Result<Input, AllocError> {
     match words.get_str("FILE") {
         None => Ok(Input::Unnamed),

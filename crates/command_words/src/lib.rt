@@ -1,4 +1,4 @@
-//! The words of the command line: what there is to ask for, and what was asked.
+//! The command line: its subcommands and options, and what a user asked for.
 #![tactic(auto)]
 
 mod commands;

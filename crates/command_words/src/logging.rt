@@ -1,16 +1,16 @@
-//! The words of `run` that say which logs it writes.
+//! The options of `run` for its logs.
 
 use clap::{Arg, ArgAction, ArgMatches, Command};
 use std::alloc::{AllocError, Global};
 
-/// Which logs are written, and where: `-` is standard output for exchanges, and standard error for events.
+/// The logs to write and their places: `-` is standard output for exchanges, and standard error for events.
 #[derive(Debug, PartialEq, Eq, Drop)]
 pub struct LogWords {
-    /// Where a line of each exchange goes.
+    /// The file with a line for each exchange.
     pub access: Option<String>,
-    /// Each line is one value of JSON.
+    /// Each line is one JSON value.
     pub is_json: bool,
-    /// Where a line of each event goes.
+    /// The file with a line for each event.
     pub events: Option<String>,
 }
 
@@ -22,7 +22,7 @@ static FORMATS: [&str; 2] = ["text", "json"];
 
 const EVENTS: &str = "A line when a server goes up or down, a queue fills, ..; - is standard error";
 
-/// The words of `run` that say which logs it writes.
+/// Adds the options for logs to the command `run`.
 pub(crate) fn with_logs<'a>(
     alloc: Global,
     command: Command<'a>,
@@ -42,7 +42,7 @@ fn named<'a>(alloc: Global, name: &'a str) -> Arg<'a> {
     Arg::new(alloc, name).long(name).action(ArgAction::Set)
 }
 
-/// What the words of `run` say of it.
+/// Returns what the options of `run` say of the logs.
 pub(crate) fn logs_of(alloc: Global, words: &ArgMatches) -> Result<LogWords, AllocError> {
     Ok(LogWords {
         access: file_of(alloc, words, "access-log")?,

@@ -1,4 +1,4 @@
-//! The words of `run`.
+//! The options of `run`.
 
 use crate::commands::told;
 use crate::logging::with_logs;
@@ -8,7 +8,7 @@ use clap::{Arg, ArgAction, ArgMatches, Command};
 use proxy_words::number;
 use std::alloc::{AllocError, Global};
 
-/// How many of what a proxy is to have, as the words say it: none of it is judged.
+/// The sizes of a proxy, as the options give them; they aren't checked yet.
 #[derive(Clone, Copy, Debug, PartialEq, Eq)]
 pub struct Numbers {
     pub workers: Option<u32>,
@@ -16,26 +16,27 @@ pub struct Numbers {
     pub waiting: Option<u32>,
     pub places: u32,
     pub requests: u32,
-    /// How long a client may stay between two requests, in milliseconds. None: it has one.
+    /// The longest pause of a client between two requests, in milliseconds. `None`: a client's
+    /// connection has one request.
     pub keeping: Option<u32>,
-    /// How many unused connections of a server stay open at most. None: a server's connection is for one request.
+    /// The most unused connections of a server that stay open. `None`: a server's connection has one request.
     pub reusing: Option<u32>,
-    /// After so many milliseconds a window ends. None: once the log is full.
+    /// The length of a window in milliseconds. `None`: a window ends once the log is full.
     pub window: Option<u32>,
-    /// Whether servers are told whose requests they get.
+    /// Whether servers are told the client's address (`option forwardfor`).
     pub forwarded_for: bool,
 }
 
-/// How long a client may stay that asks for nothing, in milliseconds, where no word says it.
+/// The longest pause of a client between two requests where no option says it, in milliseconds.
 const STAY: &str = "10000";
 
-/// How many unused connections of a server stay open, where no word says it.
+/// The number of unused connections of a server where no option says it.
 const IDLE: &str = "32";
 
-// More of a server than requests there may be.
+// The most unused connections: a server has no more than there may be requests.
 const MOST_IDLE: u32 = 4096;
 
-/// What is said of a number that is none, or out of its range.
+/// The message for a number that can't be read or is out of its range.
 pub const RANGES: &str =
     "a number is out of its range: 1 to 256 workers, 1 to 64 loops, 1 to 65536 waiting, 1 to 4096 places or idle connections, 0 to 999999999 requests, 1 to 999999999 ms, and 100 ms at least of --window";
 
@@ -84,14 +85,14 @@ const IDLE_HELP: &str =
 const WINDOW: &str =
     "Ends a window of the log after so many ms, too, and prints its reports with the time, from 100 on";
 
-// Who follows the log reads it some ten times in this time.
+// The shortest window in milliseconds: a reader of the log reads it about ten times in that time.
 const SHORTEST_WINDOW: u32 = 100;
 
 const FORWARDED: &str = "Adds a field X-Forwarded-For with its client's address to each request";
 
 const REQUESTS: &str = "Ends after so many clients; 0: never";
 
-/// The words of `run`.
+/// Returns the command `run`.
 pub(crate) fn run<'a>(alloc: Global, file: Arg<'a>) -> Result<Command<'a>, AllocError> {
     let command = told(alloc, "run", "Serves as a configuration says", HELP).arg(file)?;
     let command = with_threads(alloc, command)?;
@@ -143,7 +144,7 @@ fn size<'a>(alloc: Global, name: &'a str) -> Arg<'a> {
         .value_name("N")
 }
 
-/// The numbers of the words. None: one of them is no number.
+/// Returns the numbers of the options; `None` where one of them isn't a number.
 pub(crate) fn numbers_of(words: &ArgMatches) -> Option<Numbers> {
     let workers = given(words, "workers").ok()?;
     let loops = given(words, "loops").ok()?;
@@ -173,7 +174,7 @@ pub(crate) fn numbers_of(words: &ArgMatches) -> Option<Numbers> {
     })
 }
 
-// The number that goes with a flag, where the flag is given.
+// Returns the number that goes with a flag, where the flag is given.
 fn asked_for(words: &ArgMatches, flag: &str, number: u32) -> Option<u32> {
     if words.get_flag(flag) {
         Some(number)
@@ -182,11 +183,11 @@ fn asked_for(words: &ArgMatches, flag: &str, number: u32) -> Option<u32> {
     }
 }
 
-/// A word stands where a number is wanted.
+/// An option's value isn't a number.
 #[derive(Debug, Drop)]
 struct NoNumber;
 
-// The number behind an option, where it is given.
+// Returns the number of an option, where it is given.
 fn given(words: &ArgMatches, name: &str) -> Result<Option<u32>, NoNumber> {
     match words.get_str(name) {
         None => Ok(None),

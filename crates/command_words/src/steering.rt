@@ -1,19 +1,19 @@
-//! The words by which a proxy is steered: those of `run`, and those of `ctl`.
+//! The options that steer a proxy: those of `run`, and the arguments of `ctl`.
 
 use crate::commands::told;
 use clap::{Arg, ArgAction, ArgMatches, Command};
 use std::alloc::{AllocError, Global};
 
-/// What a proxy is steered by while it serves.
+/// The means by which a running proxy is steered.
 #[derive(Debug, PartialEq, Eq, Drop)]
 pub struct ControlWords {
-    /// Where its control socket is. None: it has none.
+    /// The path of the control socket. `None`: there is none.
     pub path: Option<String>,
-    /// It stops in an orderly way when standard input ends.
+    /// The proxy stops in an orderly way when standard input ends.
     pub ends_with_input: bool,
 }
 
-/// What a proxy is told on its control socket.
+/// The command that a proxy is sent on its control socket.
 #[derive(Debug, PartialEq, Eq, Drop)]
 pub struct Order {
     pub path: String,
@@ -46,7 +46,7 @@ The statuses: 0; 1 no proxy listens there, or the answer begins with error:; 2 t
 
 For example, dueproxy ctl /run/dueproxy.sock drain a --wait";
 
-/// The words of `run` that say what it is steered by.
+/// Adds the options for steering to the command `run`.
 pub(crate) fn with_controls<'a>(
     alloc: Global,
     command: Command<'a>,
@@ -63,7 +63,7 @@ pub(crate) fn with_controls<'a>(
     command.arg(control)?.arg(stop)
 }
 
-/// The words of `ctl`.
+/// Returns the command `ctl`.
 pub(crate) fn ctl<'a>(alloc: Global) -> Result<Command<'a>, AllocError> {
     let about = "Tells a proxy that runs something, or asks it, on its control socket";
     let path = Arg::new(alloc, "PATH")
@@ -80,7 +80,7 @@ pub(crate) fn ctl<'a>(alloc: Global) -> Result<Command<'a>, AllocError> {
     told(alloc, "ctl", about, HELP).arg(path)?.arg(command)
 }
 
-/// What the words of `run` say of it.
+/// Returns what the options of `run` say of its steering.
 pub(crate) fn controls_of(alloc: Global, words: &ArgMatches) -> Result<ControlWords, AllocError> {
     let path = match words.get_str("control") {
         None => None,
@@ -92,7 +92,7 @@ pub(crate) fn controls_of(alloc: Global, words: &ArgMatches) -> Result<ControlWo
     })
 }
 
-/// What the words of `ctl` say.
+/// Returns what the arguments of `ctl` say.
 pub(crate) fn order_of(alloc: Global, words: &ArgMatches) -> Result<Order, AllocError> {
     let path = String::from_str(alloc, words.get_str("PATH").unwrap_or_default())?;
     let mut all = Vec::new(alloc);

@@ -1,4 +1,4 @@
-//! The words of `run` that say where it is asked how it goes.
+//! The options of `run` for its admin address.
 
 ghost use Rattle.std.specs.Prelude.{◌≡◌, false, IfOk, IfErr};
 ghost use Rattle.std.specs.Net.Grammar.{IsSocketText};
@@ -8,21 +8,21 @@ use clap::{Arg, ArgAction, ArgMatches, Command};
 use std::alloc::{AllocError, Global};
 use std::net::SocketAddr;
 
-/// Where a proxy is asked how it goes.
+/// The admin address of a proxy.
 #[derive(Debug, PartialEq, Eq, Drop)]
 pub struct AdminWords {
-    /// The address, as it was given. None: nowhere.
+    /// The address as it was given. `None`: there is none.
     pub address: Option<String>,
-    /// It may be one that other machines reach.
+    /// Other machines may reach the address.
     pub is_open: bool,
 }
 
-/// Why a word is no address to be asked at.
+/// Why a word is refused as an admin address.
 #[derive(Clone, Copy, Debug, PartialEq, Eq)]
 pub enum AdminFault {
-    /// It is no IP address with a port.
+    /// It isn't an IP address with a port.
     NoAddress,
-    /// Other machines may reach it, and that wasn't allowed.
+    /// Other machines may reach it, and the option that allows that is missing.
     Reached,
 }
 
@@ -31,7 +31,7 @@ const ADMIN: &str =
 
 const OPEN: &str = "Lets --admin have an address that other machines reach: anybody may look";
 
-/// The words of `run` that say where it is asked how it goes.
+/// Adds the options for the admin address to the command `run`.
 pub(crate) fn with_admin<'a>(
     alloc: Global,
     command: Command<'a>,
@@ -48,7 +48,7 @@ pub(crate) fn with_admin<'a>(
     command.arg(admin)?.arg(open)
 }
 
-/// What the words of `run` say of it.
+/// Returns what the options of `run` say of the admin address.
 pub(crate) fn admin_of(alloc: Global, words: &ArgMatches) -> Result<AdminWords, AllocError> {
     let address = match words.get_str("admin") {
         None => None,
@@ -60,7 +60,7 @@ pub(crate) fn admin_of(alloc: Global, words: &ArgMatches) -> Result<AdminWords, 
     })
 }
 
-/// The address that a word is: one of this machine alone, where others aren't allowed.
+/// Returns the address that a word names: a loopback address, unless others are allowed.
 pub fn admin_address(word: &str, is_open: bool) -> Result<SocketAddr, AdminFault>
     ensures address { IfOk result (λ address. IsSocketText word.now address) }
     ensures near { IfOk result (λ address. is_open ≡ false → IsOfMachine address) }

@@ -11,14 +11,14 @@ use due_key::Class;
 use proxy_words::{long_number, signed_long_number};
 use std::alloc::{AllocError, Global};
 
-/// The queue's name and the class that a picture is to show alone.
+/// The name of the queue and the class to which a picture is limited.
 #[derive(Debug, PartialEq, Eq, Drop)]
 pub struct Only {
     pub queue: String,
     pub class: Class,
 }
 
-/// What a proxy has beside its clients and servers.
+/// The parts of a proxy beside its clients and servers.
 #[derive(Debug, PartialEq, Eq, Drop)]
 pub struct Beside {
     pub controls: ControlWords,
@@ -26,32 +26,32 @@ pub struct Beside {
     pub admin: AdminWords,
 }
 
-/// What the words of the command line ask for.
+/// What the command line asks for.
 #[derive(Debug, PartialEq, Eq, Drop)]
 pub enum Asked {
-    /// Serve as the configuration in the file of this name says, with so many of each.
+    /// Serve as the configuration in the file with this name says, with these sizes.
     Run(String, Numbers, Beside),
-    /// Run the script.
+    /// Run a script.
     Replay(Input),
-    /// Show the proxy at work; whether it then goes on.
+    /// Show the proxy at work; the flag says whether it goes on afterwards.
     Demo(bool),
-    /// Look at the configuration in the file of this name.
+    /// Check the configuration in the file with this name.
     Check(String),
-    /// The same, with every faulty line and what takes its place.
+    /// Check it, and explain every faulty line and its replacement.
     Explain(String),
-    /// Draw the script or the trace, of all or of one queue and class.
+    /// Draw a script or a trace: all of it, or one queue and class.
     Draw(Input, Option<Only>),
     /// Tell the story of this ticket.
     Tell(Input, u64),
-    /// Make of HAProxy's configuration one of this proxy's.
+    /// Convert a configuration of HAProxy to one of this proxy.
     Convert(Sections),
-    /// Tell or ask a proxy that runs.
+    /// Send a command to a running proxy.
     Control(Order),
-    /// Nothing more: help was printed, or a fault in the words, and this is the status.
+    /// Nothing more: help or an error was printed, and this is the exit status.
     Nothing(u8),
 }
 
-/// Reads the words, the program's name first, and prints help or what is wrong with them.
+/// Reads the words of the command line, the program's name first, and prints help or what is wrong with them.
 pub fn ask(rt: &(impl Print + Eprint + AllocGlobal), words: &[String]) -> Asked {
     match commands(rt.alloc()) {
         Ok(command) => asked_from(rt, command, words),
@@ -73,12 +73,12 @@ fn asked_from<'a>(
 fn asked_by(rt: &(impl Eprint + AllocGlobal), matches: &ArgMatches) -> Asked {
     match matches.subcommand() {
         Some((name, words)) => asked_of(rt, name, words),
-        // clap wants a subcommand.
+        // clap refuses a command line without a subcommand.
         None => Asked::Nothing(2),
     }
 }
 
-// What the words of a subcommand ask for.
+// Returns what the arguments of a subcommand ask for.
 fn asked_of(rt: &(impl Eprint + AllocGlobal), name: &str, words: &ArgMatches) -> Asked {
     match name {
         "run" => run_of(rt, words),
@@ -146,7 +146,7 @@ fn check_of(rt: &(impl Eprint + AllocGlobal), words: &ArgMatches) -> Asked {
     }
 }
 
-// All, or the two words behind `--of`.
+// A drawing of all, or of the queue and class after `--of`.
 fn draw_of(rt: &(impl Eprint + AllocGlobal), words: &ArgMatches) -> Asked {
     let Ok(input) = input_of(rt.alloc(), words) else {
         return no_memory(rt);
@@ -177,7 +177,7 @@ fn tell_of(rt: &(impl Eprint + AllocGlobal), words: &ArgMatches) -> Asked {
     }
 }
 
-// Prints help or what is wrong with the words.
+// Prints help or the error.
 fn refuse(rt: &(impl Print + Eprint + AllocGlobal), error: Error) -> Asked {
     if error.kind() == ErrorKind::OutOfMemory {
         return no_memory(rt);
@@ -186,7 +186,7 @@ fn refuse(rt: &(impl Print + Eprint + AllocGlobal), error: Error) -> Asked {
     Asked::Nothing(if error.exit_code() == 0 { 0 } else { 2 })
 }
 
-// Says that there is no memory.
+// Says that memory is short.
 fn no_memory(rt: &impl Eprint) -> Asked {
     let _ = rt.eprintln("no memory");
     Asked::Nothing(1)

@@ -1,8 +1,9 @@
-//! What is said of a faulty line: its cause in a sentence, and what takes the place of HAProxy's keywords that the profile leaves out.
+//! Explanations of faulty lines: the cause in a sentence, and the replacement for HAProxy's
+//! keywords that the profile leaves out.
 
 use proxy_config::FaultCause;
 
-/// The cause in a sentence, of a line that begins with this word.
+/// Returns the sentence for a cause, of a line that begins with this word.
 pub(crate) fn sentence(cause: FaultCause, first: &[u8]) -> &'static str {
     match cause {
         FaultCause::Quoting =>
@@ -25,7 +26,7 @@ pub(crate) fn sentence(cause: FaultCause, first: &[u8]) -> &'static str {
     }
 }
 
-/// Keywords of HAProxy that the profile leaves out, and what takes their place.
+/// HAProxy's keywords that the profile leaves out, and their replacements.
 const KEYWORDS: [(&str, &str); 34] = [
     (
         "errorfile",
@@ -144,7 +145,7 @@ const KEYWORDS: [(&str, &str); 34] = [
     ),
 ];
 
-/// The same of the words behind `option`.
+/// The same for the words after `option`.
 const OPTIONS: [(&str, &str); 11] = [
     (
         "forwardfor",
@@ -192,7 +193,7 @@ const OPTIONS: [(&str, &str); 11] = [
     ),
 ];
 
-/// The same of the words behind `http-request`.
+/// The same for the words after `http-request`.
 const ACTIONS: [(&str, &str); 6] = [
     (
         "deny",
@@ -217,7 +218,7 @@ const ACTIONS: [(&str, &str); 6] = [
     ),
 ];
 
-/// What is there once, or has a name of its own.
+/// Lines that may stand only once or need a name of their own.
 const REPEATED: [(&str, &str); 3] = [
     (
         "listen",
@@ -233,7 +234,7 @@ const REPEATED: [(&str, &str); 3] = [
     ),
 ];
 
-/// What tests, conditions and expressions there are.
+/// The tests, conditions and expressions that the profile has.
 const TESTS: [(&str, &str); 3] = [
     (
         "acl",
@@ -249,7 +250,7 @@ const TESTS: [(&str, &str); 3] = [
     ),
 ];
 
-/// Words that have others beside them in HAProxy, and which ones are there.
+/// Words that are one of several in HAProxy, and those of them that the profile has.
 const CHOICES: [(&str, &str); 7] = [
     (
         "option",
@@ -278,7 +279,7 @@ const CHOICES: [(&str, &str); 7] = [
     ),
 ];
 
-/// What takes the place of a line that begins with these words, or where there is none, what there is.
+/// Returns the replacement for a line that begins with these words, or what the profile has where there is none.
 pub(crate) fn advice(
     cause: FaultCause,
     first: &[u8],
@@ -313,12 +314,12 @@ pub(crate) fn advice(
     }
 }
 
-/// Whether a line that begins so has words of HAProxy's that the profile leaves out.
+/// Says whether a line that begins so is one of HAProxy's that the profile leaves out.
 pub(crate) fn has_own_advice(first: &[u8], second: &[u8]) -> bool {
     advice_behind(first, second).is_some() || found(&KEYWORDS, first).is_some()
 }
 
-// What takes the place of an option or an action.
+// Returns the replacement for an option or an action.
 fn advice_behind(first: &[u8], second: &[u8]) -> Option<&'static str> {
     if is(first, "option") {
         found(&OPTIONS, second)

@@ -1,7 +1,8 @@
-//! `check --explain`: every faulty line of a configuration, and what takes its place.
+//! `check --explain`: every faulty line of a configuration, and its replacement.
 //!
-//! What is faulty is asked of the configuration's own reader. A line that it names is set right as the explanation says, by
-//! leaving it out or by putting its section into the one `listen`, and the file is read again.
+//! The configuration's own reader finds the faults. A line that it names is corrected as the
+//! explanation says, by leaving it out or by moving its section into the one `listen`, and the file
+//! is read again.
 
 ghost use Rattle.std.specs.Prelude.{◌↔◌, IfOk, IsNone, IsOk, IsTrue};
 ghost use Rattle.proxy_config.specs.File.{reading};
@@ -14,24 +15,24 @@ use proxy_config::{ConfigFault, FaultCause, MOST_BYTES, ReadError, read};
 use proxy_words::{Lines, Words, without_comment};
 use std::alloc::{AllocError, Global};
 
-/// The most faulty lines that are named: each of them costs some readings of the file.
+/// The most faulty lines that are named: each of them costs several readings of the file.
 const MOST_FAULTS: usize = 1000;
 
-/// The most words of a line among which the one at fault is looked for.
+/// The most words of a line that are searched for the one at fault.
 const MOST_WORDS: usize = 64;
 
-/// What there is to say of a configuration.
+/// The explanation of a configuration.
 #[derive(Debug, Drop)]
 pub struct Explanation {
     pub text: String,
-    /// How many lines would have to change.
+    /// The number of lines that would have to change.
     pub faulty: usize,
-    /// Whether nothing is wrong.
+    /// The configuration has no fault.
     pub whole: bool,
 }
 
-/// Names every faulty line, up to a thousand. In the worst case it reads the file anew for each of the first 63 words of a faulty line,
-/// and twice more; fails only where memory is refused.
+/// Explains every faulty line, up to a thousand. At worst it reads the file again for each of the
+/// first 63 words of a faulty line, and twice more. Fails only where memory is refused.
 pub fn explain(alloc: Global, bytes: &[u8]) -> Result<Explanation, AllocError>
     ensures whole { IfOk result (λ told. IsTrue told.whole ↔ IsOk (reading bytes.now)) }
 {
@@ -49,7 +50,7 @@ pub fn explain(alloc: Global, bytes: &[u8]) -> Result<Explanation, AllocError>
     })
 }
 
-// What is said of each faulty line, and how many there are.
+// Writes the explanation of each faulty line, and returns how many there are.
 fn push_faults(alloc: Global, text: &mut String, bytes: &[u8]) -> Result<usize, AllocError> {
     if MOST_BYTES < bytes.len() {
         text.push_str("The file is longer than 1048576 bytes.\n")?;
@@ -105,7 +106,7 @@ fn fault_of(alloc: Global, bytes: &[u8]) -> Result<Option<ConfigFault>, AllocErr
     }
 }
 
-/// The fault of the file where a line has its first words alone.
+/// Returns the fault of the file where the line is cut to its first words.
 fn fault_of_front(
     alloc: Global,
     lines: &[Vec<u8>],
@@ -123,7 +124,7 @@ fn fault_of_front(
     fault_of(alloc, &bytes)
 }
 
-/// What ends a line so that it is read as it was: a carriage return right before a line feed is none of the line's.
+/// The line's end that keeps its meaning: a carriage return right before a line feed doesn't belong to the line.
 fn line_end(line: &[u8]) -> &'static [u8] {
     if line.ends_with(b"\r".as_slice()) {
         b"\r\n".as_slice()
@@ -132,12 +133,12 @@ fn line_end(line: &[u8]) -> &'static [u8] {
     }
 }
 
-/// Where a fault stands among the lines.
+/// Returns the line number of a fault.
 fn place_of(fault: ConfigFault) -> usize {
     (fault.line as usize).saturating_sub(1)
 }
 
-/// Leaves the line out, but for a front of it that says enough; or puts a section into the one `listen`.
+/// Leaves the line out, keeps its valid beginning, or moves a section into the one `listen`.
 fn set_right(
     alloc: Global,
     lines: &mut Vec<Vec<u8>>,
@@ -156,8 +157,9 @@ fn set_right(
     Ok(())
 }
 
-/// What stands for a refused section's first line. So that its lines are read as the `listen`'s, what has ended that goes; and where
-/// they can't be, they go themselves.
+/// Returns what replaces a refused section's first line. The line that ended the `listen` before
+/// goes, so that the section's lines belong to the `listen`; where that can't be, the section's
+/// lines go.
 fn merge(alloc: Global, lines: &mut Vec<Vec<u8>>, at: usize) -> Result<Vec<u8>, AllocError> {
     let merged = lines
         .get(at)
@@ -178,7 +180,7 @@ fn merge(alloc: Global, lines: &mut Vec<Vec<u8>>, at: usize) -> Result<Vec<u8>, 
     Ok(Vec::new(alloc))
 }
 
-/// Where the section after this one begins.
+/// Returns the place where the next section begins.
 fn next_section(lines: &[Vec<u8>], at: usize) -> usize {
     for (i, line) in lines.iter().enumerate() {
         if at < i && is_section(first_word(line)) {
@@ -188,7 +190,8 @@ fn next_section(lines: &[Vec<u8>], at: usize) -> usize {
     lines.len()
 }
 
-/// Where another section has ended the `listen` before this line; this line where none has.
+/// Returns the place where another section has ended the `listen` before this line; this line's own
+/// place where none has.
 fn left_at(lines: &[Vec<u8>], at: usize) -> usize {
     let mut inside = false;
     for (i, line) in lines.iter().enumerate() {
@@ -209,10 +212,11 @@ fn leave_out(alloc: Global, lines: &mut [Vec<u8>], start: usize, end: usize) {
     }
 }
 
-/// Lines of which a front says enough where words behind it are at fault.
+/// Lines whose beginning is valid without the words at fault.
 const FRONTS: [&str; 5] = ["bind", "server", "listen", "defaults", "global"];
 
-/// What stands for a faulty line: the words before the one at fault, where those are enough, or nothing. A `listen` stays one.
+/// Returns what replaces a faulty line: the words before the one at fault where they are enough, or
+/// nothing. A `listen` stays one.
 fn front_instead(
     alloc: Global,
     lines: &[Vec<u8>],
@@ -251,7 +255,8 @@ fn word_at(line: &[u8], place: usize) -> &[u8] {
     words.next().unwrap_or(b"".as_slice())
 }
 
-/// Writes a line with its number, marks the word at fault, and says what is wrong, what may have been meant and what takes its place.
+/// Writes a line with its number, marks the word at fault, and tells the cause, the word that may
+/// have been meant and the replacement.
 fn describe(
     alloc: Global,
     text: &mut String,
@@ -276,7 +281,7 @@ fn describe(
     text.push('\n')
 }
 
-/// Writes which known word may have been meant by an unknown one, where HAProxy knows it neither.
+/// Writes the known word that may have been meant by an unknown one, where HAProxy doesn't know it either.
 fn push_meant(
     alloc: Global,
     text: &mut String,
@@ -297,10 +302,11 @@ fn push_meant(
     }
 }
 
-/// The place of the word at fault among a line's words; none where the line ends too early.
+/// Returns the place of the word at fault among a line's words; `None` where the line ends too early.
 ///
-/// Words are read from the left. So the word is the last of the shortest front of the line that has the fault; and where there
-/// are too many, the first behind the longest front that hasn't.
+/// Words are read from the left. So the word is the last one of the shortest beginning of the line
+/// that has the fault; where the line has too many words, it is the first one after the longest
+/// beginning without the fault.
 fn word_at_fault(
     alloc: Global,
     lines: &[Vec<u8>],
@@ -326,7 +332,7 @@ fn word_at_fault(
     Ok(fine)
 }
 
-/// A line up to the end of so many of its words; None where it has fewer, or none is asked for.
+/// Returns the line up to the end of its first `words` words; `None` where it has fewer, or `words` is 0.
 fn front_of(line: &[u8], words: usize) -> Option<&[u8]> {
     let Span { end, .. } = span_of(without_comment(line), words.checked_sub(1)?)?;
     line.get(..end)

@@ -1,4 +1,4 @@
-//! Lines that are taken and have no effect.
+//! Lines that the configuration's reader accepts and that have no effect.
 
 use crate::sections::{is_global, is_section};
 use line_advice::push_printable;
@@ -10,7 +10,7 @@ const MOST_KINDS: usize = 64;
 
 const LOG: &str = "no log is sent to a log server";
 
-/// Words of `global`, and why they have no effect.
+/// Words of `global` that have no effect, and why.
 const GLOBALS: [(&str, &str); 9] = [
     ("daemon", "the program stays in the foreground"),
     ("user", "the program stays with the user who started it"),
@@ -23,10 +23,11 @@ const GLOBALS: [(&str, &str); 9] = [
     ("log", LOG),
 ];
 
-/// The same of other sections.
+/// The same for other sections.
 const OTHERS: [(&str, &str); 3] = [("log", LOG), ("httplog", LOG), ("dontlognull", LOG)];
 
-/// Names each kind of line that is taken and has no effect, once, where it stands first; nothing where there is none.
+/// Names each kind of line that is accepted and has no effect, once, where it first stands. The
+/// text is empty where there is none.
 pub fn idle_lines(alloc: Global, bytes: &[u8]) -> Result<String, AllocError> {
     let mut text = String::new(alloc);
     let mut kinds = Vec::new(alloc);
@@ -51,7 +52,7 @@ pub fn idle_lines(alloc: Global, bytes: &[u8]) -> Result<String, AllocError> {
 struct Kind<'a> {
     word: &'a [u8],
     reason: &'static str,
-    /// What stands before and behind the word.
+    /// The text before and after the word.
     around: (&'static str, &'static str),
 }
 

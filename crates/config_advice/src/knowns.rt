@@ -1,4 +1,4 @@
-//! The words that may stand at a place, and the one that may have been meant by another.
+//! The words that may stand at a place, and the one that may have been meant by an unknown word.
 
 use line_advice::nearest;
 use std::alloc::{AllocError, Global};
@@ -33,7 +33,7 @@ const SETTINGS: [&str; 7] = [
 
 const ACTIONS: [&str; 2] = ["set-priority-class", "set-priority-offset"];
 
-/// The known word that may have been meant by a word at this place of a line that begins so; None where none is near.
+/// Returns the known word that may have been meant at this place of a line; `None` where none is near.
 pub(crate) fn meant(
     alloc: Global,
     first: &[u8],

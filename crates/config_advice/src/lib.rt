@@ -1,4 +1,4 @@
-//! What `check --explain` says of a configuration: every faulty line, what takes its place, and which lines have no effect.
+//! The explanations of `check --explain`: every faulty line and its replacement, and the lines without effect.
 #![tactic(auto)]
 
 mod advising;

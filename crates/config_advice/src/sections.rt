@@ -1,9 +1,9 @@
-//! Words that begin a section.
+//! The words that begin a section.
 
-/// Sections that `listen` takes the place of.
+/// The sections that `listen` replaces.
 const MERGED: [&str; 3] = ["frontend", "backend", "listen"];
 
-/// All others that the configuration's reader knows.
+/// All other sections that the configuration's reader knows.
 const SECTIONS: [&str; 7] = [
     "global",
     "defaults",
@@ -14,17 +14,17 @@ const SECTIONS: [&str; 7] = [
     "program",
 ];
 
-/// Whether the lines of a section that begins so are read as the one `listen`'s.
+/// Says whether the lines of a section that begins so are read as the `listen`'s.
 pub(crate) fn is_merged(word: &[u8]) -> bool {
     is_one_of(&MERGED, word)
 }
 
-/// Whether it is another section.
+/// Says whether the word begins another section.
 pub(crate) fn is_other(word: &[u8]) -> bool {
     is_one_of(&SECTIONS, word)
 }
 
-/// Whether a section begins so.
+/// Says whether the word begins a section.
 pub(crate) fn is_section(word: &[u8]) -> bool {
     is_merged(word) || is_other(word)
 }
@@ -33,7 +33,7 @@ pub(crate) fn is_global(word: &[u8]) -> bool {
     word == b"global".as_slice()
 }
 
-/// Whether a word is one of these.
+/// Says whether a word is one of these.
 pub(crate) fn is_one_of(words: &[&'static str], word: &[u8]) -> bool {
     words.iter().any(|name| word == name.as_bytes())
 }

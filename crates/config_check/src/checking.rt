@@ -11,7 +11,7 @@ use std::rt::Files;
 use std::{fs, io};
 use thiserror::Error;
 
-/// What a look at a configuration came to.
+/// The result of a check.
 #[derive(Clone, Copy, Debug, PartialEq, Eq, Error)]
 pub enum Checked {
     #[error("ok servers {0}")]
@@ -24,15 +24,16 @@ pub enum Checked {
     Unread,
 }
 
-/// What is said on standard error beside the line of a check.
+/// What is written to standard error beside the result.
 #[derive(Clone, Copy, Debug, PartialEq, Eq)]
 pub enum Beside {
     Nothing,
-    /// Every faulty line and what takes its place, and which lines have no effect.
+    /// Every faulty line and its replacement, and the lines without effect.
     Advice,
 }
 
-/// Looks at the configuration in a file, prints what it is, and answers the status: 0, 3 where the configuration is faulty, 1 where anything else went wrong.
+/// Checks the configuration in a file, prints the result, and returns the exit status: 0, 3 where
+/// the configuration is faulty, 1 where anything else went wrong.
 pub fn check<R: Files + Print + Eprint + AllocGlobal>(rt: &R, file: &str, beside: Beside) -> u8 {
     let bytes = match read_file(rt, file) {
         Ok(bytes) => bytes,
@@ -46,7 +47,8 @@ pub fn check<R: Files + Print + Eprint + AllocGlobal>(rt: &R, file: &str, beside
     status
 }
 
-/// The same, with every faulty line and what takes its place before it, and on standard error which lines have no effect.
+/// The same, with every faulty line and its replacement before the result, and the lines without
+/// effect on standard error.
 pub fn check_in_full<R: Files + Print + Eprint + AllocGlobal>(rt: &R, file: &str) -> u8 {
     let bytes = match read_file(rt, file) {
         Ok(bytes) => bytes,
@@ -67,21 +69,21 @@ pub fn check_in_full<R: Files + Print + Eprint + AllocGlobal>(rt: &R, file: &str
     status
 }
 
-/// Says on standard error what is wrong with a configuration, and what takes its place.
+/// Writes the faults of a configuration and their replacements to standard error.
 pub fn say_faults(rt: &(impl Eprint + AllocGlobal), bytes: &[u8]) {
     if let Ok(explained) = explain(rt.alloc(), bytes) {
         let _ = rt.eprint(explained.text.as_str());
     }
 }
 
-// Says on standard error which lines have no effect.
+// Writes the lines without effect to standard error.
 fn warn(rt: &(impl Eprint + AllocGlobal), bytes: &[u8]) {
     if let Ok(text) = idle_lines(rt.alloc(), bytes) {
         let _ = rt.eprint(text.as_str());
     }
 }
 
-// Says that a file can't be read, and why; or that there is no memory for it.
+// Says why a file can't be read, or that there is no memory for it.
 fn say_unread(rt: &(impl Print + Eprint), file: &str, error: Error) -> u8 {
     if error.kind() == ErrorKind::OutOfMemory {
         return print(rt, Checked::NoMemory);
@@ -91,7 +93,7 @@ fn say_unread(rt: &(impl Print + Eprint), file: &str, error: Error) -> u8 {
     status
 }
 
-// The explanation, and how many lines would have to change.
+// Prints the explanation, and the number of lines that would have to change.
 fn print_all(rt: &(impl Print + Eprint), faulty: usize, text: &str) -> u8 {
     if rt.print(text).is_err() || println!(rt; "lines to change: {faulty}").is_err() {
         let _ = rt.eprintln("write fault");
@@ -100,7 +102,7 @@ fn print_all(rt: &(impl Print + Eprint), faulty: usize, text: &str) -> u8 {
     3
 }
 
-/// All bytes of a file.
+/// Reads all bytes of a file.
 pub fn read_file<R: Files + AllocGlobal>(rt: &R, file: &str) -> io::Result<Vec<u8>> {
     let mut opened = fs::open(rt, file)?;
     let mut bytes = Vec::new(rt.alloc());
@@ -118,7 +120,7 @@ fn check_bytes(alloc: Global, bytes: &[u8]) -> Checked
     }
 }
 
-// What was asked for goes to standard output, other faults to standard error.
+// Prints the result to standard output, and other errors to standard error.
 fn print(rt: &(impl Print + Eprint), checked: Checked) -> u8 {
     let printed = match checked {
         Checked::Good(_) | Checked::Faulty(_) => rt.println(checked),
@@ -131,7 +133,7 @@ fn print(rt: &(impl Print + Eprint), checked: Checked) -> u8 {
     status_of(checked)
 }
 
-/// The status that a look ends with.
+/// Returns the exit status of a check.
 pub fn status_of(checked: Checked) -> u8
     ensures { result ≡ status_of_check checked }
 {

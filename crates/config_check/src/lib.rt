@@ -1,4 +1,5 @@
-//! What `check` says of a configuration: how many servers it has, its first faulty line, or every faulty line and what takes its place.
+//! What `check` reports of a configuration: its number of servers, its first faulty line, or every
+//! faulty line and its replacement.
 #![tactic(auto)]
 
 mod checking;

@@ -1,4 +1,4 @@
--- The status that a conversion ends with.
+-- The exit status of a conversion.
 use Rattle.std.specs.Prelude.{ℕ, List, [], ◌∷◌, Result, Ok, Err}
 use Rattle.config_convert.specs.declared.settling.Conversion.{Conversion}
 use Rattle.config_convert.specs.declared.settling.Unconverted.{Unconverted}
@@ -10,7 +10,7 @@ abbrev pub status_of_notes : List Note → ℕ
 status_of_notes [] = 0
 status_of_notes (note ∷ notes) = 6
 
--- 1 where memory was refused, and else 3
+-- 1 where memory is refused, else 3
 abbrev pub status_of_failure : Unconverted → ℕ
 status_of_failure NoMemory = 1
 status_of_failure _ = 3

@@ -1,4 +1,4 @@
-//! The ACLs of a section, and what they are named where two sections are joined.
+//! The ACLs of a section, and their names where two sections are joined.
 
 use crate::conditions::test_of;
 use crate::lines::Line;
@@ -6,13 +6,13 @@ use crate::sections::Section;
 use proxy_words::is_name;
 use std::alloc::{AllocError, Global};
 
-/// Names that are given, so that nothing else is named so.
+/// The names that are in use, so that none is used twice.
 #[derive(Drop)]
 pub(crate) struct Names {
     given: Vec<Vec<u8>>,
 }
 
-/// The most bytes of a name of which a further one is made.
+/// The most bytes of a name from which another one is made.
 const MOST_STEM: usize = 24;
 
 impl Names {
@@ -26,7 +26,7 @@ impl Names {
         self.given.iter().any(|other| other.as_slice() == name)
     }
 
-    /// The name itself where it can be had, or else another one that begins like it.
+    /// Returns the wished name where it is free, or else another one that begins like it.
     pub(crate) fn give(&mut self, alloc: Global, wished: &[u8]) -> Result<Vec<u8>, AllocError> {
         let mut name = Vec::from_slice(alloc, wished)?;
         for number in 2..u32::MAX {
@@ -48,12 +48,12 @@ impl Names {
     }
 }
 
-// A word of conditions can't be an ACL's name.
+// Says whether a name is a word of conditions, which an ACL can't have as its name.
 fn is_reserved(name: &[u8]) -> bool {
     name == b"or".as_slice()
 }
 
-/// An ACL, and what it is named in the listen; None where one of its lines has no place there.
+/// An ACL and its name in the `listen`; `None` where one of its lines can't stand there.
 #[derive(Drop)]
 struct Acl {
     old: Vec<u8>,
@@ -67,7 +67,7 @@ pub(crate) struct Acls {
 }
 
 impl Acls {
-    /// Those of a section, by names that are given here.
+    /// Collects a section's ACLs, with names that are free here.
     pub(crate) fn new(
         alloc: Global,
         section: &Section,
@@ -90,7 +90,7 @@ impl Acls {
         Ok(all)
     }
 
-    /// The line of an ACL in the profile's words; None where it has no place in the listen.
+    /// Returns the line of an ACL in the profile's words; `None` where it can't stand in the `listen`.
     pub(crate) fn line_of(
         &self,
         alloc: Global,
@@ -113,7 +113,7 @@ impl Acls {
         self.acls.iter().any(|acl| acl.old.as_slice() == name)
     }
 
-    /// What an ACL is named in the listen.
+    /// Returns an ACL's name in the `listen`.
     pub(crate) fn named(&self, name: &[u8]) -> Option<&[u8]> {
         let acl = self.acls.iter().find(|acl| acl.old.as_slice() == name)?;
         match &acl.new {
@@ -123,7 +123,7 @@ impl Acls {
     }
 }
 
-// Whether each line of an ACL can stand in the listen.
+// Says whether each line of an ACL can stand in the `listen`.
 fn is_whole(alloc: Global, section: &Section, name: &[u8]) -> Result<bool, AllocError> {
     for line in section.lines.iter() {
         if line.word(0) == b"acl".as_slice() && line.word(1) == name && !is_plain(alloc, line)? {

@@ -1,4 +1,4 @@
-//! Where clients connect.
+//! The addresses where clients connect.
 
 use crate::lines::Line;
 use proxy_words::number;
@@ -7,12 +7,12 @@ use std::alloc::{AllocError, Global};
 /// An address of a `bind` line.
 #[derive(Debug, Drop)]
 pub(crate) struct Place {
-    /// As the profile has it.
+    /// The address in the profile's form.
     pub(crate) text: Vec<u8>,
     pub(crate) port: u32,
 }
 
-/// The first address of a `bind` line that the profile has; None where it has none of them.
+/// Returns the first address of a `bind` line that the profile allows; `None` where it allows none.
 pub(crate) fn place_of(alloc: Global, line: &Line) -> Result<Option<Place>, AllocError> {
     if line.is_odd {
         return Ok(None);
@@ -34,7 +34,7 @@ pub(crate) fn is_list(line: &Line) -> bool {
     line.word(1).contains(&b',')
 }
 
-/// Whether clients have to speak TLS or PROXY at a `bind` line.
+/// Says whether a `bind` line requires clients to speak TLS or the PROXY protocol.
 pub(crate) fn is_wrapped(line: &Line) -> bool {
     line.words.iter().any(|word| is_wrapping(word.as_slice()))
 }
@@ -61,7 +61,7 @@ fn place_at(alloc: Global, address: &[u8], families: bool) -> Result<Option<Plac
     Ok(Some(Place { text, port }))
 }
 
-// An IPv4 address, or one that stands for all of them.
+// Returns an IPv4 address, or one that stands for all addresses.
 fn host_of(host: &[u8], families: bool) -> Option<&[u8]> {
     match host {
         b"" | b"*" => Some(b"*".as_slice()),

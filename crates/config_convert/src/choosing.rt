@@ -1,17 +1,17 @@
-//! Which sections are joined.
+//! The choice of the sections that are joined.
 
 use crate::sections::{Kind, Section, is_tcp};
 use crate::settling::Unconverted;
 use std::alloc::Global;
 
-/// Where clients come in, and where the servers are: the same section for a `listen`.
+/// The section where clients connect, and the one with the servers: the same for a `listen`.
 #[derive(Clone, Copy, Debug, PartialEq, Eq)]
 pub(crate) struct Choice {
     pub(crate) front: usize,
     pub(crate) back: usize,
 }
 
-/// The sections that were named, or else the first frontend or listen with servers that isn't of TCP.
+/// Chooses the named sections, or else the first HTTP `frontend` or `listen` that has servers.
 pub(crate) fn choose(
     alloc: Global,
     sections: &[Section],
@@ -56,7 +56,7 @@ fn is_front(section: &Section) -> bool {
     matches!(section.kind, Kind::Frontend | Kind::Listen)
 }
 
-// The section with the servers of this one.
+// Returns the section with the servers of this one.
 fn back_of(sections: &[Section], front: usize, backend: Option<&str>) -> Option<usize> {
     if let Some(name) = backend {
         return backend_named(sections, name.as_bytes());
@@ -125,7 +125,7 @@ fn no_back(
     }
 }
 
-// The names of the sections where clients come in, or of those with servers.
+// Returns the names of the sections where clients connect, or of those with servers.
 fn names_of(alloc: Global, sections: &[Section], fronts: bool) -> Result<String, Unconverted> {
     let mut text = String::new(alloc);
     for section in sections {
@@ -145,7 +145,7 @@ fn names_of(alloc: Global, sections: &[Section], fronts: bool) -> Result<String,
     Ok(text)
 }
 
-/// A name in letters that can be shown.
+/// Returns a name with its unprintable bytes replaced.
 pub(crate) fn named(alloc: Global, bytes: &[u8]) -> Result<String, Unconverted> {
     let mut text = String::new(alloc);
     for byte in bytes {

@@ -1,24 +1,24 @@
-//! Tests and conditions, from HAProxy's words to those of the profile.
+//! Tests and conditions, translated from HAProxy's words to the profile's.
 
 use crate::acls::Acls;
 use crate::lines::words_of;
 use std::alloc::{AllocError, Global};
 
-/// Methods that HAProxy knows by their names.
+/// The methods that HAProxy knows by name.
 const METHODS: [&str; 8] = [
     "OPTIONS", "GET", "HEAD", "POST", "PUT", "DELETE", "TRACE", "CONNECT",
 ];
 
-/// What the words of a test are looked for.
+/// What the next word of a test is read as.
 #[derive(Clone, Copy, Debug, PartialEq, Eq)]
 enum Stage {
     Flags,
-    /// The way of matching, behind `-m`.
+    /// The matching method after `-m`.
     Matching,
     Values,
 }
 
-/// The words of a test.
+/// The parts of a test.
 #[derive(Drop)]
 struct Parts<'a> {
     matching: &'a [u8],
@@ -28,7 +28,7 @@ struct Parts<'a> {
 }
 
 impl<'a> Parts<'a> {
-    // Takes a word in; whether the profile has it there.
+    // Takes a word. Says whether the profile allows it there.
     fn take(&mut self, alloc: Global, word: &'a [u8]) -> Result<bool, AllocError> {
         match (self.stage, word) {
             (Stage::Matching, _) => {
@@ -51,7 +51,7 @@ impl<'a> Parts<'a> {
     }
 }
 
-/// The test in the profile's words; None where the profile hasn't got it.
+/// Translates a test; `None` where the profile doesn't have it.
 pub(crate) fn test_of(
     alloc: Global,
     words: &[Vec<u8>],
@@ -76,7 +76,7 @@ pub(crate) fn test_of(
     }
 }
 
-// The words of a test, first the keyword.
+// Returns the words of a test, the keyword first.
 fn joined(
     alloc: Global,
     keyword: Vec<u8>,
@@ -103,7 +103,7 @@ fn joined(
     Ok(Some(all))
 }
 
-// HAProxy compares the methods that it knows by their numbers, so that their letters' case counts.
+// HAProxy compares the methods that it knows by their numbers, so it distinguishes upper and lower case.
 fn is_method(value: &[u8]) -> bool {
     METHODS.iter().any(|name| value == name.as_bytes())
 }
@@ -139,15 +139,15 @@ fn field_of(alloc: Global, criterion: &[u8]) -> Result<Option<Vec<u8>>, AllocErr
     }
 }
 
-/// A condition on its way.
+/// A condition that is being translated.
 #[derive(Drop)]
 struct Condition {
     words: Vec<Vec<u8>>,
-    /// The words of a test in braces, from the first brace on.
+    /// The words of a test in braces, from the opening brace on.
     test: Option<Vec<Vec<u8>>>,
 }
 
-/// A condition in the profile's words; None where the profile hasn't got it.
+/// Translates a condition; `None` where the profile doesn't have it.
 pub(crate) fn condition_of(
     alloc: Global,
     acls: &Acls,
@@ -171,7 +171,7 @@ pub(crate) fn condition_of(
 }
 
 impl Condition {
-    // Takes a word in; whether the profile has it there.
+    // Takes a word. Says whether the profile allows it there.
     fn take(&mut self, alloc: Global, acls: &Acls, word: &[u8]) -> Result<bool, AllocError> {
         if self.test.is_some() {
             return self.take_in_braces(alloc, word);
@@ -227,7 +227,7 @@ impl Condition {
     }
 }
 
-// The ACLs that HAProxy has by itself, as far as the profile can say them.
+// HAProxy's predefined ACLs, as far as the profile can express them.
 fn predefined(name: &[u8]) -> Option<&'static [u8]> {
     match name {
         b"METH_GET" => Some(b"{ method GET HEAD }".as_slice()),

@@ -1,29 +1,29 @@
-//! What HAProxy's keywords that the profile leaves out would have done.
+//! The effects of HAProxy's keywords that the profile leaves out.
 
 use crate::notes::Weight;
 
-/// How much it changes that a word isn't there, and what it would have done.
+/// How much the lack of a word changes, and what the word would have done.
 #[derive(Clone, Copy, Debug)]
 pub(crate) struct Fate {
-    /// None where nothing changes for clients or servers.
+    /// `None` where nothing changes for clients or servers.
     pub(crate) weight: Option<Weight>,
     pub(crate) reason: &'static str,
 }
 
-/// Words of one fate.
+/// Words with the same effect.
 struct Row {
     words: &'static [&'static str],
     fate: Fate,
 }
 
-/// Settings of a server that have so many words behind them.
+/// Settings of a server with this number of words after them.
 struct SettingRow {
     words: &'static [&'static str],
     arguments: usize,
     fate: Fate,
 }
 
-/// Lines by their first word.
+/// Lines, by their first word.
 static KEYWORDS: [Row; 24] = [
     Row {
         words: &[
@@ -232,7 +232,7 @@ static KEYWORDS: [Row; 24] = [
     },
 ];
 
-/// Lines of `option` by their second word.
+/// Lines of `option`, by their second word.
 static OPTIONS: [Row; 13] = [
     Row {
         words: &["forwardfor"],
@@ -376,7 +376,7 @@ static OPTIONS: [Row; 13] = [
     },
 ];
 
-/// Lines of `http-request` by their second word.
+/// Lines of `http-request`, by their second word.
 static ACTIONS: [Row; 5] = [
     Row {
         words: &[
@@ -469,7 +469,7 @@ static ACTIONS: [Row; 5] = [
     },
 ];
 
-/// Lines of `timeout` by their second word.
+/// Lines of `timeout`, by their second word.
 static TIMES: [Row; 5] = [
     Row {
         words: &["http-request"],
@@ -684,13 +684,13 @@ static SETTINGS: [SettingRow; 13] = [
     },
 ];
 
-/// Of words that aren't HAProxy's, or are of a later version.
+/// The effect of words that HAProxy doesn't have, or of a later version.
 const STRANGE: Fate = Fate {
     weight: Some(Weight::Marked),
     reason: "dueproxy convert doesn't know it.",
 };
 
-/// The fate of a line that begins with these two words.
+/// Returns the effect of a line that begins with these two words.
 pub(crate) fn fate_of(first: &[u8], second: &[u8]) -> Fate {
     let found = match first {
         b"option" => found(&OPTIONS, second),
@@ -711,7 +711,7 @@ fn is_among(words: &[&'static str], word: &[u8]) -> bool {
     words.iter().any(|name| word == name.as_bytes())
 }
 
-/// How many words stand behind a setting of a server, and its fate; None where it isn't known.
+/// Returns how many words stand after a setting of a server, and its effect; `None` where it isn't known.
 pub(crate) fn setting_fate(word: &[u8]) -> Option<(usize, Fate)> {
     SETTINGS
         .iter()

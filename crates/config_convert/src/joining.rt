@@ -1,4 +1,4 @@
-//! A frontend, its backend and their defaults as one `listen`.
+//! The joining of a frontend, its backend and their defaults to one `listen`.
 
 use crate::acls::{Acls, Names};
 use crate::binds::{Place, is_list, is_wrapped, place_of};
@@ -60,19 +60,19 @@ const NO_PRIORITY: &str =
 
 const NO_TEST: &str = "Its test isn't there, so rules that name it are left out too.";
 
-/// What is known as lines are taken.
+/// The sections that are joined, and what is known of them while lines are translated.
 #[derive(Drop)]
 struct Joint<'a> {
     sections: &'a [Section],
     choice: Choice,
     servers: Servers,
-    /// The number of the line with the one bind; 0 where there is none.
+    /// The line number of the one `bind`; 0 where there is none.
     bind: usize,
-    /// The line of `balance` that holds; 0 where there is none.
+    /// The line number of the `balance` that holds; 0 where there is none.
     balance: usize,
 }
 
-/// Joins the chosen sections. What is written was not read yet.
+/// Joins the chosen sections. The result hasn't been read by the configuration's reader yet.
 pub(crate) fn join(
     alloc: Global,
     sections: &[Section],
@@ -100,7 +100,7 @@ pub(crate) fn join(
     Ok(output)
 }
 
-// The line of the first address that the profile has, and where clients needn't speak TLS if there is one.
+// Returns the line with the first address that the profile allows, one without TLS where there is one.
 fn bind_of(
     alloc: Global,
     sections: &[Section],
@@ -152,7 +152,7 @@ fn servers_of(
     Servers::new(alloc, section, around)
 }
 
-// The global sections as they stand.
+// Writes the global sections as they are.
 fn push_globals(output: &mut Output, sections: &[Section]) -> Result<(), AllocError> {
     for section in sections {
         if section.kind == Kind::Global {
@@ -186,7 +186,7 @@ fn push_head(output: &mut Output, joint: &Joint) -> Result<(), AllocError> {
     output.add(0, &[b"    balance leastconn".as_slice()])
 }
 
-// The values of the defaults, those on clients of the frontend's and those on servers of the backend's.
+// Writes the values of the defaults: those for clients from the frontend's, those for servers from the backend's.
 fn take_defaults(output: &mut Output, joint: &Joint) -> Result<(), AllocError> {
     let front = defaults_of(joint.sections, joint.choice.front);
     let back = defaults_of(joint.sections, joint.choice.back);
@@ -249,7 +249,7 @@ fn take_line(
     }
 }
 
-// How many words name a line.
+// Returns the number of words that name a line.
 fn label_of(line: &Line) -> usize {
     match line.word(0) {
         b"http-response" | b"http-after-response" | b"tcp-request" | b"tcp-response" => 2,
@@ -257,7 +257,7 @@ fn label_of(line: &Line) -> usize {
     }
 }
 
-// A line that both have.
+// Writes a line that both have.
 fn take_plain(output: &mut Output, line: &Line) -> Result<(), AllocError> {
     if line.is_odd {
         output.comment(line, "One of its words needs quotes, which aren't there.")
@@ -299,7 +299,7 @@ fn take_server(output: &mut Output, joint: &Joint, line: &Line) -> Result<(), Al
     }
 }
 
-// What changes by the words of a server that are left out.
+// Notes the changes that a server's left-out words make.
 fn note_changes(output: &mut Output, server: &Server, line: &Line) -> Result<(), AllocError> {
     for (word, fate) in server.changes.iter() {
         if let Some(weight) = fate.weight {
@@ -394,7 +394,7 @@ fn take_backend(output: &mut Output, joint: &Joint, line: &Line) -> Result<(), A
     }
 }
 
-// Whether the chosen backend is the one of all other requests.
+// Says whether the chosen backend is the default one.
 fn has_default(joint: &Joint) -> bool {
     let Some(section) = joint.sections.get(joint.choice.front) else {
         return false;
@@ -408,7 +408,7 @@ fn has_default(joint: &Joint) -> bool {
         .is_some_and(|line| line.word(1) == chosen)
 }
 
-// The other sections where clients come in.
+// Notes the other sections where clients connect.
 fn note_others(output: &mut Output, joint: &Joint) -> Result<(), AllocError> {
     let Choice { front, back } = joint.choice;
     for (at, section) in joint.sections.iter().enumerate() {
@@ -420,7 +420,7 @@ fn note_others(output: &mut Output, joint: &Joint) -> Result<(), AllocError> {
     Ok(())
 }
 
-// What HAProxy does where the file says nothing.
+// Notes what HAProxy does where the file says nothing.
 fn note_unsaid(output: &mut Output, joint: &Joint) -> Result<(), AllocError> {
     let alloc = output.alloc;
     if value_of(joint.sections, joint.choice.front, b"mode".as_slice()).is_none() {

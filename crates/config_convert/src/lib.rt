@@ -1,7 +1,7 @@
-//! `dueproxy convert`: from a configuration of HAProxy to one that `check` takes, and what changes on the way.
+//! `dueproxy convert`: translates a configuration of HAProxy to one that `check` accepts, and tells what changes.
 //!
-//! A frontend, its backend and their defaults are joined into one `listen`. What is written was read by the configuration's own
-//! reader before it is answered.
+//! A frontend, its backend and their defaults are joined to one `listen`. The configuration's own
+//! reader has accepted the result before it is returned.
 #![tactic(auto)]
 
 mod acls;

@@ -1,4 +1,4 @@
-//! Lines of HAProxy's configurations, with its quotes.
+//! The lines of HAProxy's configurations, with their quotes.
 
 use proxy_words::Words;
 use std::alloc::{AllocError, Global};
@@ -9,14 +9,14 @@ pub(crate) struct Line {
     pub(crate) number: usize,
     /// The line as it stands, without the blanks before it.
     pub(crate) raw: Vec<u8>,
-    /// Its words without their quotes.
+    /// Its words without quotes.
     pub(crate) words: Vec<Vec<u8>>,
-    /// A word can't be written without quotes, or stands for a variable.
+    /// A word needs quotes, or stands for a variable.
     pub(crate) is_odd: bool,
 }
 
 impl Line {
-    /// The line of these bytes; None where it has no words.
+    /// Makes a line of these bytes; `None` where it has no words.
     pub(crate) fn new(
         alloc: Global,
         number: usize,
@@ -40,7 +40,7 @@ impl Line {
         }))
     }
 
-    /// The same once more.
+    /// Returns a copy of the line.
     pub(crate) fn copied(&self, alloc: Global) -> Result<Line, AllocError> {
         Ok(Line {
             number: self.number,
@@ -50,18 +50,18 @@ impl Line {
         })
     }
 
-    /// The word at this place; nothing where there is none.
+    /// Returns the word at this place; an empty one where there is none.
     pub(crate) fn word(&self, place: usize) -> &[u8] {
         word_of(self.words.as_slice(), place)
     }
 
-    /// The words from this place on.
+    /// Returns the words from this place on.
     pub(crate) fn behind(&self, place: usize) -> &[Vec<u8>] {
         self.words.get(place..).unwrap_or(&[])
     }
 }
 
-/// The word at a place of some; nothing where there is none.
+/// Returns the word at a place; an empty one where there is none.
 pub(crate) fn word_of(words: &[Vec<u8>], place: usize) -> &[u8] {
     match words.get(place) {
         Some(word) => word.as_slice(),
@@ -69,7 +69,7 @@ pub(crate) fn word_of(words: &[Vec<u8>], place: usize) -> &[u8] {
     }
 }
 
-/// Copies of some words.
+/// Copies the words.
 pub(crate) fn copied(alloc: Global, words: &[Vec<u8>]) -> Result<Vec<Vec<u8>>, AllocError> {
     let mut all = Vec::new(alloc);
     for word in words {
@@ -78,7 +78,7 @@ pub(crate) fn copied(alloc: Global, words: &[Vec<u8>]) -> Result<Vec<Vec<u8>>, A
     Ok(all)
 }
 
-/// The words of a text that has no quotes.
+/// Returns the words of a text without quotes.
 pub(crate) fn words_of(alloc: Global, text: &[u8]) -> Result<Vec<Vec<u8>>, AllocError> {
     let mut all = Vec::new(alloc);
     for word in Words::new(text) {
@@ -87,17 +87,17 @@ pub(crate) fn words_of(alloc: Global, text: &[u8]) -> Result<Vec<Vec<u8>>, Alloc
     Ok(all)
 }
 
-/// Where the next byte of a line stands.
+/// The state of the splitter before the next byte.
 #[derive(Clone, Copy, Debug, PartialEq, Eq)]
 enum State {
     Plain,
     Double,
     Single,
-    /// Behind a backslash, which stands between double quotes or not.
+    /// After a backslash; the flag says whether it stands between double quotes.
     Escaped(bool),
 }
 
-/// A line that is cut into words.
+/// Cuts a line into words.
 #[derive(Drop)]
 struct Splitter {
     words: Vec<Vec<u8>>,
@@ -119,7 +119,7 @@ impl Splitter {
         }
     }
 
-    // Takes a byte in; whether the line goes on.
+    // Takes a byte. Says whether the line goes on.
     fn take(&mut self, alloc: Global, byte: u8) -> Result<bool, AllocError> {
         match (self.state, byte) {
             (State::Plain, b' ' | b'\t') => self.end_word(alloc)?,
@@ -180,7 +180,7 @@ impl Splitter {
     }
 }
 
-// Whether a byte between quotes means something else without them.
+// Says whether a quoted byte has another meaning without quotes.
 fn needs_quotes(byte: u8) -> bool {
     matches!(byte, b' ' | b'\t' | b'#' | b'"' | b'\'' | b'\\' | b'$')
 }

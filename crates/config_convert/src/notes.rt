@@ -1,29 +1,30 @@
-//! What changes for clients or servers.
+//! The changes for clients or servers.
 
 use std::alloc::{AllocError, Global};
 
-/// How much a change weighs.
+/// The weight of a change.
 #[derive(Clone, Copy, Debug, PartialEq, Eq)]
 pub enum Weight {
-    /// Requests are answered that weren't, or not answered that were, or by others, or in the clear.
+    /// A request is answered that wasn't before, or isn't that was; it is answered by another
+    /// server; or it is sent in clear text.
     Grave,
-    /// Clients or servers see other things, or a client goes to another server.
+    /// Clients or servers see a difference, or a client gets another server.
     Marked,
-    /// How soon, how often or in which words.
+    /// A difference in time, number or wording.
     Slight,
 }
 
-/// What changes, and the lines of the file by which it does; none where the file says nothing of it.
+/// A change and the lines of the file that cause it; no line where the file says nothing of it.
 #[derive(Debug, Drop)]
 pub struct Note {
     pub weight: Weight,
     pub lines: Vec<usize>,
-    /// The words that it is about.
+    /// The words that the note is about.
     pub label: String,
     pub reason: &'static str,
 }
 
-/// Writes a note as a line.
+/// Writes a note as a line of text.
 pub fn push_note(text: &mut String, note: &Note) -> Result<(), AllocError> {
     for (at, line) in note.lines.iter().enumerate() {
         let last = at.saturating_add(1) == note.lines.len();
@@ -44,7 +45,8 @@ pub fn push_note(text: &mut String, note: &Note) -> Result<(), AllocError> {
     text.push('\n')
 }
 
-/// Adds a note behind those that weigh as much, or to the lines of one of the same words and reason where there is one.
+/// Adds a note after those of the same weight. Where there is a note with the same words and
+/// reason, adds the lines to that one.
 pub(crate) fn add_note(
     alloc: Global,
     notes: &mut Vec<Note>,

@@ -1,4 +1,4 @@
-//! What is written: the lines of one `listen`, comments among them, and what changes.
+//! The output of a conversion: the lines of one `listen` with comments, and the changes.
 
 use crate::acls::Names;
 use crate::lines::Line;
@@ -7,21 +7,21 @@ use proxy_config::ConfigFault;
 use proxy_words::Words;
 use std::alloc::{AllocError, Global};
 
-/// A line that is written.
+/// A line of the output.
 #[derive(Debug, Drop)]
 pub(crate) struct Written {
     pub(crate) bytes: Vec<u8>,
-    /// The line of the file that it comes from; 0 where it comes from none.
+    /// The number of the input line that it comes from; 0 where it comes from none.
     pub(crate) source: usize,
 }
 
-/// The lines that are written so far, and what changes by them.
+/// The lines so far, and the changes that they make.
 #[derive(Drop)]
 pub(crate) struct Output {
     pub(crate) alloc: Global,
     pub(crate) lines: Vec<Written>,
     pub(crate) notes: Vec<Note>,
-    /// The names of ACLs that are given.
+    /// The ACL names in use.
     pub(crate) names: Names,
 }
 
@@ -37,14 +37,14 @@ impl Output {
         }
     }
 
-    /// How many bytes all lines have with their ends.
+    /// Returns the number of bytes of all lines with their ends.
     pub(crate) fn length(&self) -> usize {
         self.lines.iter().fold(0usize, |sum, line| {
             sum.saturating_add(line.bytes.len()).saturating_add(1)
         })
     }
 
-    /// Writes parts as one line.
+    /// Writes the parts as one line.
     pub(crate) fn add(&mut self, source: usize, parts: &[&[u8]]) -> Result<(), AllocError> {
         let mut bytes = Vec::new(self.alloc);
         for part in parts {
@@ -54,7 +54,7 @@ impl Output {
         Ok(())
     }
 
-    /// Writes words as a line of the listen.
+    /// Writes the words as a line of the `listen`.
     pub(crate) fn keep(&mut self, source: usize, words: &[Vec<u8>]) -> Result<(), AllocError> {
         let mut bytes = Vec::from_slice(self.alloc, b"   ")?;
         for word in words {
@@ -65,13 +65,13 @@ impl Output {
         Ok(())
     }
 
-    /// Writes a line of the file as a comment, with the reason.
+    /// Writes an input line as a comment, with the reason.
     pub(crate) fn comment(&mut self, line: &Line, reason: &str) -> Result<(), AllocError> {
         self.add(line.number, &[b"    # ".as_slice(), line.raw.as_slice()])?;
         self.add(line.number, &[b"    #   ".as_slice(), reason.as_bytes()])
     }
 
-    /// The same, and notes what changes by it under the first so many of its words.
+    /// Writes a line as a comment, and notes the change under its first `label` words.
     pub(crate) fn lose(
         &mut self,
         line: &Line,
@@ -86,7 +86,7 @@ impl Output {
         }
     }
 
-    /// Notes what changes by a line, under the first so many of its words.
+    /// Notes the change that a line makes, under its first `label` words.
     pub(crate) fn note(
         &mut self,
         line: &Line,
@@ -104,7 +104,7 @@ impl Output {
         )
     }
 
-    /// Makes comments of the lines that begin with these words.
+    /// Turns the lines that begin with these words into comments.
     pub(crate) fn take_back(&mut self, words: &[Vec<u8>]) -> Result<(), AllocError> {
         for line in self.lines.iter_mut() {
             if begins_with(line.bytes.as_slice(), words) {
@@ -114,7 +114,7 @@ impl Output {
         Ok(())
     }
 
-    /// Makes a comment of the line that has a fault, of an ACL with all of its lines, and notes that.
+    /// Turns the line that has a fault into a comment, for an ACL all of its lines, and notes that.
     pub(crate) fn leave_out(&mut self, fault: ConfigFault) -> Result<(), AllocError> {
         let at = (fault.line as usize).saturating_sub(1);
         let Some(line) = self.lines.get(at) else {
@@ -153,7 +153,7 @@ impl Output {
     }
 }
 
-// The first two words of a line.
+// Returns the first two words of a line.
 fn front_of(alloc: Global, line: &[u8]) -> Result<Vec<Vec<u8>>, AllocError> {
     let mut all = Vec::new(alloc);
     for word in Words::new(line).take(2) {
@@ -173,7 +173,7 @@ fn commented(alloc: Global, line: &[u8]) -> Result<Vec<u8>, AllocError> {
     Ok(bytes)
 }
 
-// The first words of a line, as they can be shown.
+// Returns the first words of a line in printable form.
 fn label_of(alloc: Global, line: &Line, count: usize) -> Result<String, AllocError> {
     let mut text = String::new(alloc);
     for word in line.words.iter().take(count) {
@@ -185,7 +185,7 @@ fn label_of(alloc: Global, line: &Line, count: usize) -> Result<String, AllocErr
     Ok(text)
 }
 
-/// Writes bytes as they can be shown.
+/// Writes bytes in printable form.
 pub(crate) fn push_shown(text: &mut String, bytes: &[u8]) -> Result<(), AllocError> {
     for byte in bytes {
         text.push(match *byte {

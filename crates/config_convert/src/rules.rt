@@ -5,7 +5,7 @@ use crate::conditions::condition_of;
 use crate::lines::{Line, copied};
 use std::alloc::{AllocError, Global};
 
-/// An `http-request` rule in the profile's words; None where the profile hasn't got it.
+/// Translates an `http-request` rule; `None` where the profile doesn't have it.
 pub(crate) fn rule_of(
     alloc: Global,
     acls: &Acls,
@@ -29,7 +29,7 @@ pub(crate) fn rule_of(
     Ok(Some(words))
 }
 
-// `int(N)` or `req.hdr_val(FIELD)`, which HAProxy also has as `hdr_val(FIELD)`.
+// Translates `int(N)` or `req.hdr_val(FIELD)`, which HAProxy also writes as `hdr_val(FIELD)`.
 fn expression_of(alloc: Global, word: &[u8]) -> Result<Option<Vec<u8>>, AllocError> {
     let whole = word.ends_with(b")".as_slice()) && !word.contains(&b',');
     let short = word.starts_with(b"hdr_val(".as_slice());
@@ -50,7 +50,7 @@ fn expression_of(alloc: Global, word: &[u8]) -> Result<Option<Vec<u8>>, AllocErr
     Ok(Some(text))
 }
 
-/// `if` or `unless` with a condition, or nothing, in the profile's words.
+/// Translates `if` or `unless` with its condition, or nothing.
 pub(crate) fn guard_of(
     alloc: Global,
     acls: &Acls,

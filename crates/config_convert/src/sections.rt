@@ -5,7 +5,7 @@ use crate::settling::Unconverted;
 use proxy_words::Lines;
 use std::alloc::{AllocError, Global};
 
-/// What a section is.
+/// The kind of a section.
 #[derive(Clone, Copy, Debug, PartialEq, Eq)]
 pub(crate) enum Kind {
     Global,
@@ -29,7 +29,7 @@ impl Section {
         self.head.word(1)
     }
 
-    // The name of the `defaults` that it takes over.
+    // Returns the name of the `defaults` that the section inherits from.
     fn base(&self) -> Option<&[u8]> {
         let place = self
             .head
@@ -42,17 +42,17 @@ impl Section {
             .map(|word| word.as_slice())
     }
 
-    /// Whether a line begins with this word.
+    /// Says whether a line begins with this word.
     pub(crate) fn has(&self, keyword: &[u8]) -> bool {
         self.last(keyword).is_some()
     }
 
-    /// The last line that begins with this word.
+    /// Returns the last line that begins with this word.
     pub(crate) fn last(&self, keyword: &[u8]) -> Option<&Line> {
         self.lines.iter().rev().find(|line| line.word(0) == keyword)
     }
 
-    /// Whether it wants an option, or wants it off. None: it says neither.
+    /// Says whether the section sets an option or takes it back; `None` where it says neither.
     pub(crate) fn wants(&self, option: &[u8]) -> Option<bool> {
         self.lines
             .iter()
@@ -61,7 +61,7 @@ impl Section {
     }
 }
 
-/// The sections of a file, in order. Lines before the first belong to none.
+/// Returns the sections of a file, in order. Lines before the first one belong to none.
 pub(crate) fn sections_of(alloc: Global, bytes: &[u8]) -> Result<Vec<Section>, Unconverted> {
     let mut all: Vec<Section> = Vec::new(alloc);
     for (at, bytes) in Lines::new(bytes).enumerate() {
@@ -93,7 +93,7 @@ fn add_line(alloc: Global, all: &mut Vec<Section>, line: Line) -> Result<(), All
     Ok(())
 }
 
-// The lines that a `defaults` takes over of the one that it names.
+// Returns the lines that a `defaults` inherits from the one that it names.
 fn base_lines(alloc: Global, all: &[Section], section: &Section) -> Result<Vec<Line>, AllocError> {
     let mut lines = Vec::new(alloc);
     let Some(name) = section.base() else {
@@ -108,7 +108,7 @@ fn base_lines(alloc: Global, all: &[Section], section: &Section) -> Result<Vec<L
     Ok(lines)
 }
 
-// Whether a line sets this option, or takes it back.
+// Says whether a line sets this option or takes it back; `None` for other lines.
 fn is_wish(line: &Line, option: &[u8]) -> Option<bool> {
     let keyword = b"option".as_slice();
     if line.word(0) == keyword && line.word(1) == option {
@@ -144,7 +144,7 @@ fn kind_of(word: &[u8]) -> Option<Kind> {
     }
 }
 
-/// The `defaults` that a section takes over: the one that it names, or else the last before it.
+/// Returns the `defaults` that a section inherits from: the one that it names, or else the last one before it.
 pub(crate) fn defaults_of(sections: &[Section], at: usize) -> Option<usize> {
     let base = sections.get(at).and_then(|section| section.base());
     sections.iter().take(at).rposition(|section| {
@@ -152,7 +152,7 @@ pub(crate) fn defaults_of(sections: &[Section], at: usize) -> Option<usize> {
     })
 }
 
-/// The last word behind a keyword of a section, or else of its `defaults`.
+/// Returns the last word after a keyword of a section, or else of its `defaults`.
 pub(crate) fn value_of<'a>(sections: &'a [Section], at: usize, keyword: &[u8]) -> Option<&'a Line> {
     let own = sections.get(at).and_then(|section| section.last(keyword));
     if own.is_some() {
@@ -162,7 +162,7 @@ pub(crate) fn value_of<'a>(sections: &'a [Section], at: usize, keyword: &[u8]) -
     defaults.last(keyword)
 }
 
-/// Whether a section that may serve clients is of TCP.
+/// Says whether a section that may serve clients has `mode tcp`.
 pub(crate) fn is_tcp(sections: &[Section], at: usize) -> bool {
     value_of(sections, at, b"mode".as_slice()).is_some_and(|line| word_of(line.words.as_slice(), 1)
         != b"http".as_slice())

@@ -1,4 +1,4 @@
-//! Servers, with what `default-server` gives them.
+//! The servers, with the settings of `default-server`.
 
 use crate::acls::Names;
 use crate::fates::{Fate, setting_fate};
@@ -8,21 +8,21 @@ use crate::sections::Section;
 use proxy_words::number;
 use std::alloc::{AllocError, Global};
 
-/// What becomes of a `server` line.
+/// The translation of a `server` line.
 #[derive(Drop)]
 pub(crate) struct Server {
     /// The number of its line.
     pub(crate) line: usize,
     pub(crate) old: Vec<u8>,
-    /// The words of the line in the profile; None where it has no place there.
+    /// The line in the profile's words; `None` where the profile doesn't have it.
     pub(crate) words: Option<Vec<Vec<u8>>>,
-    /// What it would have done where it has no place.
+    /// The effect of the line where the profile doesn't have it.
     pub(crate) lost: Fate,
-    /// What changes by words that are left out.
+    /// The effects of the words that are left out.
     pub(crate) changes: Vec<(Vec<u8>, Fate)>,
 }
 
-/// All of a section.
+/// All servers of a section.
 #[derive(Drop)]
 pub(crate) struct Servers {
     pub(crate) all: Vec<Server>,
@@ -63,19 +63,19 @@ const BACKUP: Fate = Fate {
     reason: "It would have served where all others are down: here, with weight 0, it serves requests of use-server alone.",
 };
 
-/// What is known of all servers of a section as one of them is looked at.
+/// What is known of a section when one of its servers is translated.
 #[derive(Clone, Copy)]
 pub(crate) struct Around<'a> {
-    /// The port at which clients connect, where there is one.
+    /// The port where clients connect, where there is one.
     pub(crate) port: Option<u32>,
     /// The section's `defaults`.
     pub(crate) defaults: Option<&'a Section>,
-    /// Where there are backup servers alone, all of them serve: `option allbackups`.
+    /// All backup servers serve together where there are no others: `option allbackups`.
     pub(crate) all_spare: bool,
 }
 
 impl Servers {
-    /// Those of a section.
+    /// Translates the servers of a section.
     pub(crate) fn new(
         alloc: Global,
         section: &Section,
@@ -95,17 +95,17 @@ impl Servers {
         Ok(Servers { all })
     }
 
-    /// The one of the line with this number.
+    /// Returns the server of the line with this number.
     pub(crate) fn at(&self, line: usize) -> Option<&Server> {
         self.all.iter().find(|server| server.line == line)
     }
 
-    /// The one with this name.
+    /// Returns the server with this name.
     pub(crate) fn named(&self, name: &[u8]) -> Option<&Server> {
         self.all.iter().find(|server| server.old.as_slice() == name)
     }
 
-    /// How many have a place.
+    /// Returns the number of servers that the profile has.
     pub(crate) fn count(&self) -> usize {
         self.all
             .iter()
@@ -113,7 +113,7 @@ impl Servers {
             .count()
     }
 
-    /// Whether one of them is checked.
+    /// Says whether one of them has health checks.
     pub(crate) fn are_checked(&self) -> bool {
         self.all.iter().any(is_checked)
     }
@@ -128,7 +128,7 @@ fn is_checked(server: &Server) -> bool {
     }
 }
 
-// What each server's line says, with what `default-server` lines before it give it.
+// Reads each server's line, with the settings of the `default-server` lines before it.
 fn read_all(
     alloc: Global,
     section: &Section,
@@ -148,7 +148,7 @@ fn read_all(
     Ok(read)
 }
 
-// Where there are backup servers alone, the first of them takes requests as long as it is up.
+// Where all servers are backup servers, the first of them takes the requests as long as it is up.
 fn take_turns(read: &mut [Settings], all_spare: bool) {
     if read
         .iter()
@@ -185,24 +185,24 @@ fn add_words(alloc: Global, words: &mut Vec<Vec<u8>>, more: &[Vec<u8>]) -> Resul
     Ok(())
 }
 
-/// The settings of a server that the profile has, in the order in which they are written.
+/// The settings of a server that the profile has, in the order of the output.
 const KEPT: [&str; 6] = ["weight", "maxconn", "maxqueue", "inter", "rise", "fall"];
 
-/// What the words behind a server's address say.
+/// The settings after a server's address.
 #[derive(Drop)]
 struct Settings {
-    /// The values of the settings that are kept, the last of each kind.
+    /// The places of the values that are kept, the last one of each kind.
     values: [Option<usize>; 6],
-    /// All words, in which these values stand.
+    /// The words in which the values stand.
     words: Vec<Vec<u8>>,
     checked: bool,
-    /// It takes requests only where no other can.
+    /// It is a backup server: it takes requests only where no other server can.
     spare: bool,
-    /// It takes them only where the backup servers before it can't.
+    /// It takes requests only where the backup servers before it can't.
     reserve: bool,
     /// It is in maintenance from the start.
     disabled: bool,
-    /// Why it has no place.
+    /// The reason where the profile doesn't have the server.
     lost: Option<Fate>,
     changes: Vec<(Vec<u8>, Fate)>,
 }
@@ -233,7 +233,7 @@ impl Settings {
         Ok(settings)
     }
 
-    // Takes a setting in, and answers how many words behind it are its own.
+    // Takes a setting, and returns the number of words after it that belong to it.
     fn take(&mut self, alloc: Global, word: &[u8], at: usize) -> Result<usize, AllocError> {
         if let Some(kind) = KEPT.iter().position(|name| word == name.as_bytes()) {
             if let Some(value) = self.values.get_mut(kind) {
@@ -272,7 +272,7 @@ impl Settings {
         Ok(arguments)
     }
 
-    // Adds the settings to the words of a line.
+    // Appends the settings to the words of a line.
     fn push_to(&self, alloc: Global, line: &mut Vec<Vec<u8>>) -> Result<(), AllocError> {
         for (name, value) in KEPT.iter().zip(self.values.iter()) {
             let value = match value {
@@ -343,7 +343,8 @@ fn line_of(
     Ok(words)
 }
 
-// An address with its port: HAProxy takes the port at which the client connected where none stands, or adds to it.
+// Returns an address with its port. Where the port is missing or relative, HAProxy uses the port
+// where the client connected.
 fn address_of(
     alloc: Global,
     word: &[u8],
@@ -369,7 +370,7 @@ fn address_of(
     Ok(Some(address))
 }
 
-// An address that stands for the one to which the client connected, or none.
+// Says whether an address stands for the one that the client connected to.
 fn is_transparent(host: &[u8]) -> bool {
     matches!(host, b"" | b"*" | b"0.0.0.0") || host.contains(&b'@') || host.contains(&b'/')
 }

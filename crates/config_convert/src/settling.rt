@@ -1,4 +1,4 @@
-//! What was joined, as the configuration's own reader takes it.
+//! The joined configuration, corrected until the configuration's own reader accepts it.
 
 ghost use Rattle.std.specs.Prelude.{◌≡◌, ◌↔◌, IfOk, IsNone, IsOk};
 ghost use Rattle.proxy_config.specs.File.{reading};
@@ -14,18 +14,18 @@ use proxy_config::{ConfigFault, FaultCause, MOST_BYTES, ReadError, read};
 use std::alloc::{AllocError, Global};
 use thiserror::Error;
 
-/// How many lines of what was joined are left out at most since the reader doesn't take them.
+/// The most lines that are left out because the reader refuses them.
 const MOST_TURNS: usize = 1000;
 
-/// A configuration that was made of one of HAProxy's.
+/// A configuration that was converted from one of HAProxy.
 #[derive(Debug, Drop)]
 pub struct Conversion {
     pub text: Vec<u8>,
-    /// What changes for clients or servers, the gravest first.
+    /// The changes for clients or servers, the gravest first.
     pub notes: Vec<Note>,
 }
 
-/// Why none was made.
+/// Why there is no conversion.
 #[derive(Debug, Drop, Error)]
 pub enum Unconverted {
     #[error("no memory")]
@@ -56,8 +56,8 @@ impl From<AllocError> for Unconverted {
     }
 }
 
-/// Makes of a configuration of HAProxy one that `check` takes: of the frontend and the backend that are named, or else of the first
-/// frontend or listen of HTTP with servers.
+/// Converts a configuration of HAProxy to one that `check` accepts: the named frontend and backend,
+/// or else the first HTTP `frontend` or `listen` with servers.
 pub fn convert(
     alloc: Global,
     bytes: &[u8],
@@ -75,7 +75,7 @@ pub fn convert(
     settle(alloc, output)
 }
 
-// Leaves out what the reader doesn't take, line by line, until it takes all.
+// Leaves out the lines that the reader refuses, one by one, until it accepts the rest.
 fn settle(alloc: Global, mut output: Output) -> Result<Conversion, Unconverted>
     ensures taken { IfOk result (λ made. IsOk (reading made.text.items)) }
 {
@@ -99,7 +99,7 @@ fn conversion_of(text: Vec<u8>, output: Output) -> Conversion
     Conversion { text, notes }
 }
 
-/// What the reader made of a text.
+/// The reader's answer to a text.
 #[derive(Drop)]
 enum Tried {
     Taken(Vec<u8>),
@@ -135,8 +135,8 @@ fn text_of(alloc: Global, output: &Output) -> Result<Vec<u8>, AllocError> {
     Ok(text)
 }
 
-/// The status of a program that converted so: 0 where nothing changes, 6 where something does, 3 where nothing came of it, 1 where
-/// memory was refused.
+/// Returns the exit status of a conversion: 0 where nothing changes, 6 where something does, 3
+/// where it failed, 1 where memory is refused.
 pub fn status_of(converted: &Result<Conversion, Unconverted>) -> u8
     ensures { result ≡ status_of_conversion converted.now }
 {

@@ -1,4 +1,4 @@
-//! Times, options and other values: those that the profile has, and what becomes of the rest.
+//! Times, options and other values: those that the profile has, and the effects of the others.
 
 use crate::fates::{Fate, fate_of};
 use crate::lines::{Line, words_of};
@@ -9,16 +9,16 @@ use std::alloc::AllocError;
 /// Which lines of a section count.
 #[derive(Clone, Copy, Debug, PartialEq, Eq)]
 pub(crate) struct Role {
-    /// Those on clients.
+    /// The lines about clients.
     pub(crate) front: bool,
-    /// Those on servers.
+    /// The lines about servers.
     pub(crate) back: bool,
 }
 
 const REDISPATCH: &str =
     "It would have gone to another server at each such retry: here it does at the last one alone.";
 
-/// Takes a line of `timeout`.
+/// Translates a line of `timeout`.
 pub(crate) fn take_timeout(
     output: &mut Output,
     role: Role,
@@ -39,7 +39,7 @@ pub(crate) fn take_timeout(
     lose_by_fate(output, line, 2, checked)
 }
 
-/// Takes a line of `option`.
+/// Translates a line of `option`.
 pub(crate) fn take_option(
     output: &mut Output,
     role: Role,
@@ -55,7 +55,7 @@ pub(crate) fn take_option(
     }
 }
 
-// The option without what may stand behind it.
+// Writes the option without the words that may stand after it.
 fn keep_option(output: &mut Output, line: &Line) -> Result<(), AllocError> {
     output.keep(line.number, line.words.get(..2).unwrap_or(&[]))
 }
@@ -71,7 +71,7 @@ fn take_redispatch(output: &mut Output, line: &Line) -> Result<(), AllocError> {
     }
 }
 
-/// Takes a line of `no`, which takes an option back.
+/// Translates a line of `no`, which takes an option back.
 pub(crate) fn take_no(output: &mut Output, line: &Line) -> Result<(), AllocError> {
     take_back(output, line.word(2), line)
 }
@@ -83,7 +83,7 @@ fn take_back(output: &mut Output, option: &[u8], line: &Line) -> Result<(), Allo
     output.comment(line, "It takes back what stands before.")
 }
 
-/// Writes a line that has no place as a comment, by what it would have done.
+/// Writes a line that the profile doesn't have as a comment, by its effect.
 pub(crate) fn lose_by_fate(
     output: &mut Output,
     line: &Line,

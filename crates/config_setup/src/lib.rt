@@ -1,4 +1,4 @@
-//! What a configuration asks of a dispatcher: its setup, for so many places and a window of so many entries.
+//! The setup of a dispatcher that a configuration describes, for a number of places and a log of a given size.
 #![tactic(auto)]
 
 mod setup;

@@ -7,7 +7,7 @@ use dispatch_log::{ServerSet, Servers, Setup};
 use proxy_config::{Config, Server};
 use std::alloc::{AllocError, Global};
 
-/// The setup of a dispatcher for so many live requests, with a window of so many entries.
+/// Returns the setup of a dispatcher for this number of live requests, with a log of this number of entries.
 pub fn setup_of(
     alloc: Global,
     config: &Config,
@@ -56,7 +56,7 @@ fn set_of(server: &Server) -> ServerSet
     }
 }
 
-/// The limits of a setup's servers, in file order.
+/// Returns the limits of a setup's servers, in file order.
 pub fn limits_of(alloc: Global, setup: &Setup) -> Result<Vec<u32>, AllocError>
     ensures { IfOk result (λ limits. limits.items ≡ map (λ server. server.limit) setup.now.servers) }
 {

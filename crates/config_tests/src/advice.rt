@@ -6,7 +6,7 @@ use proxy_config::{ConfigFault, FaultCause};
 use std::alloc::Global;
 use std::process::Abort;
 
-/// How a check ended, its line and its status.
+/// How a check ended, its line and its exit status.
 type EndRow = (Checked, &'static str, u8);
 
 static ENDS: [EndRow; 4] = [
@@ -37,7 +37,7 @@ fn each_end_has_its_line_and_status(rt: HostRuntime) {
     }
 }
 
-/// A file, how many lines would have to change, whether nothing is wrong, and what is said.
+/// A file, the number of lines that would have to change, whether it has no fault, and the explanation.
 struct AdviceRow {
     name: &'static str,
     file: &'static str,
@@ -338,7 +338,7 @@ fn a_configuration_is_explained_line_by_line(rt: HostRuntime) {
     }
 }
 
-/// A file, and what is said of its lines that have no effect.
+/// A file, and the text about its lines without effect.
 type IdleRow = (&'static str, &'static str);
 
 static IDLE: [IdleRow; 3] = [

@@ -1,4 +1,4 @@
-//! What the words of the command line ask for.
+//! Tests of the command line: what its words ask for.
 
 use crate::assertions::holds;
 use command_words::{AdminFault, Asked, Input, Numbers, Sections, admin_address, ask};
@@ -6,7 +6,7 @@ use due_key::Class;
 use std::alloc::Global;
 use std::process::Abort;
 
-/// What is asked for, with texts that stand still.
+/// What is asked for, with static texts.
 enum Expected {
     Run(&'static str, Numbers),
     Replay(From),
@@ -20,7 +20,7 @@ enum Expected {
     Nothing(u8),
 }
 
-/// What is read.
+/// The input of a command.
 #[derive(Clone, Copy)]
 enum From {
     Unnamed,
@@ -28,7 +28,7 @@ enum From {
     File(&'static str),
 }
 
-/// The words, with a blank between each two, and what they ask for.
+/// The words of a command line with a blank between each two, and what they ask for.
 type CommandRow = (&'static str, Expected);
 
 const SIZES: Numbers = Numbers {
@@ -56,7 +56,7 @@ const STAYING: Numbers = Numbers {
 };
 
 static COMMANDS: [CommandRow; 35] = [
-    // What runs has its sizes.
+    // `run` has its sizes.
     (
         "dueproxy run file --workers 7",
         Expected::Run("file", SIZES),
@@ -71,7 +71,7 @@ static COMMANDS: [CommandRow; 35] = [
     ("dueproxy run file --window 0", Expected::Nothing(2)),
     ("dueproxy run file --workers +5", Expected::Nothing(2)),
     ("dueproxy run file --workers 7x", Expected::Nothing(2)),
-    // A picture is of all or of a queue and class.
+    // `draw` draws all, or one queue and class.
     ("dueproxy draw", Expected::DrawAll(From::Unnamed)),
     ("dueproxy draw -", Expected::DrawAll(From::Standard)),
     ("dueproxy draw s", Expected::DrawAll(From::File("s"))),
@@ -89,11 +89,11 @@ static COMMANDS: [CommandRow; 35] = [
     ),
     ("dueproxy draw --of *", Expected::Nothing(2)),
     ("dueproxy draw --of * x", Expected::Nothing(2)),
-    // The demo ends, or goes on.
+    // `demo` ends, or goes on.
     ("dueproxy demo", Expected::Demo(false)),
     ("dueproxy demo --keep", Expected::Demo(true)),
     ("dueproxy demo more", Expected::Nothing(2)),
-    // Subcommands are told apart.
+    // The subcommands are distinguished.
     ("dueproxy replay", Expected::Replay(From::Unnamed)),
     ("dueproxy replay -", Expected::Replay(From::Standard)),
     ("dueproxy replay file", Expected::Replay(From::File("file"))),
@@ -107,7 +107,7 @@ static COMMANDS: [CommandRow; 35] = [
     ("dueproxy --help", Expected::Nothing(0)),
     ("dueproxy", Expected::Nothing(2)),
     ("dueproxy replay file more", Expected::Nothing(2)),
-    // The sections of a configuration may be named.
+    // `convert` may name sections.
     (
         "dueproxy convert file",
         Expected::Convert("file", None, None),

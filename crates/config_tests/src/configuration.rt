@@ -1,4 +1,4 @@
-//! Whole files. The expected values are the rules of `docs/FORMATS.md`, worked out by hand.
+//! Tests of whole configuration files. The expected values follow from the rules of `docs/FORMATS.md` by hand.
 
 mod accepted;
 mod faults;
@@ -15,10 +15,10 @@ use proxy_config::*;
 use std::alloc::Global;
 use std::process::Abort;
 
-/// A text, the line of the file's first fault, and the cause.
+/// A text, the line of the first fault, and its cause.
 type FaultRow = (&'static str, u64, FaultCause);
 
-/// Texts, each of which stands in a file of its own between this front and this end.
+/// Texts, each of which stands in a file of its own between this beginning and this end.
 struct FaultTable {
     name: &'static str,
     front: &'static str,
@@ -44,7 +44,7 @@ fn is_each_faulty(rt: &impl Abort, alloc: Global, table: &FaultTable) {
     }
 }
 
-// Whether a configuration is read from it.
+// Says whether the configuration is read from the file.
 fn is_read(alloc: Global, file: &[u8]) -> bool {
     let found = read(alloc, file);
     let is_read = found.is_ok();

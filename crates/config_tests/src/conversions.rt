@@ -1,4 +1,4 @@
-//! From configurations of HAProxy's to this proxy's.
+//! Tests of conversions from HAProxy's configurations to this proxy's.
 
 use crate::assertions::holds;
 use crate::texts::reads;
@@ -6,8 +6,8 @@ use config_convert::{Conversion, Unconverted, convert, push_note, status_of};
 use std::alloc::Global;
 use std::process::Abort;
 
-/// A configuration of HAProxy's with the sections that are named, the status, and what is written and noted; or, where nothing comes of
-/// it, the reason.
+/// A configuration of HAProxy with the named sections, the exit status, and the output and its
+/// notes, or the reason why there is none.
 struct Row {
     file: &'static str,
     frontend: Option<&'static str>,

@@ -1,4 +1,4 @@
-//! What is said of faulty lines: the nearest known word, the mark below a line, the cause in a script.
+//! Tests of the texts about faulty lines: the nearest known word, the mark below a line, the cause in a script.
 
 use crate::assertions::holds;
 use crate::texts::reads;
@@ -9,7 +9,7 @@ use std::io;
 use std::io::Read;
 use std::process::Abort;
 
-/// A word, and the known one of which it may be a slip.
+/// A word, and the known one that it may be a slip of.
 type SlipRow = (&'static str, Option<&'static str>);
 
 static SLIPS: [SlipRow; 6] = [
@@ -46,7 +46,7 @@ fn a_word_of_a_line_is_marked(rt: HostRuntime) {
     );
 }
 
-/// A script, the number of its faulty line, and what is said below the line and its mark.
+/// A script, the number of its faulty line, and the text below the line and its mark.
 struct ScriptRow {
     script: &'static str,
     number: usize,
@@ -154,7 +154,7 @@ fn a_faulty_line_of_a_trace_is_shown(rt: HostRuntime) {
     reads(&rt, text, "traces", "");
 }
 
-// Gives a text, and behind it a failure.
+// A reader that returns a text, and then fails.
 #[derive(Drop)]
 struct Failing<'a> {
     rest: &'a [u8],

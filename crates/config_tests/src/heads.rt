@@ -1,4 +1,4 @@
-//! Heads of requests, and of answers.
+//! Tests of the heads of requests and answers.
 
 mod answers;
 mod fields;
@@ -9,7 +9,7 @@ mod refused;
 use req_view::{HeadRefusal, View, Viewed, view};
 use std::alloc::Global;
 
-/// What is seen of bytes: a whole one by its length and how many fields it has.
+/// What the reader makes of bytes: for a whole head its length and its number of fields.
 enum Seen {
     Refused,
     More,
@@ -27,7 +27,8 @@ fn is_seen(viewed: &Viewed<View>, expected: &Seen) -> bool {
     }
 }
 
-// Whether that is seen of the bytes. A call of `drop` is proved faster than the drop of what is seen at the end.
+// Says whether the reader makes this of the bytes. An explicit `drop` is proved faster than the
+// drop at the end of the function.
 fn sees(alloc: Global, bytes: &[u8], expected: &Seen) -> bool {
     let viewed = view(alloc, bytes);
     let so = is_seen(&viewed, expected);

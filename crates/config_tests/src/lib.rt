@@ -1,5 +1,6 @@
-//! Tests of words, those of the command line among them, of the configuration, what `check` says of it and what `convert` makes of one, of what is
-//! said of faulty lines and of what can't be read, of requests' heads and of the rules. They are a crate of their own, so that what they test isn't proved once more with them.
+//! Tests of words, of the command line, of the configuration, of `check` and `convert`, of the
+//! texts about faulty lines and unreadable files, of the heads of requests, and of the rules. They
+//! are a crate of their own, so that the crates under test aren't proved a second time with them.
 #![tactic(auto)]
 
 #[cfg(test)]

@@ -5,7 +5,7 @@ use proxy_words::{
 };
 use std::process::Abort;
 
-/// What cuts a text.
+/// The iterator that cuts a text.
 enum By {
     Lines,
     Words,
@@ -91,7 +91,7 @@ fn lines_words_and_parts_are_cut_at_their_ends(rt: HostRuntime) {
     }
 }
 
-/// What a word is as a number, a name or a line.
+/// The reading of a word as a number, a name or a line.
 enum Is {
     Number(Option<u32>),
     LongNumber(Option<u64>),
@@ -104,19 +104,19 @@ enum Is {
 type WordRow = (&'static str, Is);
 
 static WORDS: [WordRow; 36] = [
-    // A number has nine digits at most.
+    // A number has at most nine digits.
     ("999999999", Is::Number(Some(999_999_999))),
     ("000000080", Is::Number(Some(80))),
     ("1000000000", Is::Number(None)),
     ("", Is::Number(None)),
     ("1x", Is::Number(None)),
-    // A long number has eighteen.
+    // A long number has at most eighteen.
     (
         "999999999999999999",
         Is::LongNumber(Some(999_999_999_999_999_999)),
     ),
     ("0000000000000000000", Is::LongNumber(None)),
-    // A signed number has one sign.
+    // A signed number has at most one sign.
     ("-524287", Is::Signed(Some(-524_287))),
     ("-0", Is::Signed(Some(0))),
     ("12", Is::Signed(Some(12))),
@@ -137,20 +137,20 @@ static WORDS: [WordRow; 36] = [
     ("7m", Is::Milliseconds(Some(420_000))),
     ("7h", Is::Milliseconds(Some(25_200_000))),
     ("999999999d", Is::Milliseconds(Some(86_399_999_913_600_000))),
-    // What is no time.
+    // Words that aren't times.
     ("1x", Is::Milliseconds(None)),
     ("ms", Is::Milliseconds(None)),
     ("1 s", Is::Milliseconds(None)),
     ("1000000000us", Is::Milliseconds(None)),
     ("-1", Is::Milliseconds(None)),
-    // A name has 32 bytes at most.
+    // A name has at most 32 bytes.
     ("a-B_9.:", Is::Name(true)),
     ("12345678901234567890123456789012", Is::Name(true)),
     ("123456789012345678901234567890123", Is::Name(false)),
     ("", Is::Name(false)),
     ("*", Is::Name(false)),
     ("\u{e9}", Is::Name(false)),
-    // A comment begins anywhere.
+    // A comment may begin anywhere.
     ("a#b # c", Is::WithoutComment("a")),
     ("a b", Is::WithoutComment("a b")),
 ];

@@ -1,10 +1,10 @@
-//! What is to be done about a file that can't be read, or an address that can't be listened at.
+//! Tests of the advice about a file that can't be read, or an address that can't be listened at.
 
 use crate::assertions::holds;
 use file_reasons::{address_remedy, remedy};
 use std::io::ErrorKind;
 
-/// A kind of failure, and a word of what is to be done about it at a file and at an address.
+/// A kind of failure, and a word of the advice for a file and for an address.
 type RemedyRow = (ErrorKind, Option<&'static str>, Option<&'static str>);
 
 static REMEDIES: [RemedyRow; 6] = [

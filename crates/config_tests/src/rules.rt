@@ -1,4 +1,4 @@
-//! From the bytes of a configuration and of a request's head to the wish.
+//! Tests from the bytes of a configuration and of a request's head to the wish.
 
 use crate::assertions::holds;
 use crate::texts::joined;
@@ -9,7 +9,7 @@ use req_view::{Viewed, view};
 use std::alloc::Global;
 use std::process::Abort;
 
-/// A request's first line and fields, and what is wished for it.
+/// A request's first line and fields, and its wish.
 struct Expected {
     line: &'static str,
     fields: &'static str,
@@ -18,7 +18,7 @@ struct Expected {
     pin: Option<usize>,
 }
 
-/// What a configuration of the servers a, b and c with these lines wishes.
+/// The wishes under a configuration of the servers a, b and c with these lines.
 struct Case {
     name: &'static str,
     lines: &'static str,

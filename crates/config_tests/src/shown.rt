@@ -1,4 +1,4 @@
-//! How causes, faults and refusals read.
+//! Tests of the texts of causes, faults and refusals.
 
 use crate::texts::reads;
 use proxy_config::{ConfigFault, FaultCause, ReadError};

@@ -1,4 +1,4 @@
--- A client's connection (RFC 9112, section 9.3): exchanges that came to their ends, one after another, and one that runs.
+-- A client's connection (RFC 9112, section 9.3): ended exchanges, one after another, and one that runs.
 use Rattle.std.specs.Prelude.{ℕ, List, [], ◌∷◌, ◌++◌, take}
 use Rattle.exchange_machine.specs.Histories.{History, nothing_yet}
 use Rattle.exchange_machine.specs.Wholes.{Whole}
@@ -9,7 +9,7 @@ use Rattle.mixed_exchange.specs.declared.event.Event.TheVariants as Events
 use Rattle.mixed_exchange.specs.declared.exchange.Exchange.{Exchange}
 use Rattle.mixed_exchange.specs.declared.exchange.Outcome.{Outcome}
 
--- the bytes that came of the client with an event of which so much was taken
+-- the bytes that come from the client with an event, of which the exchange took this many
 abbrev pub bytes_in : Event → ℕ → List ℕ
 bytes_in (Events.ClientBytes input) used = take used input.now
 bytes_in (Events.ServerBytes input) used = []
@@ -26,7 +26,7 @@ bytes_in Events.ServerFailed used = []
 bytes_in Events.ServerDeaf used = []
 bytes_in (Events.TimeOver clock) used = []
 
--- the bytes that the client took with it
+-- the bytes that the client takes with an event
 abbrev pub bytes_out : Exchange → Event → List ℕ
 bytes_out x (Events.ClientBytes input) = []
 bytes_out x (Events.ServerBytes input) = []
@@ -43,8 +43,9 @@ bytes_out x Events.ServerFailed = []
 bytes_out x Events.ServerDeaf = []
 bytes_out x (Events.TimeOver clock) = []
 
--- Behind these exchanges a connection is at this one, which has this history; in all this came of it, and it took this. Each rule is what a call of
--- `mixed_exchange` ensures: `new`, `step` and `ask_again`.
+-- A connection has had the exchanges `before` and is at this exchange with this history; the client
+-- has sent this input and taken this output in all. Each rule is what a call of `mixed_exchange`
+-- ensures: `new`, `step` and `ask_again`.
 pub data Connection : List Whole → Exchange → History → List ℕ → List ℕ → Type 0 where
   begins : (x : Exchange) → IsAt x nothing_yet → Connection [] x nothing_yet [] []
   goes_on : (before : List Whole) (x y : Exchange) (h : History) (input output : List ℕ) (event : Event) (used : ℕ) (outcome : Outcome)

@@ -1,4 +1,4 @@
--- What goes over a client's connection: whole requests and their answers in order, and a front of one more.
+-- What passes over a client's connection: whole requests and their answers in order, and a front of one more.
 use Rattle.std.specs.Prelude.{◌≡◌, ◌≢◌, ℕ, List, ◌++◌}
 use Rattle.std.specs.List.{flat_map, AllByRecursion}
 use Rattle.list_facts.specs.Fronts.{IsFront}
@@ -7,12 +7,14 @@ use Rattle.exchange_machine.specs.Headline.{ClientText}
 use Rattle.exchange_machine.specs.Histories.{History}
 use Rattle.exchange_machine.specs.Wholes.{Whole, IsWhole, asked, told}
 
--- behind it the client may ask again: both sides agreed that its connection stays
+-- the client may ask again afterwards: both sides agreed to keep the connection open
 abbrev pub IsOpenToClient : Whole → Type 0
 IsOpenToClient w = w.says ≢ Close
 
--- What came of a client is its requests one after another, and then what came for the exchange at hand; and what it took is their answers one after another,
--- each whole and of its own request, none left out and none twice, and then a front of one text for that exchange: an answer, or a refusal.
+-- The bytes from the client are its requests one after another, and then those of the running
+-- exchange. The bytes to the client are their answers one after another, each whole and for its own
+-- request, none left out and none twice, and then a front of one text for the running exchange: an
+-- answer, or a refusal.
 pub record AnsweredInOrder (before : List Whole) (now : History) (input output : List ℕ) : Type 0 where
   pub each : AllByRecursion IsWhole before
   pub stays : AllByRecursion IsOpenToClient before

@@ -1,4 +1,4 @@
--- What goes over a client's connection, and over a server's, as whoever reads by the grammar finds it.
+-- What passes over a client's and over a server's connection, as a reader by the grammar finds it.
 use Rattle.std.specs.Prelude.{◌≡◌, ℕ, true, List, [], ◌∷◌, map, Some}
 use Rattle.std.specs.List.{flat_map, AllByRecursion}
 use Rattle.relay_body.specs.Framings.{IsBody}
@@ -16,7 +16,8 @@ message_of w = record { head = w.head; body = w.body }
 abbrev pub method_of : Whole → List ℕ
 method_of w = w.head.method
 
--- what a client asked in these exchanges is one message for each and no byte more, and what it was told is one answer to each and no byte more
+-- the bytes that the client sent in these exchanges are one message each and no byte more, and the
+-- bytes that it was sent are one answer each and no byte more
 pub record AreReadSo (ws : List Whole) : Type 0 where
   pub each : AllByRecursion IsMessage (map message_of ws)
   pub asked_is : flat_map asked ws ≡ flat_map print_message (map message_of ws)
@@ -24,12 +25,13 @@ pub record AreReadSo (ws : List Whole) : Type 0 where
   pub are : AreReplies (map method_of ws) replies
   pub told_is : flat_map told ws ≡ flat_map print_reply replies
 
--- it tells its server of nobody, or of a client with an address, which each has that the proxy knows (`message_readings::what_an_address_keeps`)
+-- the exchange tells its server of no client, or of a client with an address; every client that the
+-- proxy knows has one (`message_readings::what_an_address_keeps`)
 abbrev pub IsNamedIn : Whole → Type 0
 IsNamedIn w = IsNamed w.adds.client
 
--- The message is the request of this exchange: it asks for the same, and its body is what the client's is as that frames it, in chunks without what is said
--- beside them.
+-- The message is the request of this exchange: it has the same request line, and its body is the
+-- client's as that one frames it, for a chunked body without its extensions and trailers.
 pub record IsOf (w : Whole) (m : Message) : Type 0 where
   pub asks : AsksAlike w.adds.client (request_of w.head) m.head
   pub framing : Framing
@@ -43,14 +45,14 @@ AreOf (w ∷ ws) (m ∷ ms) = IsOf w m × AreOf ws ms
 AreOf [] (m ∷ ms) = ⊥
 AreOf (w ∷ ws) [] = ⊥
 
--- what a server was sent for these exchanges is one message for each and no byte more
+-- the bytes that a server was sent for these exchanges are one message each and no byte more
 pub record AreSentSo (ws : List Whole) : Type 0 where
   pub messages : List Message
   pub each : AllByRecursion IsMessage messages
   pub are : AreOf ws messages
   pub sent_is : flat_map forwarded_of ws ≡ flat_map print_message messages
 
--- and what came of it for them is one answer to each, by its request's method, and no byte more
+-- the bytes that came from the server for them are one answer each, by its request's method, and no byte more
 pub record AreAnsweredSo (ws : List Whole) : Type 0 where
   pub replies : List Reply
   pub are : AreReplies (map method_of ws) replies

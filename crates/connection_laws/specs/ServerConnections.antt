@@ -1,4 +1,5 @@
--- A server's connection (RFC 9112, section 9.3): exchanges that came to their ends on it and left nothing there, one after another, and one that has it.
+-- A server's connection (RFC 9112, section 9.3): exchanges that ended on it and left nothing unread
+-- there, one after another, and one that owns it.
 use Rattle.std.specs.Prelude.{◌≢◌, ℕ, List, [], ◌∷◌, ◌++◌, take}
 use Rattle.exchange_machine.specs.Histories.{History}
 use Rattle.exchange_machine.specs.Stages.{IsUnsent}
@@ -10,7 +11,7 @@ use Rattle.mixed_exchange.specs.declared.exchange.Exchange.{Exchange}
 use Rattle.mixed_exchange.specs.declared.exchange.Outcome.{Outcome}
 use Rattle.mixed_exchange.specs.declared.exchange.Outcome.TheVariants as Outcomes
 
--- the bytes that the server took with an event
+-- the bytes that the server takes with an event
 abbrev pub bytes_sent : Exchange → Event → List ℕ
 bytes_sent x (Events.ClientBytes input) = []
 bytes_sent x (Events.ServerBytes input) = []
@@ -27,7 +28,7 @@ bytes_sent x Events.ServerFailed = []
 bytes_sent x Events.ServerDeaf = []
 bytes_sent x (Events.TimeOver clock) = []
 
--- the bytes that came of the server with one of which so much was taken
+-- the bytes that come from the server with an event, of which the exchange took this many
 abbrev pub bytes_come : Event → ℕ → List ℕ
 bytes_come (Events.ClientBytes input) used = []
 bytes_come (Events.ServerBytes input) used = take used input.now
@@ -44,9 +45,12 @@ bytes_come Events.ServerFailed used = []
 bytes_come Events.ServerDeaf used = []
 bytes_come (Events.TimeOver clock) used = []
 
--- Behind these exchanges a connection belongs to this one, which has this history; in all its server was sent this, and this came of it. An exchange has a
--- new connection before anything was sent to a server and anything came of one; it keeps it over each step but one that gives it up for another, which is then a
--- new one; and where it ends clean (`is_clean`), another that sent nothing yet may have it from then on.
+-- A connection has had the exchanges `before` and belongs to this exchange with this history; the
+-- server has taken this output and sent this input in all. An exchange has a new connection before
+-- it has sent anything to a server or got anything from one. It keeps the connection over each
+-- step, except one that gives it up for another, which is then a new one. Where the exchange ends
+-- clean (`is_clean`), another exchange that has sent nothing yet may own the connection from then
+-- on.
 pub data ServerConnection : List Whole → Exchange → History → List ℕ → List ℕ → Type 0 where
   opens : (x : Exchange) (h : History) → IsAt x h → IsUnsent h → ServerConnection [] x h [] []
   goes_on : (before : List Whole) (x y : Exchange) (h : History) (sent came : List ℕ) (event : Event) (used : ℕ) (outcome : Outcome)

@@ -16,8 +16,8 @@ ghost use Rattle.seated_exchange.specs.Connections.{IsOpenToServer, SentInOrder}
 ghost use Rattle.connection_laws.specs.Readings.{AreAnsweredSo, AreReadSo, AreSentSo, IsNamedIn};
 ghost use Rattle.connection_laws.specs.ServerConnections.{ServerConnection, bytes_sent, bytes_come};
 
-/// A client's connection goes on by the calls of `mixed_exchange`: it begins with a new exchange, goes on by steps of it, and by the next exchange where its
-/// client asks again.
+/// A client's connection goes on by the calls of `mixed_exchange`: it begins with a new exchange,
+/// goes on by its steps, and by the next exchange where its client asks again.
 pub fn what_goes_on()
     ensures begins { (x : exchanges.Exchange) → IsAt x nothing_yet → Connection [] x nothing_yet [] [] }
     ensures steps { (before : List Whole) (x y : exchanges.Exchange) (h : History) (input output : List ℕ) (event : events.Event) (used : ℕ)
@@ -27,21 +27,25 @@ pub fn what_goes_on()
         → (next : IsNext h y) → Connection (before ++ next.whole ∷ []) y next.begins.now input output }
 {}
 
-/// The headline: what a client's connection got is the answers of its requests one after another, each whole before the next begins, in order, none left out and
-/// none twice, and a front of one text for the request that is served; and what came of it is those requests, and what came of that one.
+/// The main theorem: a client's connection gets the answers to its requests one after another, each
+/// whole before the next begins, in order, none left out and none twice, and a front of one text
+/// for the request that is served. The bytes from the client are those requests, and then those of
+/// the one that is served.
 pub fn what_a_client_got()
     ensures { (before : List Whole) (x : exchanges.Exchange) (h : History) (input output : List ℕ) → Connection before x h input output
         → AnsweredInOrder before h input output }
 {}
 
-/// Whoever reads by the grammar finds these requests and these answers: by `message_readings::one_reading` and `one_answering` in no other way, whatever follows.
+/// A reader by the grammar finds these requests and these answers, and by
+/// `message_readings::one_reading` and `one_answering` no others, whatever follows.
 pub fn what_is_read()
     ensures { (ws : List Whole) → AllByRecursion IsWhole ws → AllByRecursion IsOpenToClient ws → AreReadSo ws }
 {}
 
-/// A server's connection goes on by the same calls: an exchange that sent nothing yet has a new one, it goes on by each step that doesn't give it up, and
-/// where that exchange ends clean, another one that sent nothing yet may have it. One that waits for a connection has sent nothing yet, and so has one behind
-/// a step that gave a connection up.
+/// A server's connection goes on by the same calls: an exchange that has sent nothing yet has a new
+/// one; the connection goes on by each step that doesn't give it up; and where that exchange ends
+/// clean, another one that has sent nothing yet may own it. An exchange that waits for a connection
+/// has sent nothing yet, nor has one that has just given a connection up.
 pub fn what_goes_on_to_a_server()
     ensures opens { (x : exchanges.Exchange) (h : History) → IsAt x h → IsUnsent h → ServerConnection [] x h [] [] }
     ensures steps { (before : List Whole) (x y : exchanges.Exchange) (h : History) (sent came : List ℕ) (event : events.Event) (used : ℕ)
@@ -54,20 +58,24 @@ pub fn what_goes_on_to_a_server()
     ensures given_up { (x : exchanges.Exchange) (event : events.Event) (used : ℕ) (h : History) → IsUnsent (after x event used outcomes.Outcome.Retries h) }
 {}
 
-/// The headline: what a server's connection was sent is the forwarded texts of the requests that had it one after another, each whole before the next begins,
-/// none left out and none twice, and a front of one more; and what came of it is their answers, each whole, and what came for that one.
+/// The main theorem: a server's connection is sent the forwarded texts of the requests that owned
+/// it one after another, each whole before the next begins, none left out and none twice, and a
+/// front of one more. The bytes from the server are their answers, each whole, and then those for
+/// the last one.
 pub fn what_a_server_got()
     ensures { (before : List Whole) (x : exchanges.Exchange) (h : History) (sent came : List ℕ) → ServerConnection before x h sent came
         → SentInOrder before h sent came }
 {}
 
-/// Whoever reads by the grammar finds these requests in what a server was sent, and no byte more: by `message_readings::one_reading` in no other way, whatever
-/// follows. So none is taken for a part of another's.
+/// A reader by the grammar finds these requests in what a server was sent, and no byte more; by
+/// `message_readings::one_reading` it finds no others, whatever follows. So no request is taken for
+/// a part of another.
 pub fn what_a_server_reads()
     ensures { (ws : List Whole) → AllByRecursion IsWhole ws → AllByRecursion IsNamedIn ws → AreSentSo ws }
 {}
 
-/// And so with their answers in what came of it, by the requests' methods: by `one_answering` in no other way. So none is another request's.
+/// The same holds for their answers in what came from the server, by the requests' methods and
+/// `one_answering`. So no answer belongs to another request.
 pub fn what_a_server_answers()
     ensures { (ws : List Whole) → AllByRecursion IsWhole ws → AllByRecursion IsOpenToServer ws → AreAnsweredSo ws }
 {}

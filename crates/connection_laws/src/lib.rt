@@ -1,4 +1,5 @@
-//! The laws of a client's connection and of a server's: requests one after another, and what each is sent of them.
+//! The laws of a client's and of a server's connection: requests one after another, and what each
+//! side is sent of them.
 #![tactic(auto)]
 
 mod laws;

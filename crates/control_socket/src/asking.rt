@@ -1,4 +1,4 @@
-//! Who steers a proxy from without.
+//! The client of a control socket: `dueproxy ctl`.
 
 use crate::scanning::Scan;
 use std::alloc::{AllocError, Global};
@@ -9,27 +9,28 @@ use std::os::unix::net::UnixStream;
 
 const BUFFER: usize = 4096;
 
-/// So many reads are made at most.
+/// The most reads of one call.
 const MOST_READS: u64 = u64::MAX;
 
-/// How an answer begins that tells of a fault.
+/// The beginning of an answer that reports an error.
 const FAULT: &[u8; 6] = b"error:";
 
 /// How the reading of an answer ended.
 #[derive(Clone, Copy, Debug, PartialEq, Eq)]
 enum Reply {
-    /// It is whole.
+    /// The answer is whole.
     Done,
-    /// It is whole, and tells of a fault.
+    /// The answer is whole and reports an error.
     Refused,
-    /// The connection was closed before its end.
+    /// The connection was closed before the answer's end.
     Cut,
-    /// It couldn't be printed.
+    /// The answer couldn't be printed.
     Unwritten,
 }
 
-/// Sends a command to the proxy at a path, prints its answer, and answers the status: 1 where there is none, or one that tells of a fault. Behind `stop` it waits
-/// until the proxy has ended.
+/// Sends a command to the proxy at a path, prints its answer, and returns the exit status: 1 where
+/// there is no answer, or one that reports an error. After `stop` it waits until the proxy has
+/// ended.
 pub fn ask<R: Net + Print + Eprint + AllocGlobal>(rt: &R, path: &str, words: &[String]) -> u8 {
     match line_of(rt.alloc(), words) {
         Err(_) => {
@@ -44,7 +45,7 @@ pub fn ask<R: Net + Print + Eprint + AllocGlobal>(rt: &R, path: &str, words: &[S
     }
 }
 
-// The words in a row. None: one has a line feed.
+// Returns the words as one line; `None` where one has a line feed.
 fn line_of(alloc: Global, words: &[String]) -> Result<Option<String>, AllocError> {
     let mut line = String::new(alloc);
     for word in words {
@@ -118,7 +119,7 @@ fn read_answer<R: Print, S: Read>(rt: &R, stream: &mut S, buffer: &mut [u8]) -> 
     Reply::Cut
 }
 
-// Reads until the connection is closed, and throws away what comes.
+// Reads and discards bytes until the connection is closed.
 fn wait_for_end<S: Read>(stream: &mut S, buffer: &mut [u8]) {
     for _ in 0..MOST_READS {
         match stream.read(buffer) {

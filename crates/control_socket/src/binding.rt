@@ -1,4 +1,4 @@
-//! Where a control socket is.
+//! The making of a control socket.
 
 use std::alloc::{AllocError, Global};
 use std::fs::Permissions;
@@ -10,10 +10,10 @@ use std::rt::Files;
 use std::{fs, io};
 use thiserror::Error;
 
-/// The user of the proxy alone may connect.
+/// Only the proxy's user may connect.
 const MODE: u32 = 0o600;
 
-/// So many connections are thrown away that came before the mode was set.
+/// The most connections that are discarded because they came before the mode was set.
 const MOST_EARLY: usize = 4096;
 
 /// Why there is no control socket.
@@ -21,7 +21,7 @@ const MOST_EARLY: usize = 4096;
 pub enum BindFault {
     #[error("no memory")]
     NoMemory,
-    /// A file that is no socket.
+    /// The path names a file that isn't a socket.
     #[error("there is a file that is no socket: give another path, or remove it")]
     NoSocket,
     #[error("another process listens there: give another path")]
@@ -41,8 +41,9 @@ impl From<AllocError> for BindFault {
     }
 }
 
-/// A socket at a path, which the user of the process alone may connect to. It takes the place of one where nobody listens any more. It is made under another name, is
-/// given its mode, and only then has its own.
+/// Makes a socket at a path to which only the process's user may connect. It replaces a socket
+/// where nobody listens any more. It is bound under another name, gets its mode, and only then its
+/// own name.
 pub fn bound_at<R: Files + Net>(
     rt: &R,
     alloc: Global,
@@ -74,7 +75,7 @@ fn made_at<R: Files + Net>(rt: &R, early: &str, path: &str) -> io::Result<UnixLi
     Ok(listener)
 }
 
-// Nothing is at a path, or a socket where nobody listens.
+// Checks that nothing is at a path, or a socket where nobody listens.
 fn look_before<R: Files + Net>(rt: &R, path: &str) -> Result<(), BindFault> {
     let found = match fs::symlink_metadata(rt, path) {
         Ok(found) => found,

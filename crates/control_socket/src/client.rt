@@ -7,46 +7,46 @@ use std::io::{ErrorKind, Read, Write};
 use std::os::fd::AsRawFd;
 use std::os::unix::net::UnixStream;
 
-/// What is answered to a line that is too long, before the connection is closed.
+/// The answer to a line that is too long, before the connection is closed.
 const TOO_LONG: &str = "error: a line has at most 4096 bytes\n";
 
-/// So many steps are made for a client, before others are attended to.
+/// The most steps that are made for one client before the others get their turn.
 const STEPS: usize = 64;
 
-/// Someone who steers.
+/// A client of the control socket.
 #[derive(Drop)]
 pub(crate) struct Client {
     pub(crate) stream: UnixStream,
     inbox: Inbox,
-    /// What it is told, and how much of that was sent.
+    /// The bytes of its answers, and how many were sent.
     outbox: Vec<u8>,
     sent: usize,
     awaits: Option<Awaited>,
-    /// It sends no more, or nothing is taken of it any more.
+    /// It sends no more, or is read no more.
     ended: bool,
-    /// In milliseconds: when it last sent or took something.
+    /// The moment when it last sent or took a byte, in milliseconds.
     pub(crate) moved: u64,
 }
 
-/// What becomes of a client.
+/// What the reception does with a client after a turn.
 #[derive(Clone, Copy, Debug, PartialEq, Eq)]
 pub(crate) enum Fate {
-    /// It stays until it is told of by the poll.
+    /// It stays, and waits until the poll reports it.
     Stays,
-    /// There is more to do for it.
+    /// It stays, and there is more to do for it at once.
     More,
     /// Its connection is closed.
     Closes,
 }
 
-// What a step came to.
+// The result of one step.
 #[derive(Clone, Copy, Debug, PartialEq, Eq)]
 enum Step {
     /// Something was done.
     Done,
-    /// Nothing can be done at present.
+    /// Nothing can be done until the poll reports the client.
     Waits,
-    /// It is over.
+    /// The client is done.
     Over,
 }
 
@@ -63,12 +63,12 @@ impl Client {
         }
     }
 
-    /// Whether it waits for something, so that its silence is no fault of its own.
+    /// Returns what the client waits for; while it waits its silence doesn't count against it.
     pub(crate) fn awaits(&self) -> Option<Awaited> {
         self.awaits
     }
 
-    /// Its connection alone.
+    /// Returns the connection.
     pub(crate) fn into_stream(self) -> UnixStream {
         let Client {
             stream,
@@ -82,7 +82,7 @@ impl Client {
         stream
     }
 
-    /// Does what can be done for it without waiting.
+    /// Does all that can be done for the client without waiting.
     pub(crate) fn work<S: Steers>(&mut self, steers: &mut S, buffer: &mut [u8], now: u64) -> Fate {
         for _ in 0..STEPS {
             match self.step(steers, buffer, now) {
@@ -94,7 +94,7 @@ impl Client {
         Fate::More
     }
 
-    // What it is told goes first, then its lines, then what it sends. While it waits for something it is not read.
+    // Sends what waits first, then obeys its lines, then reads. A client that waits for something isn't read.
     fn step<S: Steers>(
         &mut self,
         steers: &mut S,
@@ -126,7 +126,8 @@ impl Client {
         self.hear(buffer, now)
     }
 
-    // Whether it is gone: it neither sends nor takes any more. One that sends no more may still wait.
+    // Says whether the client neither sends nor takes any more. One that only sends no more may
+    // still wait for an answer.
     fn has_left(&self) -> bool {
         let mut asked = [pollfd {
             fd: self.stream.as_raw_fd(),
@@ -150,7 +151,7 @@ impl Client {
         }
     }
 
-    // An answer, and the empty line that ends it.
+    // Adds an answer, and the empty line that ends it.
     fn say(&mut self, text: &str) -> Result<(), AllocError> {
         self.outbox.clear();
         self.sent = 0;

@@ -7,11 +7,11 @@ use std::os::fd::AsRawFd;
 use std::os::unix::net::{UnixListener, UnixStream};
 use std::sync::{Mutex, Wait};
 
-/// What a proxy can be steered by: a socket, the end of standard input, or both.
+/// The means by which a proxy is steered: a socket, the end of standard input, or both.
 #[derive(Drop)]
 pub struct Controls {
     pub(crate) listener: Option<UnixListener>,
-    /// The end of standard input is an order to stop.
+    /// The end of standard input orders the proxy to stop.
     pub(crate) ends_with_input: bool,
     pub(crate) waker: Waker,
     pub(crate) alloc: Global,
@@ -20,7 +20,7 @@ pub struct Controls {
 }
 
 impl Controls {
-    /// None where the system has no poll to spare.
+    /// Makes the controls. Returns `None` where the system refuses a poll.
     pub fn new<R: Net>(
         rt: &R,
         alloc: Global,
@@ -46,18 +46,18 @@ impl Controls {
         })
     }
 
-    /// Has whoever attends look at once whether all is over.
+    /// Wakes the thread that attends, so that it looks whether the proxy has ended.
     pub fn ring(&self) {
-        // It fails only where a wake is before it already.
+        // A wake fails only where an earlier one is still pending.
         let _ = self.waker.wake();
     }
 
-    /// The poll, which one thread takes.
+    /// Takes the poll, which belongs to one thread.
     pub(crate) fn take_poll<R: Wait>(&self, rt: &R) -> Option<Poll> {
         self.poll.lock(rt).take()
     }
 
-    /// A connection that stays until the controls are gone. Where there is no memory for it, it is closed.
+    /// Keeps a connection open until the controls are dropped. Where there is no memory for that, it is closed.
     pub(crate) fn keep<R: Wait>(&self, rt: &R, stream: UnixStream) {
         let _ = self.kept.lock(rt).push(stream);
     }

@@ -4,10 +4,10 @@ ghost use Rattle.control_socket.specs.Inboxes.{is_line_feed, IsFirstLine};
 use std::alloc::{AllocError, Global};
 use std::marker::Model;
 
-/// So many bytes a line has at most, without its end.
+/// The most bytes of a line without its line feed.
 pub const MOST_LINE: usize = 4096;
 
-/// What a client sent and wasn't looked at yet.
+/// The bytes that a client sent and that weren't looked at yet.
 #[derive(Debug, Drop)]
 pub struct Inbox {
     alloc: Global,
@@ -32,7 +32,7 @@ impl Inbox {
         }
     }
 
-    /// More came.
+    /// Appends bytes.
     pub fn add(&mut self, more: &[u8]) -> Result<(), AllocError>
         ensures ok { OnOk result (self.new ≡ self.old ++ more.now) }
         ensures err { OnErr result (self.new ≡ self.old) }
@@ -40,7 +40,7 @@ impl Inbox {
         self.bytes.extend_from_slice(more)
     }
 
-    /// Takes the first line, without its line feed. None: there is no whole line.
+    /// Takes the first line, without its line feed. `None` where there is no whole line.
     pub fn take_line(&mut self) -> Result<Option<Vec<u8>>, AllocError>
         ensures line { IfOk result (λ found. IfSome found (λ line. IsFirstLine self.old line.items self.new)) }
         ensures none { IfOk result (λ found. IfNone found ((position is_line_feed self.old ≡ None) × (self.new ≡ self.old))) }
@@ -54,7 +54,7 @@ impl Inbox {
         Ok(Some(line))
     }
 
-    /// Whether no line that ends behind what is there can have at most [`MOST_LINE`] bytes.
+    /// Says whether the line that begins here has more than [`MOST_LINE`] bytes.
     pub fn is_too_long(&self) -> bool
         ensures { IsTrue result ↔ (MOST_LINE < length self.now) }
     {
@@ -68,7 +68,7 @@ fn line_end(bytes: &[u8]) -> Option<usize>
     bytes.iter().position(|byte| *byte == b'\n')
 }
 
-// What stands before a place, and what stands behind it.
+// Splits the bytes at a place: those before it, and those after it.
 fn parts_at(alloc: Global, bytes: &[u8], end: usize) -> Result<(Vec<u8>, Vec<u8>), AllocError>
     requires { end < length bytes.now }
     ensures { IfOk result (λ parts. (parts.0.items ≡ take end bytes.now) × (parts.1.items ≡ drop (end + 1) bytes.now)) }

@@ -1,7 +1,7 @@
-//! A control socket: where a running proxy is told and asked things, a line a command, and who does that.
+//! The control socket, where a running proxy takes commands, a line each, and the client that sends them.
 //!
-//! It is a thread of its own beside those that serve. No client of it is waited for: what one sends or takes slowly lies in its own buffers, and one that does
-//! nothing for a while is closed.
+//! The socket has a thread of its own beside those that serve. A slow client holds up no other,
+//! since each has buffers of its own, and an idle one is closed after a while.
 #![tactic(auto)]
 
 mod asking;

@@ -14,7 +14,7 @@ use std::os::unix::net::UnixStream;
 use std::sync::Wait;
 use std::time::{Clock, Duration, Instant};
 
-/// So many clients there are at once, those that wait for an answer among them; others wait until one leaves.
+/// The most clients at once, with those that wait for an answer; others wait until one leaves.
 const MOST_CLIENTS: usize = 32;
 
 pub(crate) const LISTENER: usize = MOST_CLIENTS;
@@ -25,31 +25,34 @@ const EVENTS: usize = 32;
 
 const BUFFER: usize = 4096;
 
-/// A client that neither sends nor takes a byte for so many milliseconds is closed, unless it waits for an answer.
+/// A client that neither sends nor takes a byte for this number of milliseconds is closed, unless
+/// it waits for an answer.
 const PATIENCE: u64 = 10_000;
 
-/// How long nothing is looked at while clients are there, at most, in milliseconds; while something is awaited; and while there is more to do.
+/// The longest waits of the thread while it has clients, in milliseconds: in general, while
+/// something is awaited, and while there is more to do.
 const SELDOM: i32 = 1000;
 
 const SOON: i32 = 10;
 
-/// Standard input.
+/// The descriptor of standard input.
 const INPUT: i32 = 0;
 
-// What the thread works with.
+// The state of the control socket's thread.
 struct Reception<'a, R> {
     rt: &'a R,
     controls: &'a Controls,
     clients: Vec<Option<Client>>,
     buffer: Vec<u8>,
     start: Instant,
-    /// The end of standard input is waited for.
+    /// The thread waits for the end of standard input.
     watches_input: bool,
-    /// Some client has more to do.
+    /// Some client has more to do at once.
     more: bool,
 }
 
-/// Attends to a control socket and to standard input until all is over. Fails where the system has nothing to spare for it.
+/// Attends to the control socket and to standard input until the proxy has ended. Fails where the
+/// system refuses memory or the poll.
 pub fn attend<R: Clock + Wait, S: Steers>(
     rt: &R,
     controls: &Controls,
@@ -95,14 +98,14 @@ impl<'a, R: Clock + Wait> Reception<'a, R> {
                 self.watches_input = false;
                 steers.end_of_input();
             }
-            // What is told is looked at for every client: they are few.
+            // Every client is tried, whichever the poll reports: they are few.
             let _ = poll.poll(&mut events, Some(Duration::from_millis(0)));
             self.accept(&poll);
             self.attend_to_all(steers);
         }
     }
 
-    // How long the next wait is at most, in milliseconds; -1: until something is told.
+    // Returns how long the next wait lasts at most, in milliseconds; -1 is without limit.
     fn patience(&self, tended: Tended) -> i32 {
         if self.more {
             return 0;
@@ -120,11 +123,11 @@ impl<'a, R: Clock + Wait> Reception<'a, R> {
         }
     }
 
-    // Waits for the poll and for standard input, and answers whether that ended.
+    // Waits for the poll and for standard input, and says whether standard input ended.
     fn wait(&self, poll: &Poll, millis: i32) -> bool {
         let mut asked = [question(poll.as_raw_fd()), question(INPUT)];
         if !self.watches_input {
-            // A negative number is no descriptor, and nothing is told of it.
+            // `poll` ignores a negative descriptor.
             asked[1].fd = -1;
         }
         if c::poll(&mut asked, millis) <= 0 || asked[1].revents == 0 {
@@ -134,7 +137,7 @@ impl<'a, R: Clock + Wait> Reception<'a, R> {
         libc::read(INPUT, &mut thrown) <= 0
     }
 
-    // Takes those that wait at the socket, as far as there is room.
+    // Accepts the clients that wait at the socket, as long as there is room.
     fn accept(&mut self, poll: &Poll) {
         let controls = self.controls;
         let Some(listener) = &controls.listener else {
@@ -182,7 +185,7 @@ impl<'a, R: Clock + Wait> Reception<'a, R> {
             };
             match client.work(steers, self.buffer.as_mut_slice(), now) {
                 Fate::Closes => {
-                    // Its place is free for one that waits.
+                    // The place is free for a client that waits.
                     self.more = true;
                     continue;
                 }
@@ -206,7 +209,7 @@ impl<'a, R: Clock + Wait> Reception<'a, R> {
         }
     }
 
-    // Those that wait for the end stay connected until the controls are gone.
+    // Keeps the clients that wait for the proxy's end connected until the controls are dropped.
     fn keep_who_waits(self) {
         let Reception {
             rt,

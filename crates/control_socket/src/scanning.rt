@@ -1,31 +1,31 @@
 ghost use Rattle.std.specs.Prelude.{◌≡◌, ◌≤◌, length, true};
 ghost use Rattle.control_socket.specs.Scans.{length_before_end, has_end, starts_line};
 
-/// Where one who reads an answer is: it ends with an empty line.
+/// The state of a reader of an answer, which ends with an empty line.
 #[derive(Clone, Copy, Debug, PartialEq, Eq)]
 pub struct Scan {
     /// The next byte begins a line.
     pub at_start: bool,
 }
 
-/// What bytes of an answer are.
+/// What the reader found in some bytes.
 #[derive(Clone, Copy, Debug, PartialEq, Eq)]
 pub struct Scanned {
-    /// So many of them stand before its end, or are all of them.
+    /// The number of bytes before the answer's end, or of all bytes.
     pub count: usize,
-    /// The empty line that ends it is among them.
+    /// The bytes contain the empty line that ends the answer.
     pub ended: bool,
 }
 
 impl Scan {
-    /// At the beginning of an answer.
+    /// Makes the state at the beginning of an answer.
     pub fn new() -> Scan
         ensures { result.at_start ≡ true }
     {
         Scan { at_start: true }
     }
 
-    /// Reads on.
+    /// Reads the next bytes.
     pub fn read(&mut self, bytes: &[u8]) -> Scanned
         ensures count { result.count ≡ length_before_end self.old.at_start bytes.now }
         ensures within { result.count ≤ length bytes.now }
@@ -38,7 +38,7 @@ impl Scan {
     }
 }
 
-// What bytes are, and whether the byte behind them begins a line.
+// Returns what is found in the bytes, and whether the byte after them begins a line.
 #[tactic(auto, unfolding(crate::specs::Scans::length_before_end, crate::specs::Scans::has_end, crate::specs::Scans::starts_line))]
 fn scanned_from(at_start: bool, bytes: &[u8]) -> (Scanned, bool)
     ensures count { result.0.count ≡ length_before_end at_start bytes.now }

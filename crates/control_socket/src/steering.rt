@@ -3,43 +3,43 @@ use std::alloc::AllocError;
 /// What a client waits for whose answer comes later.
 #[derive(Clone, Copy, Debug, PartialEq, Eq)]
 pub enum Awaited {
-    /// The server with this number serves nobody.
+    /// The server with this number serves no request.
     Drained(usize),
-    /// All is over. It is told nothing: its connection is closed then.
+    /// The proxy has ended. The client isn't told so: its connection is closed then.
     End,
 }
 
-/// What is answered to a line.
+/// The answer to a line.
 #[derive(Debug, Drop)]
 pub enum Answer {
-    /// At once.
+    /// A text at once.
     Now(String),
-    /// Once something has come.
+    /// An answer once something has happened.
     Later(Awaited),
-    /// At once, and then the connection stays until something has come.
+    /// A text at once; the connection stays open until something has happened.
     Then(String, Awaited),
 }
 
-/// Whether there is more to do.
+/// When there is more to do.
 #[derive(Clone, Copy, Debug, PartialEq, Eq)]
 pub enum Tended {
-    /// Once something is told.
+    /// Once something is reported.
     Rests,
     /// In a moment.
     Soon,
-    /// All is over.
+    /// Never: the proxy has ended.
     Over,
 }
 
-/// Whoever does what a line says.
+/// The executor of commands.
 pub trait Steers {
-    /// Does what a line says, and answers.
+    /// Executes a line's command, and returns the answer.
     fn obey(&mut self, line: &[u8]) -> Result<Answer, AllocError>;
 
-    /// The answer of one that waits, once what it waits for has come. None: it hasn't.
+    /// Returns the answer for a client that waits, once the event has happened; `None` before.
     fn look(&mut self, awaited: Awaited) -> Result<Option<String>, AllocError>;
 
-    /// Standard input ended.
+    /// Is called when standard input has ended.
     fn end_of_input(&mut self);
 
     /// Does what is due.

@@ -1,4 +1,4 @@
--- Which lines are which commands. A word that doesn't fit where it stands makes a line none, and so does one that is missing.
+-- The commands that lines stand for. A line isn't a command where a word doesn't fit its place or is missing.
 use Rattle.std.specs.Prelude.{ℕ, true, false, List, [], ◌∷◌, Result, Ok, Err, Option, Some, None, ◌||◌, if◌then◌else◌, codes}
 use Rattle.std.specs.Str.{bytes_eq}
 use Rattle.control_words.specs.declared.command.Command.{Command}
@@ -9,7 +9,7 @@ use Rattle.control_words.specs.declared.pieces.Misfit.TheVariants.{Missing, Bad}
 use Rattle.control_words.specs.Misfits.{◌>>=◌}
 use Rattle.control_words.specs.Pieces.{word_at, fixed_at, name_at, name_below_at, intake_at, millis_at, end_at}
 
--- the commands of one word
+-- the command of one word
 abbrev pub plain : List ℕ → Option Command
 plain word =
     if bytes_eq word (codes "pause") then Some Pause
@@ -20,24 +20,24 @@ plain word =
     else if bytes_eq word (codes "help") then Some Help
     else None
 
--- a command, where no word stands behind it
+-- the command, where no word stands after it
 abbrev pub alone : Command → List (List ℕ) → Result Command Misfit
 alone command [] = Ok command
 alone command (word ∷ words) = Err (Bad word)
 
--- the state, by the words behind `state`: `--json` or none
+-- the command `state`, by the words after it: `--json` or none
 abbrev pub state_of : List (List ℕ) → Result Command Misfit
 state_of [] = Ok (State Lines)
 state_of (word ∷ words) = if bytes_eq word (codes "--json") then alone (State Json) words else Err (Bad word)
 
--- a limit, by the words behind `limit`: the server's name, and how many requests it takes
+-- the command `limit`, by the words after it: the server's name, and the number of requests that it takes
 unfoldable pub limit_of : List (List ℕ) → Result Command Misfit
 limit_of words = do
   server ← name_at words
   intake ← intake_at server.1
   alone (Limit server.0 intake.0) intake.1
 
--- that a server takes nobody, by the words behind `drain`, its name read: `--wait` or none
+-- the command `drain`, by the words after the server's name: `--wait` or none
 abbrev pub drained : List ℕ → List (List ℕ) → Result Command Misfit
 drained server [] = Ok (Drain server false)
 drained server (word ∷ words) = if bytes_eq word (codes "--wait") then alone (Drain server true) words else Err (Bad word)
@@ -47,37 +47,37 @@ drain_of words = do
   server ← name_at words
   drained server.0 server.1
 
--- that a server takes as many again, by the words behind `ready`: its name
+-- the command `ready`, by the words after it: the server's name
 unfoldable pub ready_of : List (List ℕ) → Result Command Misfit
 ready_of words = do
   server ← name_at words
   alone (Ready server.0) server.1
 
--- the end within a time, by the words behind `stop --within`: a number of milliseconds
+-- the command `stop --within`, by the words after it: a number of milliseconds
 unfoldable pub within_of : List (List ℕ) → Result Command Misfit
 within_of words = do
   millis ← millis_at words
   alone (Stop (Some millis.0)) millis.1
 
--- the end, by the words behind `stop`: `--within` and a number of milliseconds, or none
+-- the command `stop`, by the words after it: `--within` and a number of milliseconds, or none
 abbrev pub stop_of : List (List ℕ) → Result Command Misfit
 stop_of [] = Ok (Stop None)
 stop_of (word ∷ words) = if bytes_eq word (codes "--within") then within_of words else Err (Bad word)
 
--- the state as HAProxy's `show servers state`, by the words behind `show servers`
+-- HAProxy's `show servers state`, by the words after `show servers`
 unfoldable pub servers_of : List (List ℕ) → Result Command Misfit
 servers_of words = do
   others ← fixed_at (codes "state") words
   alone (State Servers) others
 
--- the state in HAProxy's forms, by the words behind `show`
+-- HAProxy's `show stat` and `show servers state`, by the words after `show`
 abbrev pub show_of : List (List ℕ) → Result Command Misfit
 show_of [] = Err Missing
 show_of (word ∷ words) = if bytes_eq word (codes "stat") then alone (State Stat) words
     else if bytes_eq word (codes "servers") then servers_of words
     else Err (Bad word)
 
--- a limit in HAProxy's words, those behind `set maxconn`
+-- HAProxy's `set maxconn server`, by the words after `set maxconn`
 unfoldable pub set_limit_of : List (List ℕ) → Result Command Misfit
 set_limit_of words = do
   others ← fixed_at (codes "server") words
@@ -85,28 +85,28 @@ set_limit_of words = do
   intake ← intake_at server.1
   alone (Limit server.0 intake.0) intake.1
 
--- how a server is to stand, in HAProxy's words, its name read: the word of the state
+-- HAProxy's `set server .. state`, by the words after the server's name
 abbrev pub stood : List ℕ → List (List ℕ) → Result Command Misfit
 stood server [] = Err Missing
 stood server (word ∷ words) = if bytes_eq word (codes "ready") then alone (Ready server) words
     else if bytes_eq word (codes "drain") || bytes_eq word (codes "maint") then alone (Drain server false) words
     else Err (Bad word)
 
--- the same by the words behind `set server`
+-- HAProxy's `set server .. state`, by the words after `set server`
 unfoldable pub set_state_of : List (List ℕ) → Result Command Misfit
 set_state_of words = do
   server ← name_below_at words
   others ← fixed_at (codes "state") server.1
   stood server.0 others
 
--- what is set in HAProxy's words, by those behind `set`
+-- HAProxy's `set` commands, by the words after `set`
 abbrev pub set_of : List (List ℕ) → Result Command Misfit
 set_of [] = Err Missing
 set_of (word ∷ words) = if bytes_eq word (codes "maxconn") then set_limit_of words
     else if bytes_eq word (codes "server") then set_state_of words
     else Err (Bad word)
 
--- the command of one word, and nothing behind it
+-- the command of one word, with no word after it
 abbrev pub single : List ℕ → List (List ℕ) → Option Command → Result Command Misfit
 single word words None = Err (Bad word)
 single word words (Some command) = alone command words
@@ -117,7 +117,7 @@ other_of word words = if bytes_eq word (codes "show") then show_of words
     else if bytes_eq word (codes "set") then set_of words
     else single word words (plain word)
 
--- the commands that have words behind their first, and the others
+-- the commands that have words after the first, and the others
 abbrev pub first_of : List ℕ → List (List ℕ) → Result Command Misfit
 first_of word words = if bytes_eq word (codes "state") then state_of words
     else if bytes_eq word (codes "limit") then limit_of words

@@ -1,4 +1,4 @@
--- The text of how a proxy stands. A line feed ends each line.
+-- The text of a proxy's state. A line feed ends each line.
 use Rattle.std.specs.Prelude.{ℕ, ◌+◌, Bool, true, false, List, [], ◌∷◌, ◌++◌, codes, if◌then◌else◌}
 use Rattle.std.specs.Fmt.{decimal}
 use Rattle.script.specs.Traces.{health_word, name_of, intake_text}
@@ -9,20 +9,20 @@ use Rattle.control_words.specs.declared.state.ProxyState.{ProxyState}
 abbrev pub head_text : List ℕ → Bool → List ℕ
 head_text name up = codes "server " ++ name ++ codes " " ++ health_word up ++ codes " limit "
 
--- what a server serves, and what waits for it
+-- the number of requests that a server serves, and of those that wait for it
 abbrev pub counts_text : ServerState → List ℕ
 counts_text server = codes " served " ++ decimal server.served ++ codes " waiting " ++ decimal server.waiting ++ codes "\n"
 
--- the line of a server of this name
+-- the line of a server with this name
 abbrev pub server_text : List ℕ → ServerState → List ℕ
 server_text name server = head_text name server.up ++ intake_text server.intake ++ counts_text server
 
--- those of servers in file order, the first of which has this number
+-- the lines of servers in file order, the first of which has this number
 unfoldable pub servers_text : List (List ℕ) → ℕ → List ServerState → List ℕ
 servers_text names number [] = []
 servers_text names number (server ∷ servers) = server_text (name_of names number) server ++ servers_text names (1 + number) servers
 
--- the word for what a proxy does, by whether it stops and whether it pauses
+-- the word for a proxy's phase, by whether it stops and whether it pauses
 abbrev pub phase_word : Bool → Bool → List ℕ
 phase_word stopping paused = if stopping then codes "stopping" else if paused then codes "paused" else codes "serving"
 

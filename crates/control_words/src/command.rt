@@ -8,47 +8,47 @@ use dispatch_log::Intake;
 use proxy_words::Words;
 use script::Name;
 
-/// What a proxy is told or asked.
+/// A command to a running proxy.
 #[derive(Debug, Drop)]
 pub enum Command<'a> {
-    /// How its servers and its clients stand.
+    /// Tell the state of its servers and clients.
     State(Form),
-    /// A server serves at most so many at once from now on, or takes nobody.
+    /// From now on a server serves at most this number of requests at once, or takes none.
     Limit { server: Name<'a>, intake: Intake },
-    /// A server takes nobody; whether the answer waits until it serves nobody.
+    /// A server takes no more requests; `waits` says whether the answer waits until it serves none.
     Drain { server: Name<'a>, waits: bool },
-    /// A server takes as many again as the configuration says.
+    /// A server takes as many requests as the configuration says again.
     Ready { server: Name<'a> },
-    /// No server takes anybody.
+    /// No server takes requests.
     Pause,
-    /// Those take as many again that took some before the pause.
+    /// The servers take as many requests as before the pause.
     Resume,
-    /// The reports of the present window.
+    /// Tell the reports of the present window.
     Reports,
-    /// How many clients there are.
+    /// Tell the number of clients.
     Clients,
-    /// The files of the logs are opened anew.
+    /// Open the log files again.
     Reopen,
-    /// All is over once those who are there were served, or after so many milliseconds.
+    /// End once all present clients were served, or after this number of milliseconds.
     Stop { within: Option<u64> },
-    /// Which commands there are.
+    /// List the commands.
     Help,
 }
 
-/// In which form the state is answered.
+/// The form in which the state is told.
 #[derive(Clone, Copy, Debug, PartialEq, Eq)]
 pub enum Form {
-    /// A line for each server.
+    /// Text, a line for each server.
     Lines,
-    /// One value of JSON.
+    /// One JSON value.
     Json,
-    /// As HAProxy's `show stat`.
+    /// HAProxy's `show stat`.
     Stat,
-    /// As HAProxy's `show servers state`.
+    /// HAProxy's `show servers state`.
     Servers,
 }
 
-/// The command that a line is, or why it is none.
+/// Reads the command of a line, or says why it isn't one.
 pub fn command_of<'a>(line: &'a [u8]) -> Result<Command<'a>, Misfit<'a>>
     ensures { Sees (λ x. x) result (grammar.command_of (words_of line.now)) }
 {
@@ -56,7 +56,7 @@ pub fn command_of<'a>(line: &'a [u8]) -> Result<Command<'a>, Misfit<'a>>
     by_first(first, words)
 }
 
-// The command that begins with this word.
+// Reads the command that begins with this word.
 fn by_first<'a>(first: &'a [u8], words: Words<'a>) -> Result<Command<'a>, Misfit<'a>>
     ensures { Sees (λ x. x) result (grammar.first_of first.now words.entry) }
 {
@@ -75,7 +75,7 @@ fn by_first<'a>(first: &'a [u8], words: Words<'a>) -> Result<Command<'a>, Misfit
     }
 }
 
-// A command that begins with one of HAProxy's words, or has one word.
+// Reads a command that begins with one of HAProxy's words, or has one word.
 fn other<'a>(first: &'a [u8], words: Words<'a>) -> Result<Command<'a>, Misfit<'a>>
     ensures { Sees (λ x. x) result (grammar.other_of first.now words.entry) }
 {
@@ -88,7 +88,7 @@ fn other<'a>(first: &'a [u8], words: Words<'a>) -> Result<Command<'a>, Misfit<'a
     }
 }
 
-// A command of one word, and nothing behind it.
+// Reads a command of one word, with no word after it.
 fn single<'a>(first: &'a [u8], words: Words<'a>) -> Result<Command<'a>, Misfit<'a>>
     ensures { Sees (λ x. x) result (grammar.single first.now words.entry (grammar.plain first.now)) }
 {
@@ -98,7 +98,7 @@ fn single<'a>(first: &'a [u8], words: Words<'a>) -> Result<Command<'a>, Misfit<'
     }
 }
 
-// The command of one word that this is.
+// Returns the command of this word alone.
 fn plain<'a>(word: &[u8]) -> Option<Command<'a>>
     ensures { result ≡ grammar.plain word.now }
 {
@@ -119,7 +119,7 @@ fn plain<'a>(word: &[u8]) -> Option<Command<'a>>
     }
 }
 
-// The command, where no word stands behind it.
+// Returns the command, where no word stands after it.
 fn alone<'a>(command: Command<'a>, words: Words<'a>) -> Result<Command<'a>, Misfit<'a>>
     ensures { Sees (λ x. x) result (grammar.alone command.entry words.entry) }
 {
@@ -127,7 +127,7 @@ fn alone<'a>(command: Command<'a>, words: Words<'a>) -> Result<Command<'a>, Misf
     Ok(command)
 }
 
-// `--json` or nothing, behind `state`.
+// Reads `--json` or nothing, after `state`.
 fn state<'a>(mut words: Words<'a>) -> Result<Command<'a>, Misfit<'a>>
     ensures { Sees (λ x. x) result (grammar.state_of words.entry) }
 {
@@ -138,7 +138,7 @@ fn state<'a>(mut words: Words<'a>) -> Result<Command<'a>, Misfit<'a>>
     }
 }
 
-// `SERVER N` or `SERVER closed`, behind `limit`.
+// Reads `SERVER N` or `SERVER closed`, after `limit`.
 #[tactic(auto, unfolding(crate::specs::Commands::limit_of))]
 fn limit<'a>(words: Words<'a>) -> Result<Command<'a>, Misfit<'a>>
     ensures { Sees (λ x. x) result (grammar.limit_of words.entry) }
@@ -148,7 +148,7 @@ fn limit<'a>(words: Words<'a>) -> Result<Command<'a>, Misfit<'a>>
     alone(Command::Limit { server, intake }, words)
 }
 
-// `SERVER` or `SERVER --wait`, behind `drain`.
+// Reads `SERVER` or `SERVER --wait`, after `drain`.
 #[tactic(auto, unfolding(crate::specs::Commands::drain_of))]
 fn drain<'a>(words: Words<'a>) -> Result<Command<'a>, Misfit<'a>>
     ensures { Sees (λ x. x) result (grammar.drain_of words.entry) }
@@ -157,7 +157,7 @@ fn drain<'a>(words: Words<'a>) -> Result<Command<'a>, Misfit<'a>>
     drain_one(server, words)
 }
 
-// `--wait` or nothing, behind `drain SERVER`.
+// Reads `--wait` or nothing, after `drain SERVER`.
 fn drain_one<'a>(server: Name<'a>, mut words: Words<'a>) -> Result<Command<'a>, Misfit<'a>>
     ensures { Sees (λ x. x) result (grammar.drained server.entry words.entry) }
 {
@@ -168,7 +168,7 @@ fn drain_one<'a>(server: Name<'a>, mut words: Words<'a>) -> Result<Command<'a>, 
     }
 }
 
-// `SERVER`, behind `ready`.
+// Reads `SERVER`, after `ready`.
 #[tactic(auto, unfolding(crate::specs::Commands::ready_of))]
 fn ready<'a>(words: Words<'a>) -> Result<Command<'a>, Misfit<'a>>
     ensures { Sees (λ x. x) result (grammar.ready_of words.entry) }
@@ -177,7 +177,7 @@ fn ready<'a>(words: Words<'a>) -> Result<Command<'a>, Misfit<'a>>
     alone(Command::Ready { server }, words)
 }
 
-// `--within MS` or nothing, behind `stop`.
+// Reads `--within MS` or nothing, after `stop`.
 fn stop<'a>(mut words: Words<'a>) -> Result<Command<'a>, Misfit<'a>>
     ensures { Sees (λ x. x) result (grammar.stop_of words.entry) }
 {
@@ -188,7 +188,7 @@ fn stop<'a>(mut words: Words<'a>) -> Result<Command<'a>, Misfit<'a>>
     }
 }
 
-// `MS`, behind `stop --within`.
+// Reads `MS`, after `stop --within`.
 #[tactic(auto, unfolding(crate::specs::Commands::within_of))]
 fn within<'a>(words: Words<'a>) -> Result<Command<'a>, Misfit<'a>>
     ensures { Sees (λ x. x) result (grammar.within_of words.entry) }
@@ -198,7 +198,7 @@ fn within<'a>(words: Words<'a>) -> Result<Command<'a>, Misfit<'a>>
     alone(Command::Stop { within }, words)
 }
 
-// `stat` or `servers state`, behind `show`.
+// Reads `stat` or `servers state`, after `show`.
 fn show<'a>(words: Words<'a>) -> Result<Command<'a>, Misfit<'a>>
     ensures { Sees (λ x. x) result (grammar.show_of words.entry) }
 {
@@ -210,7 +210,7 @@ fn show<'a>(words: Words<'a>) -> Result<Command<'a>, Misfit<'a>>
     }
 }
 
-// `state`, behind `show servers`.
+// Reads `state`, after `show servers`.
 #[tactic(auto, unfolding(crate::specs::Commands::servers_of))]
 fn servers<'a>(words: Words<'a>) -> Result<Command<'a>, Misfit<'a>>
     ensures { Sees (λ x. x) result (grammar.servers_of words.entry) }
@@ -219,7 +219,7 @@ fn servers<'a>(words: Words<'a>) -> Result<Command<'a>, Misfit<'a>>
     alone(Command::State(Form::Servers), words)
 }
 
-// `maxconn server BACKEND/SERVER N` or `server BACKEND/SERVER state ..`, behind `set`.
+// Reads `maxconn server BACKEND/SERVER N` or `server BACKEND/SERVER state ..`, after `set`.
 fn set<'a>(words: Words<'a>) -> Result<Command<'a>, Misfit<'a>>
     ensures { Sees (λ x. x) result (grammar.set_of words.entry) }
 {
@@ -250,7 +250,7 @@ fn set_state<'a>(words: Words<'a>) -> Result<Command<'a>, Misfit<'a>>
     stand(server, words)
 }
 
-// `ready`, `drain` or `maint`, behind `set server BACKEND/SERVER state`.
+// Reads `ready`, `drain` or `maint`, after `set server BACKEND/SERVER state`.
 fn stand<'a>(server: Name<'a>, words: Words<'a>) -> Result<Command<'a>, Misfit<'a>>
     ensures { Sees (λ x. x) result (grammar.stood server.entry words.entry) }
 {

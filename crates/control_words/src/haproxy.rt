@@ -1,4 +1,4 @@
-//! The state in the forms of HAProxy's runtime API. What isn't known is left empty.
+//! The state in the forms of HAProxy's runtime API. Columns that the proxy doesn't know are empty.
 
 use crate::state::{ProxyState, ServerState};
 use dispatch_log::Intake;
@@ -9,14 +9,15 @@ use std::alloc::AllocError;
 const STAT: &str =
     "# pxname,svname,qcur,qmax,scur,smax,slim,stot,bin,bout,dreq,dresp,ereq,econ,eresp,wretr,wredis,status,weight,";
 
-/// Those of `show servers state` up to the weight.
+/// The columns of `show servers state` up to the weight.
 const SERVERS: &str =
     "1\n# be_id be_name srv_id srv_name srv_addr srv_op_state srv_admin_state srv_uweight";
 
-/// The name that the proxy has in both.
+/// The proxy's name in both.
 const PROXY: &str = "dueproxy";
 
-/// Writes the lines of `show stat` at the end: one for each server, and one for the requests that wait. After an `Err` a part of them may stand there.
+/// Appends the lines of `show stat`: one for each server, and one for the requests in the backend's
+/// queue. After an `Err` some of them may stand there.
 pub fn push_stat(text: &mut String, names: &Names, state: &ProxyState) -> Result<(), AllocError> {
     writeln!(text, "{STAT}")?;
     for (number, server) in state.servers.as_slice().iter().enumerate() {
@@ -43,7 +44,7 @@ fn push_stat_line(text: &mut String, name: &str, server: &ServerState) -> Result
     writeln!(text, ",,,,,,,,,,,{status},,")
 }
 
-// A server that is closed reads as one that HAProxy drains.
+// A closed server is shown as one that HAProxy drains.
 fn status_of(server: &ServerState) -> &'static str {
     match (server.up, server.intake) {
         (false, _) => "DOWN",
@@ -52,7 +53,7 @@ fn status_of(server: &ServerState) -> &'static str {
     }
 }
 
-/// Writes the lines of `show servers state` at the end. After an `Err` a part of them may stand there.
+/// Appends the lines of `show servers state`. After an `Err` some of them may stand there.
 pub fn push_servers_state(
     text: &mut String,
     names: &Names,
@@ -62,7 +63,7 @@ pub fn push_servers_state(
     for (number, server) in state.servers.as_slice().iter().enumerate() {
         let name = names.of(number);
         let place = number.saturating_add(1);
-        // 2: it runs, 0: it doesn't; 8: it was drained by hand.
+        // In HAProxy's format 2 is up and 0 is down; 8 is a server drained by an operator.
         let runs = if server.up { 2 } else { 0 };
         let drained = if server.intake == Intake::Closed {
             8

@@ -1,4 +1,4 @@
-//! The state as one value of JSON.
+//! The state as one JSON value.
 
 use crate::state::{ProxyState, ServerState, phase_of};
 use dispatch_log::Intake;
@@ -6,7 +6,7 @@ use script::Names;
 use serde::Serialize;
 use std::alloc::{AllocError, Global};
 
-/// A server in it. Without a limit: it is closed.
+/// A server in JSON. `None` as the limit: it is closed.
 #[derive(Drop, Serialize)]
 struct Server<'a> {
     name: &'a str,
@@ -25,7 +25,7 @@ struct State<'a> {
     servers: Vec<Server<'a>>,
 }
 
-/// The state as one value of JSON, on a line. A server that is closed has `null` for its limit.
+/// Returns the state as one JSON value, on one line. A closed server has `null` as its limit.
 pub fn json_of(alloc: Global, names: &Names, state: &ProxyState) -> Result<String, AllocError> {
     let mut servers = Vec::new(alloc);
     for (number, server) in state.servers.as_slice().iter().enumerate() {

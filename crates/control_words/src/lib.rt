@@ -1,4 +1,4 @@
-//! What a running proxy is told and asked, a line a command, what it is to do then, and what it answers.
+//! The commands to a running proxy, a line each, the wishes for its servers that follow, and the answers.
 #![tactic(auto)]
 
 mod command;

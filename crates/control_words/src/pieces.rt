@@ -10,16 +10,16 @@ use dispatch_log::Intake;
 use proxy_words::{Words, long_number};
 use script::{Name, intake_of};
 
-/// Why a line is no command.
+/// Why a line isn't a command.
 #[derive(Debug, Drop)]
 pub enum Misfit<'a> {
-    /// It ends where a word is wanted.
+    /// The line ends where a word is needed.
     Missing,
     /// The first word that doesn't fit.
     Bad(Word<'a>),
 }
 
-/// A word, and the words after it.
+/// Takes a word, and returns the words after it too.
 pub(crate) fn word<'a>(mut words: Words<'a>) -> Result<(&'a [u8], Words<'a>), Misfit<'a>>
     ensures { Sees (λ x. (x.0.now, x.1)) result (grammar.word_at words.entry) }
 {
@@ -29,7 +29,7 @@ pub(crate) fn word<'a>(mut words: Words<'a>) -> Result<(&'a [u8], Words<'a>), Mi
     }
 }
 
-/// The same of a word that is this one.
+/// Takes a word that must be this text.
 pub(crate) fn fixed<'a>(text: &str, words: Words<'a>) -> Result<Words<'a>, Misfit<'a>>
     ensures { Sees (λ x. x) result (grammar.fixed_at text.now words.entry) }
 {
@@ -41,7 +41,7 @@ pub(crate) fn fixed<'a>(text: &str, words: Words<'a>) -> Result<Words<'a>, Misfi
     }
 }
 
-/// The same of a word that is a name.
+/// Takes a word that must be a name.
 pub(crate) fn name<'a>(words: Words<'a>) -> Result<(Name<'a>, Words<'a>), Misfit<'a>>
     ensures { Sees (λ x. x) result (grammar.name_at words.entry) }
 {
@@ -52,7 +52,7 @@ pub(crate) fn name<'a>(words: Words<'a>) -> Result<(Name<'a>, Words<'a>), Misfit
     }
 }
 
-/// The same of a word that is `BACKEND/SERVER`: the second name.
+/// Takes a word `BACKEND/SERVER`, and returns the second name.
 pub(crate) fn name_below<'a>(words: Words<'a>) -> Result<(Name<'a>, Words<'a>), Misfit<'a>>
     ensures { Sees (λ x. x) result (grammar.name_below_at words.entry) }
 {
@@ -63,7 +63,7 @@ pub(crate) fn name_below<'a>(words: Words<'a>) -> Result<(Name<'a>, Words<'a>), 
     }
 }
 
-/// The same of a word that says how many requests a server takes.
+/// Takes a word that says how many requests a server takes.
 pub(crate) fn intake<'a>(words: Words<'a>) -> Result<(Intake, Words<'a>), Misfit<'a>>
     ensures { Sees (λ x. x) result (grammar.intake_at words.entry) }
 {
@@ -74,7 +74,7 @@ pub(crate) fn intake<'a>(words: Words<'a>) -> Result<(Intake, Words<'a>), Misfit
     }
 }
 
-/// The same of a word that is a number of at most 18 digits.
+/// Takes a word that is a number of at most 18 digits.
 pub(crate) fn millis<'a>(words: Words<'a>) -> Result<(u64, Words<'a>), Misfit<'a>>
     ensures { Sees (λ x. x) result (grammar.millis_at words.entry) }
 {
@@ -85,7 +85,7 @@ pub(crate) fn millis<'a>(words: Words<'a>) -> Result<(u64, Words<'a>), Misfit<'a
     }
 }
 
-/// No word more.
+/// Checks that no word is left.
 pub(crate) fn end<'a>(mut words: Words<'a>) -> Result<(), Misfit<'a>>
     ensures { Sees (λ x. x) result (grammar.end_at words.entry) }
 {
@@ -95,21 +95,21 @@ pub(crate) fn end<'a>(mut words: Words<'a>) -> Result<(), Misfit<'a>>
     }
 }
 
-/// Whether a word is this text.
+/// Says whether a word is this text.
 pub(crate) fn is(word: &[u8], text: &str) -> bool
     ensures { result ≡ bytes_eq word.now text.now }
 {
     word == text.as_bytes()
 }
 
-/// This word doesn't fit.
+/// Makes the misfit of this word.
 pub(crate) fn bad<'a>(word: &'a [u8]) -> Misfit<'a>
     ensures { result ≡ Misfit.Bad word.now }
 {
     Misfit::Bad(Word::new(word))
 }
 
-// The name behind the first slash of a word.
+// Returns the name after the first slash of a word.
 fn below<'a>(word: &'a [u8]) -> Option<Name<'a>>
     ensures { result ≡ grammar.named_below word.now }
 {

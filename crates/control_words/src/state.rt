@@ -6,37 +6,38 @@ use dispatch_log::Intake;
 use script::Names;
 use std::alloc::AllocError;
 
-/// How a server stands.
+/// The state of a server.
 #[derive(Clone, Copy, Debug, PartialEq, Eq)]
 pub struct ServerState {
-    /// Whether it is up, by the results of its checks.
+    /// It is up, by the results of its checks.
     pub up: bool,
-    /// How many it takes.
+    /// How many requests it takes.
     pub intake: Intake,
-    /// So many requests it serves.
+    /// The number of requests that it serves.
     pub served: usize,
-    /// So many wait in its own queue.
+    /// The number of requests in its own queue.
     pub waiting: usize,
 }
 
-/// How a proxy stands.
+/// The state of a proxy.
 #[derive(Debug, Drop)]
 pub struct ProxyState {
-    /// In file order.
+    /// The servers, in file order.
     pub servers: Vec<ServerState>,
-    /// So many requests wait for whichever server takes them.
+    /// The number of requests in the backend's queue.
     pub waiting: usize,
-    /// So many requests may be served or wait.
+    /// The most requests that may be served or wait.
     pub places: usize,
-    /// So many clients there are.
+    /// The number of clients.
     pub clients: u64,
     /// A pause keeps all servers closed.
     pub paused: bool,
-    /// No more clients are taken.
+    /// The proxy accepts no more clients.
     pub stopping: bool,
 }
 
-/// Writes a line for each server in file order at the end, and one for the proxy. After an `Err` a part of them may stand there.
+/// Appends a line for each server in file order, and one for the proxy. After an `Err` some of them
+/// may stand there.
 pub fn push_state(text: &mut String, names: &Names, state: &ProxyState) -> Result<(), AllocError>
     ensures { OnOk result (string_bytes text.new ≡ string_bytes text.old ++ state_text names.now state.now) }
 {
@@ -99,7 +100,7 @@ fn push_sums(text: &mut String, state: &ProxyState) -> Result<(), AllocError>
     )
 }
 
-/// The word for what a proxy does.
+/// Returns the word for the proxy's phase.
 pub(crate) fn phase_of(state: &ProxyState) -> &'static str
     ensures { result.now ≡ phase_word state.now.stopping state.now.paused }
 {

@@ -5,18 +5,18 @@ use dispatch_log::Intake;
 use std::alloc::{AllocError, Global};
 use std::marker::Model;
 
-/// How many requests a server is to take.
+/// The wish for a server: how many requests it is to take.
 #[derive(Clone, Copy, Debug, PartialEq, Eq)]
 pub struct Wish {
-    /// As the configuration says; 0: any number.
+    /// The configuration's limit; 0 is without limit.
     pub first: u32,
-    /// As was said last.
+    /// The limit that was set last.
     pub limit: u32,
-    /// It is to take nobody.
+    /// It is to take no requests.
     pub drained: bool,
 }
 
-/// What is wished of the servers, in file order, and whether a pause keeps all of them closed.
+/// The wishes for the servers, in file order, and whether a pause keeps all of them closed.
 #[derive(Debug, Drop)]
 pub struct Wishes {
     list: Vec<Wish>,
@@ -32,7 +32,7 @@ impl Model for Wishes {
 }
 
 impl Wishes {
-    /// As these limits of a configuration say.
+    /// Makes the wishes of a configuration's limits.
     pub fn new(alloc: Global, limits: &[u32]) -> Result<Wishes, AllocError>
         ensures { IfOk result (λ wishes. wishes ≡ record { list = map opened limits.now; paused = false }) }
     {
@@ -50,7 +50,7 @@ impl Wishes {
         })
     }
 
-    /// How many there are.
+    /// Returns the number of servers.
     pub fn len(&self) -> usize
         ensures { result ≡ length self.now.list }
     {
@@ -63,7 +63,7 @@ impl Wishes {
         self.paused
     }
 
-    /// What a server is to take at present; None where there is no such server.
+    /// Returns how many requests a server is to take now; `None` where there is no such server.
     pub fn intake(&self, server: usize) -> Option<Intake>
         ensures { result ≡ intake_for self.now server }
     {
@@ -75,7 +75,7 @@ impl Wishes {
         }
     }
 
-    /// A server is to take so many, once no pause keeps it closed.
+    /// Sets how many requests a server is to take, as soon as no pause closes it.
     pub fn limit(&mut self, server: usize, intake: Intake)
         ensures wish { (wish : Wish) → slice_get self.old.list server ≡ Some wish → self.new.list ≡ slice_set self.old.list server (with_intake intake wish) }
         ensures none { slice_get self.old.list server ≡ None → self.new.list ≡ self.old.list }
@@ -86,7 +86,7 @@ impl Wishes {
         }
     }
 
-    /// A server is to take as many as the configuration says, once no pause keeps it closed.
+    /// Sets a server back to the configuration's limit, as soon as no pause closes it.
     pub fn ready(&mut self, server: usize)
         ensures wish { (wish : Wish) → slice_get self.old.list server ≡ Some wish → self.new.list ≡ slice_set self.old.list server (as_at_first wish) }
         ensures none { slice_get self.old.list server ≡ None → self.new.list ≡ self.old.list }
@@ -97,14 +97,14 @@ impl Wishes {
         }
     }
 
-    /// All are kept closed.
+    /// Closes all servers by a pause.
     pub fn pause(&mut self)
         ensures { self.new ≡ record self.old { paused = true } }
     {
         self.paused = true;
     }
 
-    /// None is kept closed by a pause.
+    /// Ends the pause.
     pub fn resume(&mut self)
         ensures { self.new ≡ record self.old { paused = false } }
     {

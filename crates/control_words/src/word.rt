@@ -3,7 +3,7 @@ ghost use Rattle.std.specs.Prelude.{◌≡◌};
 use std::marker::Model;
 use std::str;
 
-/// A word of a line, as it came.
+/// A word of a line, as bytes.
 #[derive(Debug, Drop)]
 pub struct Word<'a> {
     bytes: &'a [u8],
@@ -30,7 +30,7 @@ impl<'a> Word<'a> {
         self.bytes
     }
 
-    /// The word, where it is a text.
+    /// Returns the word, where it is UTF-8.
     pub fn as_str(&self) -> Option<&str> {
         str::from_utf8(self.bytes).ok()
     }

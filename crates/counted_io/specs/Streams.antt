@@ -1,17 +1,17 @@
--- What is known of one end of a stream of bytes, and what was asked of it.
+-- The observable state of one end of a byte stream: what is known of its bytes, and the calls that were made.
 use base.Fml.{GName}
 use Rattle.std.specs.Prelude.{◌≡◌, ℕ, ◌+◌, List, Option, Result, MatchResult}
 
 pub record Stream : Type 0 where
-  -- which end it is
+  -- the identity of the end
   pub name : GName
-  -- the bytes that a source has left, or that a sink holds, where they are known
+  -- the bytes that a source has left, or that a sink has taken, where they are known
   pub bytes : Option (List ℕ)
-  -- how often it was asked, and how often in vain
+  -- the number of calls, and the number of those that failed
   pub calls : ℕ
   pub failures : ℕ
 
--- the same end was asked once more, and in vain where the answer is an error
+-- one more call was made at the same end, and it counts as failed where the answer is an error
 pub record Counts {T E : Type 0} (old new : Stream) (result : Result T E) : Type 0 where
   pub same : new.name ≡ old.name
   pub calls : new.calls ≡ old.calls + 1

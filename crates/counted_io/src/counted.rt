@@ -13,7 +13,7 @@ pub struct Counted<'s, S> {
 }
 
 impl<'s, S> Counted<'s, S> {
-    /// Nothing was asked of it yet.
+    /// Wraps a stream on which no call was made yet.
     pub fn new(stream: &'s mut S) -> Self
         ensures same { result.stream.ghost_name ≡ stream.entry.ghost_name }
         ensures now { result.stream.now ≡ stream.old }

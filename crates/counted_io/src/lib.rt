@@ -1,7 +1,8 @@
-//! Ends of byte streams that count: how often each was asked, and how often in vain.
+//! Ends of byte streams that count their calls and the calls that failed.
 //!
-//! The standard contracts of readers and writers tell which bytes came and went, and have no word for a call that
-//! failed. A function over a `Source` or a `Sink` can say of each fault whose it was, and how many calls it made.
+//! The standard contracts of readers and writers tell which bytes came and went, and say nothing of
+//! a call that failed. A function over a `Source` or a `Sink` can say for each fault on which side
+//! it arose, and how many calls it made.
 #![tactic(auto)]
 
 mod counted;

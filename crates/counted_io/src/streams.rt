@@ -3,16 +3,16 @@ ghost use Rattle.std.specs.Io.{ReadsAtMost, WritesAtMost};
 ghost use Rattle.std.specs.Io.KnownBytes.{ReadConsumes, WriteAppends};
 ghost use Rattle.counted_io.specs.Streams.{Stream, Counts};
 
-/// A call failed. Of a write, also: it took no byte.
+/// A call failed. For a write also: it took no byte.
 #[derive(Clone, Copy, Debug, PartialEq, Eq)]
 pub struct Failed;
 
-/// Where bytes come from.
+/// A source of bytes.
 pub trait Source {
-    // The bytes that it has left, and what was asked of it.
+    // The bytes that it has left, and the calls that were made.
     ghost stream: { Self → Stream };
 
-    /// One read, into the front of the buffer.
+    /// Reads once, into the front of the buffer.
     fn take(&mut self, buf: &mut [u8]) -> Result<usize, Failed>
         requires { (stream self.old).calls < 2 ^ 64 - 1 }
         ensures bound { ReadsAtMost result buf.new }
@@ -20,12 +20,12 @@ pub trait Source {
         ensures counted { Counts (stream self.old) (stream self.new) result };
 }
 
-/// Where bytes go.
+/// A sink for bytes.
 pub trait Sink {
-    // The bytes that it holds, and what was asked of it.
+    // The bytes that it has taken, and the calls that were made.
     ghost stream: { Self → Stream };
 
-    /// One write, of the front of the bytes: at least one of them.
+    /// Writes once, a front of the bytes with at least one of them.
     fn put(&mut self, bytes: &[u8]) -> Result<usize, Failed>
         requires some { 0 < length bytes.now }
         requires countable { (stream self.old).calls < 2 ^ 64 - 1 }
@@ -34,7 +34,7 @@ pub trait Sink {
         ensures bytes { WriteAppends (stream self.old).bytes (stream self.new).bytes result bytes.now }
         ensures counted { Counts (stream self.old) (stream self.new) result };
 
-    /// How many of its writes succeeded.
+    /// Returns the number of its writes that succeeded.
     fn successes(&self) -> u64
         ensures { result + (stream self.now).failures ≡ (stream self.now).calls };
 }

@@ -18,10 +18,10 @@ use std::thread::Threads;
 use std::time::Clock;
 use std::{io, thread};
 
-/// So many requests live at a time.
+/// The number of requests that may live at once.
 const PLACES: u32 = 64;
 
-/// Where the proxy is, and what it is told.
+/// The proxy's address and its configuration.
 #[derive(Drop)]
 pub(crate) struct Front {
     pub(crate) address: SocketAddr,
@@ -36,7 +36,7 @@ pub(crate) struct Played {
     pub(crate) reports: Reports,
 }
 
-/// Plays the demo between servers that answer until it is over.
+/// Plays the demo, with servers that answer until it is over.
 pub(crate) fn act<
     R: Files
         + Net<Listener = TcpListener, Stream = TcpStream>
@@ -79,7 +79,7 @@ pub(crate) fn act<
     })
 }
 
-// The twelve requests, what came of them, and then whoever else comes.
+// Plays the twelve requests, ends them, and then serves further visitors.
 fn play<
     R: Files
         + Net<Listener = TcpListener, Stream = TcpStream>
@@ -107,7 +107,8 @@ fn play<
     Ok(())
 }
 
-// The clients connect before the proxy begins, so that as many come as it counts, whatever becomes of them.
+// The clients connect before the proxy starts, so that all clients that it counts are there,
+// whatever becomes of them.
 fn serve_visits<
     R: Net<Listener = TcpListener, Stream = TcpStream>
         + Clock
@@ -161,7 +162,7 @@ fn clients_of<R: Net<Listener = TcpListener, Stream = TcpStream> + AllocGlobal>(
     Ok(clients)
 }
 
-/// Serves as a text says, until so many clients were served; 0: without an end.
+/// Serves as the configuration text says, until this number of clients were served; 0 is without end.
 pub(crate) fn serve<
     R: Net<Listener = TcpListener, Stream = TcpStream>
         + Clock
@@ -186,7 +187,7 @@ pub(crate) fn serve<
         Sizes::new(None, None, None, PLACES, clients),
     ) {
         (Ok(config), Some(sizes)) => serve_recorded(rt, config, listener, sizes, record),
-        // The program's own configuration is good, and these are sizes: only memory can be short.
+        // The program's own configuration is sound, and so are the sizes: only memory can be short.
         _ => Err(ServeFault::NoMemory),
     }
 }

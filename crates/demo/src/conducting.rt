@@ -12,39 +12,39 @@ use std::sync::Wait;
 use std::thread;
 use std::time::{Clock, Duration, Instant};
 
-/// The log is looked at whenever so many milliseconds have passed, and at most so often.
+/// The log is read each time this number of milliseconds has passed, and at most this often.
 const PAUSE: u64 = 5;
 
 const LOOKS: u64 = 2000;
 
-/// So many milliseconds all may take.
+/// The most milliseconds that the whole demo may take.
 const MOST: u64 = 7000;
 
-/// An answer is waited for so many milliseconds. It is there as soon as its request is over.
+/// An answer is waited for this number of milliseconds. It is there as soon as its request is over.
 const PATIENCE: u64 = 200;
 
-/// An answer begins so where the request was served.
+/// The beginning of an answer to a request that was served.
 const SERVED: &[u8] = b"HTTP/1.1 200 ";
 
-/// The log, and how many requests were answered.
+/// The log, and the number of requests that were answered.
 #[derive(Drop)]
 pub(crate) struct Seen {
     pub(crate) entries: Vec<Entry>,
     pub(crate) answered: usize,
 }
 
-/// What is waited for.
+/// What the conductor waits for.
 #[derive(Clone, Copy)]
 enum Awaited {
-    /// So many requests came.
+    /// This number of requests came.
     Came(usize),
-    /// So many requests are over.
+    /// This number of requests are over.
     Ended(usize),
-    /// So many milliseconds have passed.
+    /// This number of milliseconds have passed.
     Passed(u64),
 }
 
-/// What was seen since the beginning.
+/// The conductor of the clients, with what it has seen since the beginning.
 #[derive(Drop)]
 struct Conductor<'a, R> {
     rt: &'a R,
@@ -53,8 +53,8 @@ struct Conductor<'a, R> {
     entries: Vec<Entry>,
 }
 
-/// Sends one request after the other, each once the log has the one before, and tells what comes into the log until all are over. A request that is never over is
-/// left alone in the end.
+/// Sends the requests one after the other, each once the log has the one before, and tells what
+/// comes into the log until all are over. A request that doesn't end is given up in the end.
 pub(crate) fn conduct<R: Clock + Print + Wait>(
     rt: &R,
     alloc: Global,
@@ -83,7 +83,8 @@ pub(crate) fn conduct<R: Clock + Print + Wait>(
 }
 
 impl<R: Clock + Print + Wait> Conductor<'_, R> {
-    // Sends the request with this number, counted from 0, and waits until it came and it is the next one's turn.
+    // Sends the request with this number, counted from 0, and waits until it is in the log and it
+    // is time for the next one.
     fn send(
         &mut self,
         alloc: Global,
@@ -102,7 +103,8 @@ impl<R: Clock + Print + Wait> Conductor<'_, R> {
         self.wait_for(Awaited::Passed(until))
     }
 
-    // Tells what comes into the log until then, until the proxy has ended or until all took too long.
+    // Tells what comes into the log until the awaited event, until the proxy has ended, or until
+    // the demo has taken too long.
     fn wait_for(&mut self, awaited: Awaited) -> Result<(), DemoFault> {
         for _ in 0..LOOKS {
             let is_over = self.watcher.is_over();
@@ -142,7 +144,7 @@ fn ends(entry: &Entry) -> bool {
     matches!(entry, Entry::Ended(_))
 }
 
-// How many got an answer of a server.
+// Returns the number of clients that a server answered.
 fn answers_of(clients: &mut [TcpStream]) -> usize {
     let mut answered = 0usize;
     for client in clients.iter_mut() {

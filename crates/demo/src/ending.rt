@@ -1,4 +1,4 @@
-//! What is printed and judged when all twelve are through.
+//! What is printed and judged when all twelve requests are over.
 
 use crate::acting::Played;
 use crate::fault::DemoFault;
@@ -9,14 +9,15 @@ use log_waits::{are_in_order, services_in, stays_in};
 use std::alloc::Global;
 use std::rt::Files;
 
-/// How it is told, and the file that the picture is drawn into.
+/// The style of the text, and the file of the picture.
 #[derive(Clone, Copy)]
 pub(crate) struct Telling<'a> {
     pub(crate) looks: Looks,
     pub(crate) file: &'a str,
 }
 
-/// Prints who waited how long and what the proxy reports, draws it, and says whether all went as it should.
+/// Prints who waited how long and what the proxy reports, draws the picture, and says whether all
+/// went as it should.
 pub(crate) fn tell_end<R: Files + Print + AllocGlobal>(
     rt: &R,
     played: &Played,
@@ -61,7 +62,8 @@ fn tables_of(
     Ok(text)
 }
 
-// Well only where each request was answered, and those that waited together got their slots in the order of their keys.
+// Succeeds only where each request was answered, and those that waited together got their slots in
+// the order of their keys.
 fn judge(alloc: Global, played: &Played, course: &Course) -> Result<(), DemoFault> {
     let answered = played.seen.answered;
     if answered < VISITS {

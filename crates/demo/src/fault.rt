@@ -3,7 +3,7 @@ use std::alloc::AllocError;
 use std::io;
 use thiserror::Error;
 
-/// Why a demo didn't go well.
+/// Why a demo failed.
 #[derive(Clone, Copy, Debug, Error)]
 pub enum DemoFault {
     #[error("no memory")]

@@ -1,4 +1,4 @@
-//! Proxy and servers for whoever comes when the demo is over.
+//! Proxy and servers for visitors after the demo.
 
 use crate::acting::{Front, serve};
 use crate::fault::DemoFault;
@@ -12,10 +12,10 @@ use std::thread;
 use std::thread::Threads;
 use std::time::{Clock, Duration};
 
-/// The log is looked at whenever so many milliseconds have passed.
+/// The log is read each time this number of milliseconds has passed.
 const PAUSE: u64 = 20;
 
-/// Serves who comes, and tells of it, without an end.
+/// Serves visitors, and tells of them, without end.
 pub(crate) fn keep_on<
     R: Net<Listener = TcpListener, Stream = TcpStream>
         + Clock
@@ -68,7 +68,7 @@ fn invite(rt: &(impl Print + AllocGlobal), address: SocketAddr) -> Result<(), De
     }
 }
 
-// Tells what comes into the log, until no more does.
+// Tells what comes into the log, until nothing more does.
 fn tell_all<R: Clock + Print + Wait>(
     rt: &R,
     alloc: Global,

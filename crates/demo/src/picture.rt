@@ -10,7 +10,7 @@ use std::fs;
 use std::rt::Files;
 use trace_lines::trace_of_window;
 
-/// Draws a log and its reports, as `dueproxy draw` does, into a file.
+/// Draws a log and its reports into a file, as `dueproxy draw` does.
 pub(crate) fn write_picture<R: Files + AllocGlobal>(
     rt: &R,
     file: &str,

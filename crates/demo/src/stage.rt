@@ -1,4 +1,4 @@
-//! What is there before the first request: sockets, and what the proxy is told of them.
+//! What exists before the first request: the sockets, and the proxy's configuration.
 
 use crate::acting::act;
 use crate::ending::Telling;
@@ -12,7 +12,7 @@ use std::sync::Wait;
 use std::thread::Threads;
 use std::time::Clock;
 
-/// The servers, and where clients come to the proxy before them.
+/// The servers, and the address where clients connect to the proxy.
 #[derive(Drop)]
 pub(crate) struct Stage {
     pub(crate) servers: (Server, Server, Server),
@@ -22,8 +22,10 @@ pub(crate) struct Stage {
     pub(crate) config: String,
 }
 
-/// Plays the demo: prints what happens and what came of it, and draws it into this file. It ends well only where each request was answered, and of any two that
-/// waited together the one with the smaller key got its slot first. With `keep` proxy and servers then go on for whoever comes, without an end.
+/// Plays the demo: prints what happens and its outcome, and draws it into this file. It succeeds
+/// only where each request was answered, and of any two that waited together the one with the
+/// smaller key got its slot first. With `keep` proxy and servers then go on for visitors, without
+/// end.
 pub fn demo<
     R: Files
         + Net<Listener = TcpListener, Stream = TcpStream>
@@ -73,7 +75,7 @@ fn stage_of<R: Net<Listener = TcpListener, Stream = TcpStream>>(
     })
 }
 
-// At a free port of this machine.
+// Listens at a free port of this machine.
 fn listening<R: Net<Listener = TcpListener, Stream = TcpStream>>(
     rt: &R,
 ) -> io::Result<TcpListener> {
@@ -98,7 +100,7 @@ fn port_of(server: &Server) -> io::Result<u16> {
     Ok(server.listener.local_addr()?.port())
 }
 
-// No wait is longer than the demo may be.
+// No timeout is longer than the demo may take.
 fn config_of(alloc: Global, proxy: u16, servers: [u16; 3]) -> Result<String, AllocError> {
     let [a, b, c] = servers;
     format!(in alloc;

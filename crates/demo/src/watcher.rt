@@ -5,7 +5,7 @@ use proxy_service::Record;
 use std::alloc::Global;
 use std::sync::Wait;
 
-/// Prints what comes into a log.
+/// A reader of a log that prints what comes in.
 #[derive(Drop)]
 pub(crate) struct Watcher<'a, R> {
     rt: &'a R,
@@ -29,12 +29,12 @@ impl<'a, R: Print + Wait> Watcher<'a, R> {
         })
     }
 
-    /// Whether no more comes than is there now.
+    /// Says whether no more entries will come.
     pub(crate) fn is_over(&self) -> bool {
         self.record.is_over()
     }
 
-    /// Prints what came since it last looked, and answers it.
+    /// Prints the entries since the last look, and returns them.
     pub(crate) fn look(&mut self) -> Result<Vec<Entry>, DemoFault> {
         let later = self.record.take(self.rt);
         let mut text = String::new(self.alloc);

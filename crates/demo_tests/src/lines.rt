@@ -10,7 +10,7 @@ fn at(rt: &impl Abort, millis: u64) -> Moment {
     Moment::new(millis).expect(rt, "a moment")
 }
 
-// A request comes at a moment, and is due so many milliseconds later.
+// The entry of a request that comes at a moment, and is due this number of milliseconds later.
 fn arrive(rt: &impl Abort, millis: u64, ticket: u64, class: i64, offset: i64) -> Entry {
     let moment = at(rt, millis);
     let arrival = Arrival {
@@ -32,7 +32,7 @@ fn names(rt: &impl Abort, alloc: Global) -> Names {
     Names::new(names)
 }
 
-// What is told of these entries.
+// Returns what is told of these entries.
 fn told(rt: &impl Abort, alloc: Global, entries: &[Entry], looks: Looks) -> String {
     let mut teller = Teller::new(alloc, names(rt, alloc), looks);
     let mut text = String::new(alloc);

@@ -1,6 +1,6 @@
 use demo::{Looks, demo};
 
-// All twelve are answered, in the order of their keys, and it is drawn.
+// All twelve requests are answered in the order of their keys, and the picture is drawn.
 #[test]
 fn a_demo_ends_well(rt: HostRuntime) {
     let ended = demo(&rt, Looks::Plain, "/dev/null", false);

@@ -1,11 +1,11 @@
-/// Whether what is printed has colours.
+/// Whether the output has colours.
 #[derive(Clone, Copy, Debug, PartialEq, Eq)]
 pub enum Looks {
     Plain,
     Coloured,
 }
 
-/// What a line tells of, which its colour shows.
+/// The meaning of a line, which its colour shows.
 #[derive(Clone, Copy, Debug, PartialEq, Eq)]
 pub enum Tone {
     /// A request is served at once.
@@ -16,12 +16,12 @@ pub enum Tone {
     Next,
     /// Something went wrong.
     Wrong,
-    /// What stands above other lines.
+    /// A title above other lines.
     Title,
 }
 
 impl Looks {
-    /// What stands before a text of this tone.
+    /// Returns the text before a line of this tone.
     pub fn before(self, tone: Tone) -> &'static str {
         match (self, tone) {
             (Looks::Plain, _) => "",
@@ -33,7 +33,7 @@ impl Looks {
         }
     }
 
-    /// What stands behind it.
+    /// Returns the text after it.
     pub fn after(self) -> &'static str {
         match self {
             Looks::Plain => "",

@@ -1,4 +1,4 @@
-//! What the demo plays and what it says: its requests and servers, and the lines in which it tells of them.
+//! The plan and the texts of the demo: its requests and servers, and the lines that tell of them.
 #![tactic(auto)]
 
 mod colour;

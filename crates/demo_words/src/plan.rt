@@ -1,22 +1,22 @@
-//! Who comes in the demo, when, and for what.
+//! The requests of the demo.
 
 use script::Names;
 use std::alloc::{AllocError, Global};
 
-/// A request: its class, and how many milliseconds after it came it is due.
+/// A request: its class, and its due date in milliseconds after its arrival.
 pub struct Visit {
     class: i32,
     due: i32,
 }
 
-/// So many there are.
+/// The number of requests.
 pub const VISITS: usize = 12;
 
-/// The next one comes so many milliseconds later.
+/// The next request comes this number of milliseconds later.
 pub const GAP: u64 = 40;
 
-/// More than three servers can take at once: some that are due soon come behind others that aren't, two wait in a class that goes last, and one in a class that goes
-/// first.
+/// More requests than three servers can take at once: some that are due soon come after others
+/// that aren't, two wait in a class that goes last, and one in a class that goes first.
 pub static PLAN: [Visit; VISITS] = [
     Visit { class: 0, due: 600 },
     Visit { class: 0, due: 600 },
@@ -38,7 +38,7 @@ pub static PLAN: [Visit; VISITS] = [
     Visit { class: 0, due: 150 },
 ];
 
-/// The bytes of a request; its path is its number.
+/// Returns the bytes of a request; its path is its number.
 pub fn request_of(alloc: Global, number: usize, visit: &Visit) -> Result<String, AllocError> {
     let class = visit.class;
     let due = visit.due;
@@ -47,7 +47,7 @@ pub fn request_of(alloc: Global, number: usize, visit: &Visit) -> Result<String,
     )
 }
 
-/// The names of the servers.
+/// Returns the names of the servers.
 pub fn names_of(alloc: Global) -> Result<Names, AllocError> {
     let mut names = Vec::new(alloc);
     for name in ["a", "b", "c"] {

@@ -8,13 +8,13 @@ use std::sync::atomic::{AtomicBool, Ordering};
 use std::time::{Clock, Duration};
 use std::{io, str, thread};
 
-/// It looks for a request whenever so many milliseconds have passed.
+/// The server looks for a request each time this number of milliseconds has passed.
 const PAUSE: u64 = 2;
 
-/// It waits so many milliseconds for the rest of a request.
+/// The server waits this number of milliseconds for the rest of a request.
 const PATIENCE: u64 = 2000;
 
-/// A head is read in at most so many pieces.
+/// The most reads for one head.
 const PIECES: usize = 16;
 
 const PIECE: usize = 1024;
@@ -23,21 +23,21 @@ const PIECE: usize = 1024;
 #[derive(Drop)]
 pub struct Server {
     pub name: &'static str,
-    /// So many milliseconds it needs for each request.
+    /// The number of milliseconds that it needs for each request.
     pub millis: u64,
-    /// It doesn't block.
+    /// It is non-blocking.
     pub listener: TcpListener,
 }
 
 impl Server {
-    /// Answers one request after the other, until all is over.
+    /// Answers one request after the other, until the demo is over.
     pub fn run<R: Clock + Wait>(self, rt: &R, alloc: Global, over: &AtomicBool) {
         for _ in rt.forever() {
             if over.load(Ordering::SeqCst) {
                 return;
             }
             match self.listener.accept() {
-                // Who left meanwhile wants no answer.
+                // A client that has left meanwhile gets no answer.
                 Ok((stream, _)) => {
                     let _ = self.answer(rt, alloc, stream);
                 }
@@ -62,7 +62,7 @@ impl Server {
     }
 }
 
-// A head, and what came with it.
+// Reads a head, and what comes with it.
 fn read_head<S: Read>(alloc: Global, stream: &mut S) -> io::Result<Vec<u8>> {
     let mut head = Vec::new(alloc);
     let mut piece = [0u8; PIECE];
@@ -76,7 +76,7 @@ fn read_head<S: Read>(alloc: Global, stream: &mut S) -> io::Result<Vec<u8>> {
     Ok(head)
 }
 
-// The second word of a head.
+// Returns the second word of a head.
 fn path_of(head: &[u8]) -> &str {
     let text = str::from_utf8(head).unwrap_or_default();
     text.split(' ').nth(1).unwrap_or_default()

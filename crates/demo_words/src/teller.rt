@@ -14,7 +14,7 @@ struct Live {
     waits: Option<Queue>,
 }
 
-/// Tells of a log, entry by entry, in a line each: who comes, who waits, and who goes next and why.
+/// Tells of a log, a line for each entry: who comes, who waits, and who is next and why.
 #[derive(Drop)]
 pub struct Teller {
     names: Names,
@@ -24,7 +24,7 @@ pub struct Teller {
 }
 
 impl Teller {
-    /// Of a log that has no entry so far, of servers with these names.
+    /// Makes the teller of an empty log, of servers with these names.
     pub fn new(alloc: Global, names: Names, looks: Looks) -> Teller {
         Teller {
             names,
@@ -34,7 +34,7 @@ impl Teller {
         }
     }
 
-    /// Takes the next entry in, and writes its line at the end, where it has one.
+    /// Takes the next entry, and appends its line, where it has one.
     pub fn tell(&mut self, text: &mut String, entry: Entry) -> Result<(), AllocError> {
         match entry {
             Entry::Arrive(moment, arrival) => self.come(moment, &arrival),
@@ -126,7 +126,7 @@ impl Teller {
         self.push_end(text)
     }
 
-    // Why a request with this key goes before the first of those that still wait in its queue.
+    // Writes why a request with this key goes before the first one that still waits in its queue.
     fn push_reason(&self, text: &mut String, key: Key, other: Key) -> Result<(), AllocError> {
         let Key { class, due, .. } = key;
         let Key {
@@ -150,7 +150,7 @@ impl Teller {
         write!(text, " before request {ticket}")
     }
 
-    // Who it is, with its class and its due date.
+    // Writes a request's number, with its class and its due date.
     fn push_request(&self, text: &mut String, ticket: u64) -> Result<(), AllocError> {
         write!(text, "request {ticket}")?;
         let Some(live) = self.of(ticket) else {
@@ -195,7 +195,7 @@ impl Teller {
         }
     }
 
-    // How many wait where it waits, and go before it.
+    // Returns the number of requests that wait in its queue and go before it.
     fn count_before(&self, ticket: u64) -> usize {
         let Some(it) = self.of(ticket) else {
             return 0;

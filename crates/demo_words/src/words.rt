@@ -1,4 +1,4 @@
-//! The table of who waited how long, and the reports, in words.
+//! The table of waits, and the reports, in words.
 
 use crate::colour::{Looks, Tone};
 use crate::seconds::{push_due, push_lateness, push_moment};
@@ -8,7 +8,7 @@ use log_waits::Served;
 use script::Names;
 use std::alloc::AllocError;
 
-/// Writes the table at the end: a line for each slot, in the order in which they were given.
+/// Appends the table: a line for each slot, in the order in which they were given.
 pub fn push_table(
     text: &mut String,
     names: &Names,
@@ -43,7 +43,7 @@ fn push_service(text: &mut String, names: &Names, service: &Served) -> Result<()
     text.push_str("\n")
 }
 
-/// Writes at the end what the reports say.
+/// Appends the reports in words.
 pub fn push_reports(
     text: &mut String,
     names: &Names,
@@ -71,7 +71,7 @@ fn push_report(text: &mut String, names: &Names, report: &Report) -> Result<(), 
     text.push_str("\n")
 }
 
-// Why it couldn't have been less.
+// Writes why the worst lateness couldn't have been less.
 fn push_proof(text: &mut String, report: &Report) -> Result<(), AllocError> {
     let stays = report.critical.as_slice();
     text.push_str("      no other order is better: ")?;

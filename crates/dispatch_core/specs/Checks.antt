@@ -9,7 +9,8 @@ use Rattle.dispatch_log.specs.Legal.{IsLegal}
 use Rattle.dispatch_log.specs.States.{State}
 use Rattle.pend_queue.specs.Held.{Held}
 
--- the health of a server that is checked by rise and fall is that of its results; one that isn't checked has none
+-- the health of a server that is checked with rise and fall is that of its results; a server that
+-- isn't checked has none
 abbrev pub IsHealthBy : Option (ℕ × ℕ) → List Bool → Option Standing → Type 0
 IsHealthBy rise_fall results health =
     MatchOption rise_fall (health ≡ None) (λ it. (standing : Standing) × (health ≡ Some standing) × IsHealthOf it.0 it.1 results standing)
@@ -21,14 +22,14 @@ pub record AreHealths (servers : List ServerSet) (results : List (List Bool)) (h
   pub each : (server : ℕ) (it : ServerSet) → slice_get servers server ≡ Some it
       → IsHealthBy it.rise_fall (results_of results server) (slice_index_or healths server None)
 
--- a base that is kept for a later window is as long as a setup's
+-- a base that is kept for a later window has the lengths that the setup demands
 pub record IsSpare (setup : Setup) (spare : State) : Type 0 where
   pub rows : length spare.rows ≡ setup.places
   pub results : length spare.results ≡ length setup.servers
   pub limits : length spare.limits ≡ length setup.servers
 
--- a core's log is legal, it keeps the servers' healths, its queue of expired requests is empty and has room for all, and it has
--- a base for a later window
+-- a core's log is legal, its healths are those of the servers, its queue of expired requests is
+-- empty and has room for all, and it has a spare base for a later window
 pub record IsCore (history : History) (healths : List (Option Standing)) (expiring : Held ℕ ℕ) (spare : State) : Type 0 where
   pub legal : IsLegal history
   pub healthy : AreHealths history.setup.servers (state_of history).results healths

@@ -1,4 +1,4 @@
--- What the parts of an event leave.
+-- What the parts of an event add to a history.
 use Rattle.std.specs.Prelude.{◌≡◌, ℕ, ◌+◌, ◌*◌, ◌≤◌, List, ◌++◌, Option, None, Some, length, All, false}
 use Rattle.dispatch_log.specs.declared.entry.Entry.{Entry}
 use Rattle.dispatch_log.specs.declared.setup.Setup.{Setup}
@@ -9,8 +9,9 @@ use Rattle.dispatch_log.specs.Rows.{Rows, pin_of}
 use Rattle.dispatch_trace.specs.declared.position.Ticketed.{Ticketed}
 use Rattle.dispatch_trace.specs.Histories.{with_entry, stage_of, scene_of, waiting_of, HasPlaces, IsAt, IsEmptied, IsJudged, IsOverNext, MayGrantNext}
 
--- room enough for all that follows the first entry of an event: each place's request moves or is granted once and is granted
--- once more, and three entries for the request or server that the event is about
+-- the room for all entries that may follow the first one of an event: each place's request is moved
+-- or granted once and granted once more, and three entries are for the request or server of the
+-- event
 abbrev pub event_room : Setup → ℕ
 event_room setup = 2 * setup.places + 3
 
@@ -18,12 +19,12 @@ pub record HasEventRoom (history : History) : Type 0 where
   pub room : length history.log + event_room history.setup ≤ history.setup.log
   pub places : HasPlaces history
 
--- room enough where each request that waits may move and be granted
+-- there is room for a move and a grant of each request that waits
 pub record HasMoveRoom (history : History) : Type 0 where
   pub room : length history.log + 2 * history.setup.places ≤ history.setup.log
   pub places : HasPlaces history
 
--- a history goes on inside an event
+-- a history goes on within an event
 pub record GoesOn (old new : History) : Type 0 where
   pub entries : List Entry
   pub log : new.log ≡ old.log ++ entries
@@ -31,7 +32,7 @@ pub record GoesOn (old new : History) : Type 0 where
   pub base : new.base ≡ old.base
   pub one_event : All (λ entry. begins_event entry ≡ false) entries
 
--- a history goes on by grants until all is settled; what the event owed beside them is what it owes then
+-- a history goes on by grants until all is settled; beside grants its event owes the same as before
 pub record Settles (old new : History) : Type 0 where
   pub goes : GoesOn old new
   pub over : IsOverNext old → IsOverNext new
@@ -43,7 +44,7 @@ pub record Settles (old new : History) : Type 0 where
   pub judged : IsJudged new
   pub settled : IsSettled (scene_of new)
 
--- a history goes on by what ends the return of a ticket's slot
+-- a history goes on by the entries with which a ticket's slot is returned
 pub record Leaves (old new : History) : Type 0 where
   pub goes : GoesOn old new
   pub few : length goes.entries ≤ 2
@@ -56,15 +57,15 @@ pub record Places (old new : History) : Type 0 where
   pub over : stage_of new ≡ granting
   pub one_event : begins_event placement ≡ false
 
--- a history goes on by what becomes of a request whose connection failed, of a server that was checked, or of the requests that a
--- tick times out: its event owes nothing but grants then, for which the log has room
+-- a history goes on by what follows a failed connection, a check, or the timeouts of a tick: its
+-- event owes nothing but grants then, and the log has room for them
 pub record CarriesOn (old new : History) : Type 0 where
   pub goes : GoesOn old new
   pub over : IsOverNext new
   pub may_grant : MayGrantNext new
   pub room : length new.log + waiting_of new ≤ new.setup.log
 
--- a ticket's slot at a server comes back, or where it has none it was told that it isn't served
+-- a ticket's slot at a server is returned, or the ticket has none and was told that it isn't served
 abbrev pub IsReturn : Rows → ℕ → Option ℕ → Type 0
 IsReturn rows ticket (Some server) = HasSlot rows ticket server
 IsReturn rows ticket None = IsTold rows ticket

@@ -7,7 +7,9 @@ ghost use Rattle.dispatch_log.specs.Scenes.{is_up};
 ghost use Rattle.dispatch_log.specs.Rows.{row_of, served, queued};
 ghost use Rattle.dispatch_log.specs.Setups.{IsSound};
 ghost use Rattle.dispatch_trace.specs.Histories.{scene_of, IsAt, HasEntryRoom};
+ghost use Rattle.dispatch_core.specs.Occurrences.{refuses, entry_of};
 
+use crate::event::Event;
 use crate::events::Events;
 use crate::healths::Healths;
 use dispatch_log::{Intake, Phase, Queue, Refusal, Setup};
@@ -19,15 +21,15 @@ use std::alloc::{AllocError, Global};
 use std::marker::Model;
 use verdict::Cause;
 
-/// A dispatcher. Each call that is accepted adds one event to its log, which is legal after every
-/// call; a call that is refused changes nothing.
+/// A dispatcher. Each accepted call adds one event to its log, which is legal after every call; a
+/// refused call changes nothing.
 #[derive(Drop)]
 pub struct Core<Q: PendQueue<Key, usize>> {
     events: Events<Q>,
     healths: Healths,
     // The requests that a tick times out, by ticket with their places; empty between calls.
     expiring: ListQueue<u64, usize>,
-    // What the base of the next window is made of.
+    // The base of the next window, allocated beforehand.
     spare: Base,
 }
 
@@ -43,8 +45,8 @@ impl<Q: PendQueue<Key, usize>> Model for Core<Q> {
 }
 
 impl<Q: PendQueue<Key, usize>> Core<Q> {
-    /// A dispatcher without a request, all servers up. Rows, queues and log are reserved here, so that it fails
-    /// only where memory is refused; the setup is gone then.
+    /// Makes a dispatcher without a request, all servers up. It allocates rows, queues and log
+    /// here, so it fails only where memory is refused; the setup is dropped then.
     pub fn new(alloc: Global, setup: Setup) -> Result<Core<Q>, AllocError>
         requires { IsSound setup }
         ensures { IfOk result (λ core. core ≡ first_window setup []) }
@@ -65,7 +67,7 @@ impl<Q: PendQueue<Key, usize>> Core<Q> {
     /// A request arrives, bound to a server where it has a pin (`use-server`). Refused, in this
     /// order, where the log is full, no server has the pin's number, the tickets are spent, the
     /// places are full, or memory is refused. `O(log n)` in the live requests and `O(s)` in the
-    /// servers beside the queue's own cost.
+    /// servers, beside the queue's own cost.
     pub fn arrive(
         &mut self,
         alloc: Global,
@@ -90,7 +92,8 @@ impl<Q: PendQueue<Key, usize>> Core<Q> {
         Ok(it)
     }
 
-    /// Whether an arrival bound to this server, where it has a pin, would be refused now for another cause than memory. Takes no memory. `O(1)`.
+    /// Says whether an arrival with this pin would be refused now for another cause than memory.
+    /// Allocates nothing. `O(1)`.
     pub fn admits(&self, pin: Option<usize>) -> Result<(), Refusal>
         ensures ok { OnOk result (refuses_arrival self.now pin ≡ None) }
         ensures err { IfErr result (λ refusal. refuses_arrival self.now pin ≡ Some refusal) }
@@ -101,9 +104,10 @@ impl<Q: PendQueue<Key, usize>> Core<Q> {
         }
     }
 
-    /// The request with this ticket is over, and its slot comes back where it has one. Refused, in this order, where
-    /// the log is full, no live request has the ticket, or it still waits. Takes no memory, and
-    /// `O(log n)` in the live requests and `O(s)` in the servers beside the queue's own cost.
+    /// The request with this ticket is over, and its slot is returned where it has one. Refused, in
+    /// this order, where the log is full, no live request has the ticket, or it still waits.
+    /// Allocates nothing, and costs `O(log n)` in the live requests and `O(s)` in the servers,
+    /// beside the queue's own cost.
     pub fn done(&mut self, moment: Moment, ticket: u64) -> Result<(), Refusal>
         ensures ok { OnOk result (AddsEvent self.old self.new (Done (effective self.old moment) ticket)) }
         ensures err { IfErr result (λ refusal. refuses_done self.old ticket ≡ Some refusal) }
@@ -123,10 +127,11 @@ impl<Q: PendQueue<Key, usize>> Core<Q> {
     }
 
     /// A connection of the request with this ticket failed before anything was sent over it. The
-    /// request keeps its slot for another try (`retries`), or goes to another server where it is the
-    /// last one (`option redispatch`), or is told that its retries are spent. Refused, in this order,
-    /// where the log is full, no live request has the ticket, or it has no slot. Takes no memory, and
-    /// `O(log n)` in the live requests and `O(s)` in the servers, for each slot that is handed on too.
+    /// request keeps its slot for another try (`retries`), goes to another server where that is the
+    /// last try (`option redispatch`), or is told that its retries are spent. Refused, in this
+    /// order, where the log is full, no live request has the ticket, or it has no slot. Allocates
+    /// nothing, and costs `O(log n)` in the live requests and `O(s)` in the servers, and the same
+    /// for each slot that is handed on.
     pub fn failed(&mut self, moment: Moment, ticket: u64) -> Result<(), Refusal>
         ensures ok { OnOk result (AddsEvent self.old self.new (Fail (effective self.old moment) ticket)) }
         ensures err { IfErr result (λ refusal. refuses_failure self.old ticket ≡ Some refusal) }
@@ -149,8 +154,8 @@ impl<Q: PendQueue<Key, usize>> Core<Q> {
 
     /// The request with this ticket, which waits, is given up: it leaves its queue, and is told so.
     /// Refused, in this order, where the log is full, no live request has the ticket, or it doesn't
-    /// wait. Takes no memory, and `O(log n)` in the live requests and `O(s)` in the servers beside
-    /// the queue's own cost.
+    /// wait. Allocates nothing, and costs `O(log n)` in the live requests and `O(s)` in the
+    /// servers, beside the queue's own cost.
     pub fn abort(&mut self, moment: Moment, ticket: u64) -> Result<(), Refusal>
         ensures ok { OnOk result (AddsEvent self.old self.new (Abort (effective self.old moment) ticket)) }
         ensures err { IfErr result (λ refusal. refuses_abort self.old ticket ≡ Some refusal) }
@@ -168,9 +173,10 @@ impl<Q: PendQueue<Key, usize>> Core<Q> {
         Ok(())
     }
 
-    /// Each request that has waited as long as it may (`timeout queue`) leaves its queue and is told
-    /// so, by rising ticket. Refused where the log is full. Takes no memory. `O(1)` where none has,
-    /// and `O(k log n)` beside the queues' own cost where k of the n live requests have.
+    /// Each request that has waited as long as it may (`timeout queue`) leaves its queue and is
+    /// told so, by rising ticket. Refused where the log is full. Allocates nothing. `O(1)` where no
+    /// request has expired, and `O(k log n)` beside the queues' own cost where k of the n live
+    /// requests have.
     pub fn tick(&mut self, moment: Moment) -> Result<(), Refusal>
         ensures ok { OnOk result (AddsEvent self.old self.new (Tick (effective self.old moment))) }
         ensures err { IfErr result (λ refusal. refuses_tick self.old ≡ Some refusal) }
@@ -190,10 +196,11 @@ impl<Q: PendQueue<Key, usize>> Core<Q> {
         Ok(())
     }
 
-    /// A check of a server ended; it answered, or not (`check`, `rise`, `fall`). Where the server went
-    /// down, the requests of its queue are moved into the backend's under `option redispatch`. Refused,
-    /// in this order, where the log is full, no server has the number, or it isn't checked. Takes no
-    /// memory; `O(s)` in the servers, and `O(log n)` for each request that is moved or takes a slot.
+    /// A health check of a server succeeded or failed (`check`, `rise`, `fall`). Where the server
+    /// goes down, the requests of its queue are moved into the backend's queue under `option
+    /// redispatch`. Refused, in this order, where the log is full, no server has the number, or it
+    /// isn't checked. Allocates nothing; `O(s)` in the servers, and `O(log n)` for each request
+    /// that is moved or takes a slot.
     pub fn check(&mut self, moment: Moment, server: usize, ok: bool) -> Result<(), Refusal>
         ensures ok { OnOk result (AddsEvent self.old self.new (Check (effective self.old moment) server ok)) }
         ensures err { IfErr result (λ refusal. refuses_check self.old server ≡ Some refusal) }
@@ -212,12 +219,13 @@ impl<Q: PendQueue<Key, usize>> Core<Q> {
         Ok(())
     }
 
-    /// A server takes so many requests from now on (`maxconn`), or none. No request that it serves is
-    /// stopped: it takes no other until it serves fewer than the limit. Where the limit rose, or a closed
-    /// server was opened, requests that wait take the slots that came free; where it was closed, the
-    /// requests of its queue are moved into the backend's under `option redispatch`, and wait on otherwise.
-    /// Refused, in this order, where the log is full or no server has the number. Takes no memory; `O(s)` in
-    /// the servers, and `O(log n)` for each request that is moved or takes a slot.
+    /// Sets the number of requests that a server serves at once (`maxconn`), or closes it. No
+    /// request that it serves is stopped: it takes no more until it serves fewer than the limit.
+    /// Where the limit rises, or a closed server is opened, waiting requests take the slots that
+    /// are free. Where it is closed, the requests of its queue are moved into the backend's under
+    /// `option redispatch`, and wait on otherwise. Refused, in this order, where the log is full or
+    /// no server has the number. Allocates nothing; `O(s)` in the servers, and `O(log n)` for each
+    /// request that is moved or takes a slot.
     pub fn limit(&mut self, moment: Moment, server: usize, limit: Intake) -> Result<(), Refusal>
         ensures ok { OnOk result (AddsEvent self.old self.new (Limit (effective self.old moment) server limit)) }
         ensures err { IfErr result (λ refusal. refuses_limit self.old server ≡ Some refusal) }
@@ -234,6 +242,32 @@ impl<Q: PendQueue<Key, usize>> Core<Q> {
         Ok(())
     }
 
+    /// An event that takes no memory happens: it goes to its own call.
+    pub fn apply(&mut self, event: Event) -> Result<(), Refusal>
+        ensures ok { OnOk result (AddsEvent self.old self.new (entry_of self.old event)) }
+        ensures err { IfErr result (λ refusal. refuses self.old event ≡ Some refusal) }
+        ensures accepted { OnOk result (refuses self.old event ≡ None) }
+        ensures unchanged { OnErr result (self.new ≡ self.old) }
+        ensures dispatched { IsDispatched self.new }
+    {
+        match event {
+            Event::Done { moment, ticket } => self.done(moment, ticket),
+            Event::Fail { moment, ticket } => self.failed(moment, ticket),
+            Event::Abort { moment, ticket } => self.abort(moment, ticket),
+            Event::Tick { moment } => self.tick(moment),
+            Event::Check {
+                moment,
+                server,
+                answered,
+            } => self.check(moment, server, answered),
+            Event::Limit {
+                moment,
+                server,
+                limit,
+            } => self.limit(moment, server, limit),
+        }
+    }
+
     /// Begins the next window of the log: what the log left becomes its base, and its entries are gone, so
     /// that there is room again. Whoever wants a window's reports asks for them before. Never refused, takes no
     /// memory; `O(n + s)` in the places and servers.
@@ -244,21 +278,21 @@ impl<Q: PendQueue<Key, usize>> Core<Q> {
         self.events.trace.roll(self.healths.all(), &mut self.spare);
     }
 
-    /// Whether a tick at this moment would tell a timeout. `O(1)`.
+    /// Says whether a tick at this moment would tell a timeout. `O(1)`.
     pub fn expired(&self, moment: Moment) -> bool
         ensures { IsTrue result ↔ SomeExpires self.now moment }
     {
         self.events.trace.expired(moment)
     }
 
-    /// The moment of an event that comes at a moment: no earlier than the last event's. `O(1)`.
+    /// Returns the moment of an event that comes at `moment`: no earlier than the last event's. `O(1)`.
     pub fn moment_at(&self, moment: Moment) -> Moment
         ensures { result ≡ effective self.now moment }
     {
         self.events.trace.moment_at(moment)
     }
 
-    /// What was decided since the base, and the base.
+    /// Returns the log: the base, and the decisions since.
     pub fn log(&self) -> &Log
         ensures base { result.now.base ≡ self.now.base }
         ensures entries { result.now.entries ≡ self.now.log }
@@ -268,7 +302,7 @@ impl<Q: PendQueue<Key, usize>> Core<Q> {
         self.events.trace.log()
     }
 
-    /// Where the request with this ticket stands. None where no live request has it.
+    /// Returns the phase of the request with this ticket; `None` where no live request has it.
     pub fn phase(&self, ticket: u64) -> Option<Phase>
         ensures { result ≡ option_map (λ row. row.phase) (row_of ticket (state_of self.now).rows) }
     {
@@ -278,8 +312,8 @@ impl<Q: PendQueue<Key, usize>> Core<Q> {
         }
     }
 
-    /// The place of the request with this ticket, which it has until its end. None where no live
-    /// request has it. `O(log n)`.
+    /// Returns the place of the request with this ticket, which it has until its end; `None` where
+    /// no live request has it. `O(log n)`.
     pub fn place(&self, ticket: u64) -> Option<usize>
         ensures { MatchOption result (row_of ticket (state_of self.now).rows ≡ None) (λ place. IsAt (state_of self.now).rows (record { place = place; ticket = ticket })) }
     {
@@ -289,7 +323,7 @@ impl<Q: PendQueue<Key, usize>> Core<Q> {
         }
     }
 
-    /// How many places there are, each for one live request.
+    /// Returns the number of places, each for one live request.
     pub fn places(&self) -> usize
         ensures places { result ≡ self.now.setup.places }
         ensures few { result ≤ 4096 }
@@ -297,35 +331,35 @@ impl<Q: PendQueue<Key, usize>> Core<Q> {
         self.events.trace.setup().places
     }
 
-    /// How many servers there are.
+    /// Returns the number of servers.
     pub fn servers(&self) -> usize
         ensures { result ≡ length self.now.setup.servers }
     {
         self.events.trace.setup().servers.len()
     }
 
-    /// Whether a server is up, by the results of its checks. A number that no server has is of none that is. `O(1)`.
+    /// Says whether a server is up, by the results of its checks. False for a number that no server has. `O(1)`.
     pub fn up(&self, server: usize) -> bool
         ensures { result ≡ is_up (scene_of self.now) server }
     {
         self.events.trace.up(server)
     }
 
-    /// How many requests a server serves. `O(1)`.
+    /// Returns the number of requests that a server serves. `O(1)`.
     pub fn served(&self, server: usize) -> usize
         ensures { result ≡ served server (state_of self.now).rows }
     {
         self.events.trace.served(server)
     }
 
-    /// How many requests wait in a queue. `O(1)`.
+    /// Returns the number of requests that wait in a queue. `O(1)`.
     pub fn queued(&self, queue: Queue) -> usize
         ensures { result ≡ queued queue (state_of self.now).rows }
     {
         self.events.trace.queued(queue)
     }
 
-    /// Whether the log has room for an event: no call is refused for a full log then.
+    /// Says whether the log has room for an event; no call is refused for a full log then.
     pub fn has_room(&self) -> bool
         ensures { IsTrue result ↔ HasEntryRoom self.now }
     {

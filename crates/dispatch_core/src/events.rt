@@ -16,15 +16,14 @@ use pend_queue::{ListQueue, PendQueue};
 use server_pick::Placement;
 use verdict::Cause;
 
-/// A trace that goes on by the parts of events, of which each is some entries.
+/// A trace that goes on by the parts of events, each of which is several entries.
 #[derive(Drop)]
 pub(crate) struct Events<Q: PendQueue<Key, usize>> {
     pub(crate) trace: Trace<Q>,
 }
 
 impl<Q: PendQueue<Key, usize>> Events<Q> {
-    /// Puts a request that is in no place on a server or into a queue, or tells it that no server could
-    /// take it.
+    /// Puts a request without a phase on a server or into a queue, or tells it that no server could take it.
     pub(crate) fn place(&mut self, it: Ticketed, pin: Option<usize>, avoid: Option<usize>)
         requires at { IsAt (state_of self.old.trace).rows it }
         requires may_put { MayPut self.old.trace pin avoid it.ticket }
@@ -41,7 +40,7 @@ impl<Q: PendQueue<Key, usize>> Events<Q> {
         }
     }
 
-    /// Ends a request, and gives its slot back where it has one.
+    /// Ends a request, and returns its slot where it has one.
     pub(crate) fn leave(&mut self, it: Ticketed, server: Option<usize>)
         requires at { IsAt (state_of self.old.trace).rows it }
         requires returning { stage_of self.old.trace ≡ returning it.ticket }
@@ -55,7 +54,7 @@ impl<Q: PendQueue<Key, usize>> Events<Q> {
         }
     }
 
-    /// Gives a request's slot back, and ends the request.
+    /// Returns a request's slot, and ends the request.
     fn give_back(&mut self, it: Ticketed, server: usize)
         requires at { IsAt (state_of self.old.trace).rows it }
         requires returning { stage_of self.old.trace ≡ returning it.ticket }
@@ -84,7 +83,7 @@ impl<Q: PendQueue<Key, usize>> Events<Q> {
         }
     }
 
-    /// Gives a request's slot back, and tells it that its retries are spent.
+    /// Returns a request's slot, and tells it that its retries are spent.
     fn give_up(&mut self, it: Ticketed, server: usize)
         requires at { IsAt (state_of self.old.trace).rows it }
         requires failing { stage_of self.old.trace ≡ failing it.ticket }
@@ -97,8 +96,8 @@ impl<Q: PendQueue<Key, usize>> Events<Q> {
         self.trace.tell(it, Cause::Retries);
     }
 
-    /// Gives a request's slot back, which others take first, and puts the request anew, away from the
-    /// server where it can be.
+    /// Returns a request's slot, which others may take first, and places the request again, at
+    /// another server where that can be.
     fn redispatch(&mut self, it: Ticketed, server: usize)
         requires at { IsAt (state_of self.old.trace).rows it }
         requires failing { stage_of self.old.trace ≡ failing it.ticket }
@@ -113,7 +112,7 @@ impl<Q: PendQueue<Key, usize>> Events<Q> {
         self.place(it, None, Some(server));
     }
 
-    /// Notes what a check changed of a server's health, and what follows from it.
+    /// Notes the change that a check makes to a server's health, and what follows from it.
     pub(crate) fn follow(&mut self, server: usize, change: Change)
         requires checking { stage_of self.old.trace ≡ checking server }
         requires change { change ≡ change_between (was_up self.old.trace.setup (state_of self.old.trace) server) (is_up (scene_of self.old.trace) server) }
@@ -128,7 +127,7 @@ impl<Q: PendQueue<Key, usize>> Events<Q> {
         }
     }
 
-    /// What follows from a server's new limit.
+    /// Notes what follows from a server's new limit.
     pub(crate) fn follow_limit(&mut self, server: usize, limit: Intake)
         requires stage { stage_of self.old.trace ≡ limit_stage server limit }
         requires within { server < length self.old.trace.setup.servers }
@@ -154,7 +153,7 @@ impl<Q: PendQueue<Key, usize>> Events<Q> {
         self.empty(server);
     }
 
-    /// Moves the requests of a server that takes none any more, where they are to be moved.
+    /// Moves the requests of a closed server where they are to be moved.
     fn empty(&mut self, server: usize)
         requires emptying { stage_of self.old.trace ≡ emptying server }
         requires within { server < length self.old.trace.setup.servers }

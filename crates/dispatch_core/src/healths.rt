@@ -27,7 +27,7 @@ impl Model for Healths {
 }
 
 impl Healths {
-    /// No result is known of any server.
+    /// Makes the healths of servers without any result.
     pub(crate) fn new(alloc: Global, servers: &[ServerSet]) -> Result<Healths, AllocError>
         requires { All (λ server. IsTrue (is_within server)) servers.now }
         ensures { IfOk result (λ healths. AreHealths servers.now (replicate (length servers.now) []) healths) }
@@ -39,14 +39,14 @@ impl Healths {
         Ok(Healths { list })
     }
 
-    /// By server; none of one that isn't checked.
+    /// Returns the healths by server; `None` for one that isn't checked.
     pub(crate) fn all(&self) -> &[Option<Health>]
         ensures { result.now ≡ self.now }
     {
         self.list.as_slice()
     }
 
-    /// Takes a result of a check of a server that is checked. `O(1)`.
+    /// Takes the result of a check, of a server that is checked. `O(1)`.
     pub(crate) fn result(&mut self, server: usize, ok: bool) -> Change
         requires { (standing : Standing) × (slice_get self.old server ≡ Some (Some standing)) }
         ensures healths { (servers : List ServerSet) (results : List (List Bool)) → AreHealths servers results self.old → AreHealths servers (with_result server ok results) self.new }
@@ -58,7 +58,7 @@ impl Healths {
         health.result(ok)
     }
 
-    /// Whether a server that is checked is up. `O(1)`.
+    /// Says whether a server that is checked is up. `O(1)`.
     pub(crate) fn up(&self, server: usize) -> bool
         requires { (standing : Standing) × (slice_get self.now server ≡ Some (Some standing)) }
         ensures { (servers : List ServerSet) (results : List (List Bool)) → AreHealths servers results self.now → result ≡ is_up_at servers results server }
@@ -70,7 +70,7 @@ impl Healths {
     }
 }
 
-/// The health of a server of which no result is known.
+/// Returns the health of a server without any result; `None` where it isn't checked.
 fn health_of(server: &ServerSet) -> Option<Health>
     requires { IsTrue (is_within server.now) }
     ensures { IsHealthBy server.now.rise_fall [] result }

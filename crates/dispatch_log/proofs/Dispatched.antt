@@ -17,7 +17,7 @@ use Rattle.verdict.specs.declared.cause.Cause.TheVariants.{Aborted, Timeout, Ret
 use Rattle.dispatch_log.specs.declared.row.Row.{Row}
 use Rattle.dispatch_log.specs.declared.setup.ServerSet.{ServerSet}
 use Rattle.dispatch_log.specs.declared.setup.Setup.{Setup}
-use Rattle.dispatch_log.specs.Dispatch.{bound_from, bound_by, bound_of, KeepsLimits, given_between, is_arrival_of, is_end_of, arrivals_of, ends_of, is_placed, IsDispatched}
+use Rattle.dispatch_log.specs.Dispatch.{bound_from, bound_by, bound_of, KeepsLimits, is_arrival_of, is_end_of, arrivals_of, ends_of, is_placed, IsDispatched}
 use Rattle.dispatch_log.specs.Histories.{History, state_of, start_of}
 use Rattle.dispatch_log.specs.Legal.{IsBase, IsLegal}
 use Rattle.dispatch_log.specs.Judgement.{Stage, placing, returning, ending, failing, freed_by_failure, aborting, telling}
@@ -29,6 +29,7 @@ use Rattle.dispatch_log.specs.States.{State, scene, after, after_all, arrived, P
 use Rattle.dispatch_log.specs.Scenes.{Scene, serves_beside, is_free}
 use Rattle.dispatch_log.proofs.Accepted.{row_of_accepted}
 use Rattle.dispatch_log.proofs.Consistency.{IsConsistent, loose_ticket}
+use Rattle.dispatch_log.proofs.Given.{given_between, one, one_given, at_most_one, at_most_given}
 use Rattle.dispatch_log.proofs.Judged.{consistent_after, consistent_all, over_none}
 use Rattle.list_facts.proofs.Counts.{some_at, one_at}
 use Rattle.list_facts.proofs.Places.{tally, count-set}
@@ -374,18 +375,14 @@ base_consistent setup base is = record {
     own = λ p q r u a b e.
         one_at (has_ticket r.key.ticket) base.rows p q (Some r) (Some u) (few r.key.ticket) a ((Decides-eqb _ _).1 refl) b ((Decides-eqb _ _).1 (sym e));
   };
-  below = λ p r a. by_count p r a (some_at (has_ticket r.key.ticket) base.rows p (Some r) a ((Decides-eqb _ _).1 refl))
-      (is.dispatched.one_place r.key.ticket).one_row;
+  below = λ p r a.
+      ((is.dispatched.one_place r.key.ticket).row_given (some_at (has_ticket r.key.ticket) base.rows p (Some r) a ((Decides-eqb _ _).1 refl))).up_to;
   loose = λ p r a e. let no : false ≡ true = subst (λ phase. is_placed phase ≡ true) e (is.dispatched.placed r (p, a)) in cc;
   owed = λ t e. none_some e;
 }
   where
     few : (ticket : ℕ) → count_by (has_ticket ticket) base.rows ≤ 1
-    few ticket = let one = (is.dispatched.one_place ticket).one_row in grind (arith, nat_tests)
-
-    by_count : (p : ℕ) (r : Row) → StandsAt base.rows p r → 1 ≤ rows_of r.key.ticket base.rows
-        → rows_of r.key.ticket base.rows ≤ given_between 0 base.ticket r.key.ticket → r.key.ticket ≤ base.ticket
-    by_count p r a some one = grind (arith, nat_tests)
+    few ticket = (is.dispatched.one_place ticket).one_row
 
 pub legal_consistent : (h : History) → IsLegal h → IsConsistent (state_of h).rows (state_of h).ticket (stage_after granting h.log)
 legal_consistent h legal = consistent_all (start_of h) granting h.log (base_consistent h.setup h.base legal.begins) legal.lawful.judged
@@ -403,22 +400,27 @@ dispatched h legal =
     let opened = base_consistent h.setup base legal.begins in
     let end = legal_consistent h legal in
     let stage = stage_after granting h.log in
-    let arrived_once = λ (ticket : ℕ).
-    let none : given_between base.ticket base.ticket ticket ≡ 0 = grind (arith, nat_tests) in
-    let all : given_between base.ticket base.ticket ticket + arrivals_of ticket h.log ≡ given_between base.ticket (state_of h).ticket ticket =
-    given_all (point_of h.setup base 0) base.ticket granting h.log ticket (omega arith) judged in
-    (let it : arrivals_of ticket h.log ≡ given_between base.ticket (state_of h).ticket ticket = omega arith in it)
-    in
     record {
       limits = limits_all (point_of h.setup base 0) granting h.log opened judged legal.begins.dispatched.limits;
-      one_place = λ ticket. record {
-        arrives_once = arrived_once ticket;
-        until_its_end = balance_all (point_of h.setup base 0) granting h.log ticket opened judged;
-        one_row = one_row base.ticket (state_of h).ticket ticket (rows_of ticket base.rows) (rows_of ticket (state_of h).rows) (ends_of ticket h.log)
-            (arrivals_of ticket h.log)
-            (last_all (point_of h.setup base 0) granting h.log judged) (legal.begins.dispatched.one_place ticket).one_row (arrived_once ticket)
-            (balance_all (point_of h.setup base 0) granting h.log ticket opened judged);
-      };
+      one_place = λ ticket.
+          let last = (state_of h).ticket in
+          let none : given_between base.ticket base.ticket ticket ≡ 0 = grind (arith, nat_tests) in
+          let all : given_between base.ticket base.ticket ticket + arrivals_of ticket h.log ≡ given_between base.ticket last ticket =
+          given_all (point_of h.setup base 0) base.ticket granting h.log ticket (omega arith) judged in
+          let came : arrivals_of ticket h.log ≡ given_between base.ticket last ticket = omega arith in
+          let before = legal.begins.dispatched.one_place ticket in
+          let even = balance_all (point_of h.setup base 0) granting h.log ticket opened judged in
+          let rows : rows_of ticket (state_of h).rows ≤ given_between 0 last ticket =
+          one_row base.ticket last ticket (rows_of ticket base.rows) (rows_of ticket (state_of h).rows) (ends_of ticket h.log) (arrivals_of ticket h.log)
+          (last_all (point_of h.setup base 0) granting h.log judged)
+          (at_most_given 0 base.ticket ticket (rows_of ticket base.rows) before.one_row before.row_given) came even in
+          record {
+            arrives_once = one base.ticket last ticket (arrivals_of ticket h.log) came;
+            arrives_given = one_given base.ticket last ticket (arrivals_of ticket h.log) (omega arith);
+            until_its_end = even;
+            one_row = at_most_one 0 last ticket (rows_of ticket (state_of h).rows) rows;
+            row_given = one_given 0 last ticket (rows_of ticket (state_of h).rows) rows;
+          };
       placed = λ row live. placed_row (state_of h).rows (state_of h).ticket stage row end
           (over_none h.setup (state_of h) stage legal.lawful.whole) live row.phase refl;
       settled = legal.lawful.settled;

@@ -3,6 +3,7 @@ pub mod Accepted
 pub mod Consistency
 pub mod Judged
 pub mod Tried
+pub mod Given
 pub mod Dispatched
 pub mod Choices
 pub mod SameRows

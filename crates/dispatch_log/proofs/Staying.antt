@@ -25,7 +25,7 @@ use Rattle.dispatch_log.specs.States.{State, scene, after, after_all, arrived, c
 use Rattle.dispatch_log.proofs.Choices.{free_there, chosen_there}
 use Rattle.dispatch_log.proofs.SameRows.{changed_row}
 
--- each row that is at a server is at one of so many
+-- each row at a server is at one of this many
 abbrev pub AreAtServers : ℕ → Rows → Type 0
 AreAtServers servers rows = (row : Row) → IsRow rows row → IsAtOneOf servers row.phase
 

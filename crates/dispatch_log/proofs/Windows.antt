@@ -13,7 +13,7 @@ use Rattle.dispatch_log.specs.declared.entry.Entry.TheVariants.{Arrive, Done, Fa
 use Rattle.dispatch_log.specs.declared.entry.Entry.TheVariants.{Joined, Granted, Moved, Freed, Retried, Left, Health, Ended}
 use Rattle.dispatch_log.specs.declared.setup.ServerSet.{ServerSet}
 use Rattle.dispatch_log.specs.declared.setup.Setup.{Setup}
-use Rattle.dispatch_log.specs.Dispatch.{bound_of, given_between}
+use Rattle.dispatch_log.specs.Dispatch.{bound_of, IsGivenBetween}
 use Rattle.dispatch_log.specs.Refusals.{lacks_room, pins_to_none, tickets_are_spent, is_full, arrival_refusal}
 use Rattle.dispatch_log.specs.Setups.{IsSound, is_within, has_rise_and_fall}
 use Rattle.dispatch_log.specs.Grants.{IsSettled}
@@ -21,7 +21,7 @@ use Rattle.dispatch_log.specs.Health.{is_up_by, ups_of, shortened_by, shortened_
 use Rattle.dispatch_log.specs.Histories.{History, state_of, rolled, next_window, start_of}
 use Rattle.dispatch_log.specs.Judgement.{AreLawful, Stage, MayCome, AllMayCome, granting, next_stage, stage_after}
 use Rattle.dispatch_log.specs.Legal.{IsBase, IsLegal}
-use Rattle.dispatch_log.specs.Rows.{has_ticket, rows_of, is_served_by, served}
+use Rattle.dispatch_log.specs.Rows.{has_ticket, rows_of, is_served_by}
 use Rattle.dispatch_log.specs.States.{State, after, after_all, opening_state, Point, next_point}
 use Rattle.dispatch_log.proofs.Accepted.{arrival_tests}
 use Rattle.dispatch_log.proofs.Dispatched.{none_within, dispatched, base_consistent}
@@ -30,8 +30,8 @@ use Rattle.dispatch_log.proofs.Standing.{AreRowsBy, standing_all}
 use Rattle.dispatch_log.proofs.Staying.{KeepsTo, keeps_all}
 use Rattle.dispatch_log.proofs.Tried.{tried_all, tried_over}
 
-none_between : (last ticket : ℕ) → 0 ≡ given_between last last ticket
-none_between last ticket = grind (arith, nat_tests)
+none_between : {P : Type 0} (last ticket : ℕ) → IsGivenBetween last last ticket → P
+none_between last ticket is = let low = is.after in let high = is.up_to in absurd (omega arith)
 
 -- the first window's base
 pub opening_base : (setup : Setup) → IsBase setup (opening_state setup)
@@ -49,13 +49,18 @@ opening_base setup = record {
     limits = λ server. none_within (bound_of (opening_state setup) server) _ (count-replicate (is_served_by server) setup.places None refl);
     one_place = λ ticket. record {
       arrives_once = none_between 0 ticket;
+      arrives_given = λ some. absurd (omega (arith, some));
       until_its_end = refl;
-      one_row = let none : rows_of ticket (replicate setup.places None) ≡ 0 = count-replicate (has_ticket ticket) setup.places None refl in omega arith;
+      one_row = let none = no_row ticket in omega arith;
+      row_given = λ some. let none = no_row ticket in absurd (omega arith);
     };
     placed = λ row live. absurd (none_in_empty setup.places live.0 row live.1);
     settled = λ server can. none_in_empty setup.places can.1.1.0 can.1.0 can.1.1.1;
   };
 }
+  where
+    no_row : (ticket : ℕ) → rows_of ticket (replicate setup.places None) ≡ 0
+    no_row ticket = count-replicate (has_ticket ticket) setup.places None refl
 
 -- tickets and moments stay in their ranges
 accepted_ticket : (setup : Setup) (s : State) (n : ℕ) (pin : Option ℕ) → arrival_refusal setup s n pin ≡ None → s.ticket + 1 < 2 ^ 40
@@ -163,7 +168,13 @@ next_base h sound legal =
           (λ row live untold other. legal.begins.tried row live untold)) legal.lawful.whole;
       dispatched = record {
         limits = is.limits;
-        one_place = λ ticket. record { arrives_once = none_between (state_of h).ticket ticket; until_its_end = refl; one_row = (is.one_place ticket).one_row };
+        one_place = λ ticket. record {
+          arrives_once = none_between (state_of h).ticket ticket;
+          arrives_given = λ some. absurd (omega (arith, some));
+          until_its_end = refl;
+          one_row = (is.one_place ticket).one_row;
+          row_given = (is.one_place ticket).row_given;
+        };
         placed = is.placed;
         settled = subst (λ ups. IsSettled (record { servers = h.setup.servers; limits = (state_of h).limits; ups = ups; rows = (state_of h).rows }))
             (sym (shortened_ups h.setup.servers (state_of h).results sound.within)) is.settled;

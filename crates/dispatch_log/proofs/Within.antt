@@ -1,13 +1,12 @@
 -- A legal log keeps within its setup; and the parts of entries.
-use Rattle.std.proofs.Common.{◌≡◌, ◌↔◌, ℕ, ◌<◌, ◌≤◌, ◌^◌, false, List, [], ◌∷◌, ◌++◌, All, refl, sym, ◌∙◌, arith}
-use Rattle.std.proofs.lemmas.Bool.Decides.{nat_tests}
+use Rattle.std.proofs.Common.{◌≡◌, ◌↔◌, ℕ, zero, suc, ◌<◌, ◌≤◌, ◌^◌, false, List, [], ◌∷◌, ◌++◌, All, refl, sym, ◌∙◌, arith}
 use Rattle.std.proofs.lemmas.List.Elements.{All-head, All-tail}
 use Rattle.list_facts.proofs.Never.{false_true}
 use Rattle.dispatch_log.specs.declared.entry.Entry.{Entry}
 use Rattle.dispatch_log.specs.declared.entry.Entry.TheVariants.{Arrive, Done, Fail, Abort, Tick, Check, Limit}
 use Rattle.dispatch_log.specs.declared.setup.Setup.{Setup}
 use Rattle.dispatch_log.specs.Bounds.{IsWithin}
-use Rattle.dispatch_log.specs.Dispatch.{arrivals_of, given_between}
+use Rattle.dispatch_log.specs.Dispatch.{arrivals_of, IsGivenBetween}
 use Rattle.dispatch_log.specs.Histories.{History, state_of, begins_event}
 use Rattle.dispatch_log.specs.Judgement.{Stage, AllMayCome, next_stage, stage_after}
 use Rattle.dispatch_log.specs.Legal.{IsLegal}
@@ -17,8 +16,9 @@ use Rattle.dispatch_log.proofs.Judged.{places_all}
 use Rattle.dispatch_log.proofs.Runs.{judged_on, judged_off}
 use Rattle.dispatch_log.proofs.Windows.{legal_range, legal_keeps, legal_standing}
 
-none_given : (first last ticket arrivals : ℕ) → last < 2 ^ 40 → 2 ^ 40 ≤ ticket → arrivals ≡ given_between first last ticket → arrivals ≡ 0
-none_given first last ticket arrivals low high came = grind (arith, nat_tests)
+none_given : (first last ticket arrivals : ℕ) → last < 2 ^ 40 → 2 ^ 40 ≤ ticket → (0 < arrivals → IsGivenBetween first last ticket) → arrivals ≡ 0
+none_given first last ticket zero low high given = refl
+none_given first last ticket (suc more) low high given = let up_to = (given (omega arith)).up_to in absurd (omega arith)
 
 pub within : (h : History) → IsLegal h → IsWithin h
 within h legal =
@@ -29,7 +29,7 @@ within h legal =
       ticket = range.numbered;
       rows = λ row live. (legal_consistent h legal).below live.0 row live.1;
       arrivals = λ ticket high. none_given h.base.ticket (state_of h).ticket ticket (arrivals_of ticket h.log) range.numbered high
-          ((dispatched h legal).one_place ticket).arrives_once;
+          ((dispatched h legal).one_place ticket).arrives_given;
       moment = range.timed;
       timed_rows = legal_standing h legal;
       servers = keeps.rows;

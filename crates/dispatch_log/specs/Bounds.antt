@@ -1,4 +1,4 @@
--- What a log keeps within its setup.
+-- The bounds of a log's numbers under its setup.
 use Rattle.std.specs.Prelude.{◌≡◌, ℕ, ◌<◌, ◌≤◌, ◌^◌, ℤ, length}
 use Rattle.due_key.specs.Range.{IsBetween}
 use Rattle.due_key.specs.declared.class.TheConstants.{LOWEST_CLASS, HIGHEST_CLASS}
@@ -11,7 +11,7 @@ use Rattle.dispatch_log.specs.Histories.{History, state_of}
 use Rattle.dispatch_log.specs.Judgement.{IsDueFrom}
 use Rattle.dispatch_log.specs.Rows.{IsRow}
 
--- where a phase is at a server, in its slot or in its queue, it is one of so many
+-- a phase that names a server, whose slot or queue it is about, names one of the first `servers`
 abbrev pub IsAtOneOf : ℕ → Phase → Type 0
 IsAtOneOf servers (Serving server) = server < servers
 IsAtOneOf servers (Waiting (Server server) since) = server < servers
@@ -19,26 +19,27 @@ IsAtOneOf servers (Waiting Backend since) = Unit {0}
 IsAtOneOf servers Loose = Unit {0}
 IsAtOneOf servers (Told cause) = Unit {0}
 
--- a due date that a request may have by a moment: some offset makes it of an arrival up to then
+-- a due date that a request may have at this moment: the sum of an arrival's moment up to now and an offset
 abbrev pub IsDueBy : ℕ → ℤ → Type 0
 IsDueBy moment due = (arrival : ℕ) × (arrival ≤ moment) × IsDueFrom arrival due
 
--- where a phase waits, it does so since a moment up to this one
+-- a phase that waits does so since a moment up to this one
 abbrev pub IsSinceBy : ℕ → Phase → Type 0
 IsSinceBy moment (Waiting queue since) = since ≤ moment
 IsSinceBy moment Loose = Unit {0}
 IsSinceBy moment (Serving server) = Unit {0}
 IsSinceBy moment (Told cause) = Unit {0}
 
--- a request as it may stand by a moment: its class is in range, its due date comes of an arrival up to then, and where it waits it
--- began to no later
+-- a row that may stand at this moment: its class is in range, its due date belongs to an arrival up
+-- to now, and where it waits it began to wait by now
 pub record IsRowBy (moment : ℕ) (row : Row) : Type 0 where
   pub class : IsBetween LOWEST_CLASS HIGHEST_CLASS row.key.class
   pub due : IsDueBy moment row.key.due
   pub since : IsSinceBy moment row.phase
 
--- as many places as the setup says; tickets below 2 ^ 40, of the rows as of the arrivals; a moment below 2 ^ 62, by which each
--- row may stand as it does; and each row that is at a server is at one of the setup's, as is what balancing picked last
+-- there are as many places as the setup says; tickets of arrivals and rows are below 2 ^ 40; the
+-- last moment is below 2 ^ 62, and each row may stand at it; each row at a server is at one of the
+-- setup's servers, and so is the cursor of balancing
 pub record IsWithin (history : History) : Type 0 where
   pub places : length (state_of history).rows ≡ history.setup.places
   pub ticket : (state_of history).ticket < 2 ^ 40

@@ -1,4 +1,4 @@
--- What a closed server takes.
+-- The requests that a closed server takes: none.
 use Rattle.std.specs.Prelude.{◌≡◌, ℕ, ◌==◌, ◌≤◌, Bool, false, All, List}
 use Rattle.dispatch_log.specs.declared.allowance.Intake.TheVariants.{Closed}
 use Rattle.dispatch_log.specs.declared.entry.Entry.{Entry}
@@ -23,8 +23,8 @@ abbrev pub is_limit_of : ℕ → Entry → Bool
 is_limit_of server (Limit moment other limit) = other == server
 is_limit_of server entry = false
 
--- entries that may come where a server is closed, and that don't set its limit: none gives a request a slot of it or a stay in
--- its queue, and it is closed after them
+-- entries that may come while a server is closed and that don't set its limit: none gives a request
+-- a slot of the server or a stay in its queue, and the server is still closed after them
 pub record IsLeftAlone (server : ℕ) (point : Point) (entries : List Entry) : Type 0 where
   pub none : All (λ entry. is_given_at server entry ≡ false) entries
   pub still_closed : limit_of (scene point.setup (after_all point.setup point.state entries)) server ≡ Closed
@@ -34,7 +34,7 @@ ClosedTakeNobody = (server : ℕ) (point : Point) (stage : Stage) (entries : Lis
     → limit_of (scene point.setup point.state) server ≡ Closed → All (λ entry. is_limit_of server entry ≡ false) entries
     → IsLeftAlone server point entries
 
--- and it serves no more than when it was closed, whatever comes after a legal history
+-- after any legal history a closed server serves no more than when it was closed
 abbrev pub ClosedServeNoMore : Type 0
 ClosedServeNoMore = (server : ℕ) (history : History) (entries : List Entry) → IsLegal history
     → AllMayCome (end_of history) (stage_after granting history.log) entries

@@ -1,5 +1,5 @@
 -- What holds after every event of a dispatcher.
-use Rattle.std.specs.Prelude.{◌≡◌, ℕ, ◌+◌, ◌≤◌, max, Option, None, Some, IfSome, nat_le, nat_lt, ◌==◌, ◌&&◌, Bool, true, false, List, IsTrue, count_by, slice_get, if◌then◌else◌}
+use Rattle.std.specs.Prelude.{◌≡◌, ℕ, ◌+◌, ◌<◌, ◌≤◌, max, Option, None, Some, IfSome, ◌==◌, Bool, true, false, List, IsTrue, count_by, slice_get, if◌then◌else◌}
 use Rattle.std.specs.Option.{option_map_or}
 use Rattle.dispatch_log.specs.declared.allowance.Allowance.{Allowance}
 use Rattle.dispatch_log.specs.declared.allowance.Intake.{Intake}
@@ -14,8 +14,9 @@ use Rattle.dispatch_log.specs.Grants.{IsSettled}
 use Rattle.dispatch_log.specs.Rows.{IsRow, served, rows_of}
 use Rattle.dispatch_log.specs.States.{State, scene}
 
--- how many requests a server of a limit may be found to serve that served so many when the limit was set: none of those is
--- stopped, and a closed one takes no other; none is said where it has no limit
+-- the most requests that a server with this limit may serve, where it served this many when the
+-- limit was set: none of those is stopped, and a closed server takes no more; without a limit there
+-- is no bound
 abbrev pub bound_from : Intake → ℕ → Option ℕ
 bound_from (Open limit) count = if limit == 0 then None else Some (max limit count)
 bound_from Closed count = Some count
@@ -38,33 +39,37 @@ abbrev pub is_end_of : ℕ → Entry → Bool
 is_end_of ticket (Ended other) = other == ticket
 is_end_of ticket entry = false
 
--- how often a ticket arrives and ends in a log
+-- the number of times that a ticket arrives, and that it ends, in a log
 abbrev pub arrivals_of : ℕ → List Entry → ℕ
 arrivals_of ticket log = count_by (is_arrival_of ticket) log
 
 abbrev pub ends_of : ℕ → List Entry → ℕ
 ends_of ticket log = count_by (is_end_of ticket) log
 
--- a row waits in a queue, has a slot of a server or is told why not
+-- a row waits in a queue, has a slot of a server, or is told that it isn't served
 abbrev pub is_placed : Phase → Bool
 is_placed Loose = false
 is_placed (Waiting queue since) = true
 is_placed (Serving server) = true
 is_placed (Told cause) = true
 
--- 1 for a ticket that was given after a first and up to a last one, and 0 for any other
-abbrev pub given_between : ℕ → ℕ → ℕ → ℕ
-given_between first last ticket = if nat_lt first ticket && nat_le ticket last then 1 else 0
+-- a ticket was given after a first one, and is the last one or was given before it
+pub record IsGivenBetween (first last ticket : ℕ) : Type 0 where
+  pub after : first < ticket
+  pub up_to : ticket ≤ last
 
--- a ticket that was given in the window arrived there once, and no other did; it has the row that it had at the window's
--- base or had with its arrival until its one end, and none after it; and only a ticket that was given has a row, and one
+-- a ticket that was given in the window arrived there once, and none but such a ticket arrived; of its rows, those at the
+-- window's base and those that came with an arrival, each is there still or has ended; and it has one row at most, and
+-- only where it was given
 pub record IsInOnePlace (history : History) (ticket : ℕ) : Type 0 where
-  pub arrives_once : arrivals_of ticket history.log ≡ given_between history.base.ticket (state_of history).ticket ticket
+  pub arrives_once : IsGivenBetween history.base.ticket (state_of history).ticket ticket → arrivals_of ticket history.log ≡ 1
+  pub arrives_given : 0 < arrivals_of ticket history.log → IsGivenBetween history.base.ticket (state_of history).ticket ticket
   pub until_its_end : rows_of ticket (state_of history).rows + ends_of ticket history.log ≡ rows_of ticket history.base.rows + arrivals_of ticket history.log
-  pub one_row : rows_of ticket (state_of history).rows ≤ given_between 0 (state_of history).ticket ticket
+  pub one_row : rows_of ticket (state_of history).rows ≤ 1
+  pub row_given : 0 < rows_of ticket (state_of history).rows → IsGivenBetween 0 (state_of history).ticket ticket
 
--- the dispatch theorem's first three parts: limits are kept, every request stands in one place, and no free slot faces
--- a request that may take it
+-- the first three parts of the dispatch theorem: limits are kept, every request is in exactly one
+-- place, and no server has a free slot while a request that may take it waits
 pub record IsDispatched (history : History) : Type 0 where
   pub limits : KeepsLimits (state_of history)
   pub one_place : (ticket : ℕ) → IsInOnePlace history ticket

@@ -1,4 +1,4 @@
--- Dispatchers, as contracts see them: what one was made for, where its present window began, and its log since.
+-- Dispatchers as contracts see them: the setup, the state in which the present window began, and the log since.
 use Rattle.std.specs.Prelude.{◌≡◌, ◌⊎◌, ℕ, max, Bool, true, false, List, [], Option, None, Some, length}
 use Rattle.dispatch_log.specs.declared.entry.Entry.{Entry}
 use Rattle.dispatch_log.specs.declared.entry.Entry.TheVariants.{Arrive, Done, Fail, Abort, Tick, Check, Limit}
@@ -12,44 +12,44 @@ use Rattle.dispatch_log.specs.Refusals.{arrival_refusal, done_refusal, failure_r
 use Rattle.dispatch_log.specs.Rows.{IsRow}
 use Rattle.dispatch_log.specs.States.{State, opening_state, after_all, Point, point_of}
 
--- a dispatcher's setup, the state that its present window began with, and the entries since
+-- a dispatcher's setup, the state in which its present window began, and the entries since
 pub record History : Type 0 where
   pub setup : Setup
   pub base : State
   pub log : List Entry
 
--- its first window, which begins with no request
+-- the first window, which begins without a request
 abbrev pub first_window : Setup → List Entry → History
 first_window setup log = record { setup = setup; base = opening_state setup; log = log }
 
--- the state that the log leaves of the base
+-- the state at the end of the log
 abbrev pub state_of : History → State
 state_of history = after_all history.setup history.base history.log
 
--- the point where its window begins, and the one at its end
+-- the point where the window begins, and the point at its end
 abbrev pub start_of : History → Point
 start_of history = point_of history.setup history.base 0
 
 abbrev pub end_of : History → Point
 end_of history = point_of history.setup (state_of history) (length history.log)
 
--- the next window: it begins with the state that this one leaves, where the shortest results stand for those of the checks
+-- the base of the next window: the state at the end of this one, with each server's check results shortened
 abbrev pub rolled : Setup → State → State
 rolled setup state = record state { results = shortened_all setup.servers state.results }
 
 abbrev pub next_window : History → History
 next_window history = record { setup = history.setup; base = rolled history.setup (state_of history); log = [] }
 
--- an event's effective moment: the later of the one handed in and the last event's
+-- an event's effective moment: the later of its own moment and the last event's
 abbrev pub effective : History → ℕ → ℕ
 effective history moment = max (state_of history).moment moment
 
--- at a moment, some request has waited as long as requests may
+-- at this moment some request has waited as long as requests may
 abbrev pub SomeExpires : History → ℕ → Type 0
 SomeExpires history moment = (row : Row) × IsRow (state_of history).rows row × HasExpired history.setup (effective history moment) row.phase
 
--- what refuses an arrival with a pin, or the return of a ticket's slot, its failure, its abort, a tick, or a check or a new
--- limit of a server, now
+-- why an arrival with this pin, the return of a ticket's slot, a ticket's failure or abort, a tick,
+-- or a check or a new limit of a server is refused now, if it is
 abbrev pub refuses_arrival : History → Option ℕ → Option Refusal
 refuses_arrival history pin = arrival_refusal history.setup (state_of history) (length history.log) pin
 
@@ -81,6 +81,6 @@ begins_event (Check moment server ok) = true
 begins_event (Limit moment server limit) = true
 begins_event entry = false
 
--- why a call that takes memory failed: it is refused, or nothing refuses it and there was no memory
+-- why a call that allocates failed: it is refused, or no refusal applies and there was no memory
 abbrev pub RefusedOrNoMemory : Option Refusal → Refusal → Type 0
 RefusedOrNoMemory refused answer = (refused ≡ Some answer) ⊎ ((refused ≡ None) × (answer ≡ NoMemory))

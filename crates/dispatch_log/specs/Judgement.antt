@@ -27,32 +27,33 @@ use Rattle.dispatch_log.specs.Scenes.{Scene, is_up}
 use Rattle.dispatch_log.specs.Placement.{IsDirect, IsJoining, IsTurnedAway}
 use Rattle.dispatch_log.specs.Grants.{IsLeastOf, IsSettled, IsLawfulGrant}
 
--- a ticket's row is in a phase that passes a test
+-- a ticket has a row, and the row's phase passes a test
 pub record IsInPhase (test : Phase → Bool) (rows : Rows) (ticket : ℕ) : Type 0 where
   pub row : Row
   pub live : IsRow rows row
   pub named : row.key.ticket ≡ ticket
   pub phase : IsTrue (test row.phase)
 
--- a ticket has a slot of a server, or is told that it isn't served
+-- a ticket has a slot of this server, or is told that it isn't served
 abbrev pub HasSlot : Rows → ℕ → ℕ → Type 0
 HasSlot rows ticket server = IsInPhase (phase_is_served_by server) rows ticket
 
 abbrev pub IsTold : Rows → ℕ → Type 0
 IsTold rows ticket = IsInPhase phase_is_told rows ticket
 
--- a due date that some offset makes of a moment
+-- a due date that is the sum of this moment and an offset
 abbrev pub IsDueFrom : ℕ → ℤ → Type 0
 IsDueFrom moment due = (offset : ℤ) × IsBetween LOWEST_OFFSET HIGHEST_OFFSET offset × (due ≡ (pos moment +ℤ offset))
 
--- an arrival has the next ticket, a free place, a class in its range, and a due date from the event's moment
+-- an arrival has the next ticket, a free place, a class in range, and a due date that is the
+-- event's moment plus an offset
 pub record IsNewcomer (state : State) (moment : ℕ) (arrival : Arrival) : Type 0 where
   pub numbered : arrival.ticket ≡ state.ticket + 1
   pub vacant : IsVacant state.rows arrival.place
   pub class : IsBetween LOWEST_CLASS HIGHEST_CLASS arrival.class
   pub due : IsDueFrom moment arrival.due
 
--- expired: a request waits since a moment that lies as far back as requests may wait
+-- expired: a request has waited as long as requests may
 abbrev pub HasExpired : Setup → ℕ → Phase → Type 0
 HasExpired setup now (Waiting queue since) = (0 < setup.queue_timeout) × (since + setup.queue_timeout ≤ now)
 HasExpired setup now Loose = ⊥
@@ -69,7 +70,7 @@ pub record IsFirstExpired (setup : Setup) (state : State) (ticket : ℕ) : Type 
   pub named : row.key.ticket ≡ ticket
   pub first : (other : Row) → IsExpired setup state other → ticket ≤ other.key.ticket
 
--- the request with the least key of those that wait in a queue
+-- the request with the least key in a queue
 pub record IsFirstIn (queue : Queue) (rows : Rows) (ticket : ℕ) : Type 0 where
   pub row : Row
   pub live : IsRow rows row
@@ -81,31 +82,33 @@ pub record IsFirstIn (queue : Queue) (rows : Rows) (ticket : ℕ) : Type 0 where
 abbrev pub was_up : Setup → State → ℕ → Bool
 was_up setup state server = option_map_or (λ it. is_up_by it.rise_fall (without_last (results_of state.results server))) (slice_get setup.servers server) false
 
--- what comes next in an event
+-- the stage of an event: what comes next in it
 pub data Stage : Type 0 where
-  -- the placement of this ticket, which has just come
+  -- the placement of this ticket, which has just arrived
   placing : ℕ → Stage
-  -- what the return of this ticket's slot opens with: the slot is given back, or where the ticket was told why it has none, it ends
+  -- the first entry of the return of this ticket's slot: the slot is freed, or where the ticket was
+  -- told why it has none, it ends
   returning : ℕ → Stage
   -- the end of this ticket
   ending : ℕ → Stage
-  -- what the failure of this ticket's connection opens with: it is tried again, or its slot is given back
+  -- the first entry after the failure of this ticket's connection: it is retried, or its slot is freed
   failing : ℕ → Stage
-  -- what becomes of this ticket, whose slot at this server was given back
+  -- what follows for this ticket, whose slot at this server was freed after a failure
   freed_by_failure : ℕ → ℕ → Stage
-  -- what the abort of this ticket opens with
+  -- the first entry after the abort of this ticket
   aborting : ℕ → Stage
-  -- the requests that expired, one by one
+  -- the expired requests are told, one by one
   telling : Stage
   -- whether a check changed the health of this server
   checking : ℕ → Stage
-  -- the requests that wait at this server, which went down or was closed, one by one
+  -- the requests in the queue of this server, which went down or was closed, are moved one by one
   emptying : ℕ → Stage
-  -- grants, as long as one is lawful, and then another event
+  -- grants as long as one is lawful, and then the next event
   granting : Stage
 
--- an event owes nothing any more but grants: no expired request, no word of a change of health, no request in the
--- queue of a server that went down or was closed where they are moved
+-- an event owes nothing more but grants: no expired request is untold, no change of health
+-- unreported, and no request is still in the queue of a server that went down or was closed where
+-- it is to be moved
 abbrev pub IsOver : Setup → State → Stage → Type 0
 IsOver setup state granting = Unit {0}
 IsOver setup state telling = (row : Row) → IsExpired setup state row → ⊥
@@ -113,7 +116,8 @@ IsOver setup state (checking server) = was_up setup state server ≡ is_up (scen
 IsOver setup state (emptying server) = IsTrue setup.redispatch → IsEmptyQueue (Server server) state.rows
 IsOver setup state stage = ⊥
 
--- grants may come: the event owes nothing else, or a request is redispatched, whose slot goes to another one first
+-- grants may come: the event owes nothing else, or it redispatches a request, whose freed slot
+-- another request may take first
 abbrev pub MayGrant : Setup → State → Stage → Type 0
 MayGrant setup state (freed_by_failure leaver server) = IsTrue (are_redispatched setup (failures_of leaver state.rows))
 MayGrant setup state stage = IsOver setup state stage
@@ -127,20 +131,21 @@ pub record MayBegin (point : Point) (stage : Stage) (moment : ℕ) (refused : Op
   pub later : point.state.moment ≤ moment
   pub within : moment < 2 ^ 62
 
--- a request in no place takes a slot, joins a queue, or is told that no server is usable
+-- a request without a phase takes a slot, joins a queue, or is told that no server is usable
 abbrev pub IsPut : Scene → ℕ → Option ℕ → Option ℕ → ℕ → Entry → Type 0
 IsPut scene cursor pin avoid newcomer (Direct ticket server) = (ticket ≡ newcomer) × IsDirect scene cursor pin avoid server
 IsPut scene cursor pin avoid newcomer (Joined ticket queue) = (ticket ≡ newcomer) × IsJoining scene cursor pin avoid queue
 IsPut scene cursor pin avoid newcomer (Left ticket NoServer) = (ticket ≡ newcomer) × IsTurnedAway scene pin
 IsPut scene cursor pin avoid newcomer entry = ⊥
 
--- a redispatched request is put anew once all is settled, and away from the server that failed where it can be
+-- a redispatched request is placed again once all is settled, at another server than the one that
+-- failed where that can be
 pub record IsPutAnew (setup : Setup) (state : State) (leaver server : ℕ) (entry : Entry) : Type 0 where
   pub redispatched : IsTrue (are_redispatched setup (failures_of leaver state.rows))
   pub settled : IsSettled (scene setup state)
   pub put : IsPut (scene setup state) state.cursor None (Some server) leaver entry
 
--- an entry may come at a point of a log, at a stage
+-- an entry may come at a point of a log, at this stage
 abbrev pub MayCome : Point → Stage → Entry → Type 0
 MayCome point stage (Arrive moment arrival) =
     MayBegin point stage moment (arrival_refusal point.setup point.state point.used arrival.pin) × IsNewcomer point.state moment arrival
@@ -171,7 +176,7 @@ MayCome point (emptying emptied) (Moved ticket server) =
     (server ≡ emptied) × IsTrue point.setup.redispatch × IsFirstIn (Server server) point.state.rows ticket
 MayCome point stage entry = ⊥
 
--- what a new limit of a server opens with: where it is closed, the requests that wait at it
+-- the stage after a new limit of a server: where the server is closed, the requests in its queue are next
 abbrev pub limit_stage : ℕ → Intake → Stage
 limit_stage server (Open limit) = granting
 limit_stage server Closed = emptying server
@@ -198,13 +203,14 @@ abbrev pub stage_after : Stage → List Entry → Stage
 stage_after stage [] = stage
 stage_after stage (entry ∷ entries) = stage_after (next_stage stage entry) entries
 
--- each entry may come where it stands
+-- each entry may come at its point and stage
 abbrev pub AllMayCome : Point → Stage → List Entry → Type 0
 AllMayCome point stage [] = Unit {0}
 AllMayCome point stage (entry ∷ entries) =
     MayCome point stage entry × AllMayCome (next_point point entry) (next_stage stage entry) entries
 
--- entries are lawful, from a point on: each may come where it stands, the last event is over, and all is settled
+-- the entries from a point on are lawful: each may come where it stands, the last event is over,
+-- and all is settled
 pub record AreLawful (point : Point) (entries : List Entry) : Type 0 where
   pub judged : AllMayCome point granting entries
   pub whole : IsOver point.setup (after_all point.setup point.state entries) (stage_after granting entries)

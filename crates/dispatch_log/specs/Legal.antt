@@ -10,9 +10,10 @@ use Rattle.dispatch_log.specs.Judgement.{AreLawful}
 use Rattle.dispatch_log.specs.Rows.{IsRow, phase_is_told}
 use Rattle.dispatch_log.specs.States.{State}
 
--- proper base: a state of this many places and servers, with a ticket and a moment in their ranges, requests that may stand so
--- by that moment and no word of another server, where what holds after every event of a dispatcher holds, and no request has
--- failed more often than it is tried again but one that is told so
+-- proper base: the state has this many places and servers; its ticket and moment are in range; its
+-- rows may stand at that moment and name no other server; the facts that hold after every event of
+-- a dispatcher hold; and no request has failed more often than it is retried, except one that is
+-- told so
 pub record IsBase (setup : Setup) (base : State) : Type 0 where
   pub places : length base.rows ≡ setup.places
   pub checked : length base.results ≡ length setup.servers
@@ -30,7 +31,7 @@ pub record IsLegal (history : History) : Type 0 where
   pub begins : IsBase history.setup history.base
   pub lawful : AreLawful (start_of history) history.log
 
--- the log goes on with one event and what it brings, all lawful
+-- the log goes on by one event and the entries that follow from it, all lawful
 pub record AddsEvent (old new : History) (event : Entry) : Type 0 where
   pub brought : List Entry
   pub log : new.log ≡ old.log ++ event ∷ brought

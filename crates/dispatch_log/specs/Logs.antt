@@ -1,9 +1,9 @@
--- What a log records.
+-- The content of a log.
 use Rattle.std.specs.Prelude.{ℕ, List}
 use Rattle.dispatch_log.specs.declared.entry.Entry.{Entry}
 use Rattle.dispatch_log.specs.States.{State}
 
--- the state at its window's base, the entries since in order, and for how many there is room
+-- the state in which its window began, the entries since in order, and the most entries that it has room for
 pub record Recorded : Type 0 where
   pub base : State
   pub entries : List Entry

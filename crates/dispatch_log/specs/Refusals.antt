@@ -1,4 +1,4 @@
--- The refusals: the first that applies is the answer.
+-- The refusals of calls: the first one that applies is the answer.
 use Rattle.std.specs.Prelude.{ℕ, ◌+◌, ◌-◌, ◌*◌, ◌^◌, nat_lt, nat_le, Bool, true, false, List, []}
 use Rattle.std.specs.Prelude.{◌∷◌, Option, None, Some, count_by, is_some, is_none, not, length, slice_get, if◌then◌else◌}
 use Rattle.std.specs.Option.{option_map_or}
@@ -25,15 +25,15 @@ abbrev pub first_of : List (Bool × Refusal) → Option Refusal
 first_of [] = None
 first_of (refusal ∷ refusals) = if refusal.0 then Some refusal.1 else first_of refusals
 
--- the room that the log must have where an event begins: the longest one writes no more entries
+-- the room that the log must have before an event: no event writes more entries
 abbrev pub entry_room : Setup → ℕ
 entry_room setup = 2 * setup.places + 8
 
--- fewer entries of the log are free
+-- the log has less free room than an event needs
 abbrev pub lacks_room : Setup → ℕ → Bool
 lacks_room setup used = nat_lt (setup.log - used) (entry_room setup)
 
--- there are as many live requests as places
+-- all places have live requests
 abbrev pub is_full : Setup → Rows → Bool
 is_full setup rows = nat_le setup.places (count_by is_some rows)
 
@@ -41,7 +41,7 @@ is_full setup rows = nat_le setup.places (count_by is_some rows)
 abbrev pub tickets_are_spent : ℕ → Bool
 tickets_are_spent last = nat_le (2 ^ 40) (last + 1)
 
--- a row waits, and a row has a slot
+-- a row waits; a row has a slot
 abbrev pub is_waiting : Phase → Bool
 is_waiting (Waiting queue since) = true
 is_waiting Loose = false
@@ -54,48 +54,48 @@ has_a_slot Loose = false
 has_a_slot (Waiting queue since) = false
 has_a_slot (Told cause) = false
 
--- no server has the number of a pin
+-- a pin names a server that doesn't exist
 abbrev pub pins_to_none : Setup → Option ℕ → Bool
 pins_to_none setup None = false
 pins_to_none setup (Some server) = nat_le (length setup.servers) server
 
--- what refuses an arrival with a pin, in a state that so many entries left
+-- why an arrival with this pin is refused, at a state after this many entries
 abbrev pub arrival_refusal : Setup → State → ℕ → Option ℕ → Option Refusal
 arrival_refusal setup state used pin =
     first_of ((lacks_room setup used, LogFull) ∷ (pins_to_none setup pin, NoSuchServer) ∷ (tickets_are_spent state.ticket, TicketsSpent) ∷
     (is_full setup state.rows, PlacesFull) ∷ [])
 
--- what refuses an event of a ticket, whose row may not be in a phase of this kind
+-- why an event of a ticket is refused whose row may not be in a phase of this kind
 abbrev pub ticket_refusal : (Phase → Bool) → Setup → State → ℕ → ℕ → Option Refusal
 ticket_refusal wrong setup state used ticket =
     let row = row_of ticket state.rows in
     first_of ((lacks_room setup used, LogFull) ∷ (is_none row, NoSuchTicket) ∷ (option_map_or (λ it. wrong it.phase) row false, WrongPhase) ∷ [])
 
--- what refuses the return of a ticket's slot: no such row, or it still waits
+-- why the return of a ticket's slot is refused: no row has the ticket, or it still waits
 abbrev pub done_refusal : Setup → State → ℕ → ℕ → Option Refusal
 done_refusal = ticket_refusal is_waiting
 
--- a ticket's failure: no such row, or it has no slot
+-- why a ticket's failure is refused: no row has the ticket, or it has no slot
 abbrev pub failure_refusal : Setup → State → ℕ → ℕ → Option Refusal
 failure_refusal = ticket_refusal (λ phase. not (has_a_slot phase))
 
--- a ticket's abort: no such row, or it doesn't wait
+-- why a ticket's abort is refused: no row has the ticket, or it doesn't wait
 abbrev pub abort_refusal : Setup → State → ℕ → ℕ → Option Refusal
 abort_refusal = ticket_refusal (λ phase. not (is_waiting phase))
 
--- a tick: the log alone
+-- why a tick is refused: only where the log is full
 abbrev pub tick_refusal : Setup → ℕ → Option Refusal
 tick_refusal setup used = first_of ((lacks_room setup used, LogFull) ∷ [])
 
--- whether a server is checked
+-- a server is checked
 abbrev pub is_checked : Setup → ℕ → Bool
 is_checked setup server = option_map_or (λ it. is_some it.rise_fall) (slice_get setup.servers server) false
 
--- a check: no such server, or it is never checked
+-- why a check is refused: the server doesn't exist, or isn't checked
 abbrev pub check_refusal : Setup → ℕ → ℕ → Option Refusal
 check_refusal setup used server =
     first_of ((lacks_room setup used, LogFull) ∷ (nat_le (length setup.servers) server, NoSuchServer) ∷ (not (is_checked setup server), WrongPhase) ∷ [])
 
--- a change of a server's limit: no such server
+-- why a new limit is refused: the server doesn't exist
 abbrev pub limit_refusal : Setup → ℕ → ℕ → Option Refusal
 limit_refusal setup used server = first_of ((lacks_room setup used, LogFull) ∷ (nat_le (length setup.servers) server, NoSuchServer) ∷ [])

@@ -1,4 +1,4 @@
--- The live requests: a list of places, each empty or with a row.
+-- The live requests: a list of places, each of which is empty or has a row.
 use Rattle.std.specs.Prelude.{◌≡◌, ℕ, ◌==◌, Bool, false, true, IsTrue, List, [], ◌∷◌, Option, None, Some, map, count_by, slice_get, if◌then◌else◌}
 use Rattle.std.specs.Option.{option_and_then, option_map_or}
 use Rattle.std.specs.Ordering.{nat_cmp}
@@ -18,7 +18,7 @@ Rows = List (Option Row)
 abbrev pub StandsAt : Rows → ℕ → Row → Type 0
 StandsAt rows place row = slice_get rows place ≡ Some (Some row)
 
--- a place is there and empty
+-- a place exists and is empty
 abbrev pub IsVacant : Rows → ℕ → Type 0
 IsVacant rows place = slice_get rows place ≡ Some None
 
@@ -26,7 +26,7 @@ IsVacant rows place = slice_get rows place ≡ Some None
 abbrev pub IsRow : Rows → Row → Type 0
 IsRow rows row = (place : ℕ) × StandsAt rows place row
 
--- whether a place has the row of a ticket
+-- a place has the row of a ticket
 abbrev pub has_ticket : ℕ → Option Row → Bool
 has_ticket ticket None = false
 has_ticket ticket (Some row) = row.key.ticket == ticket
@@ -36,13 +36,13 @@ abbrev pub row_of : ℕ → Rows → Option Row
 row_of ticket [] = None
 row_of ticket (place ∷ rows) = if has_ticket ticket place then place else row_of ticket rows
 
--- whether two queues are one
+-- two queues are the same
 abbrev pub same_queue : Queue → Queue → Bool
 same_queue Backend Backend = true
 same_queue (Server a) (Server b) = a == b
 same_queue a b = false
 
--- how two queues compare: the backend's comes first, then the servers' in order
+-- the order of queues: the backend's is first, then the servers' in file order
 abbrev pub queue_cmp : Queue → Queue → Ordering
 queue_cmp Backend Backend = Equal
 queue_cmp Backend (Server b) = Less
@@ -67,21 +67,21 @@ phase_is_told Loose = false
 phase_is_told (Waiting queue since) = false
 phase_is_told (Serving server) = false
 
--- whether a place's row waits in a queue
+-- a place's row waits in a queue
 abbrev pub waits_in : Queue → Option Row → Bool
 waits_in queue None = false
 waits_in queue (Some row) = phase_waits_in queue row.phase
 
--- whether a place's row has a slot of a server
+-- a place's row has a slot of a server
 abbrev pub is_served_by : ℕ → Option Row → Bool
 is_served_by server None = false
 is_served_by server (Some row) = phase_is_served_by server row.phase
 
--- how many requests a server serves
+-- the number of requests that a server serves
 abbrev pub served : ℕ → Rows → ℕ
 served server rows = count_by (is_served_by server) rows
 
--- how many requests wait in a queue
+-- the number of requests that wait in a queue
 abbrev pub queued : Queue → Rows → ℕ
 queued queue rows = count_by (waits_in queue) rows
 
@@ -89,11 +89,11 @@ queued queue rows = count_by (waits_in queue) rows
 abbrev pub IsEmptyQueue : Queue → Rows → Type 0
 IsEmptyQueue queue rows = (row : Row) → IsRow rows row → IsTrue (phase_waits_in queue row.phase) → ⊥
 
--- how many rows a ticket has
+-- the number of rows with a ticket
 abbrev pub rows_of : ℕ → Rows → ℕ
 rows_of ticket rows = count_by (has_ticket ticket) rows
 
--- each place with the row of a ticket changed
+-- a place, where a row with this ticket is changed
 abbrev pub with_change : ℕ → (Row → Option Row) → Option Row → Option Row
 with_change ticket change None = None
 with_change ticket change (Some row) = if row.key.ticket == ticket then change row else Some row
@@ -105,15 +105,15 @@ changed ticket change rows = map (with_change ticket change) rows
 abbrev pub in_phase : Phase → Row → Option Row
 in_phase phase row = Some (record row { phase = phase })
 
--- a row that was moved into the backend's queue: no server is its own any more
+-- a row that was moved into the backend's queue: it has no pin any more
 abbrev pub in_backend_since : ℕ → Row → Option Row
 in_backend_since moment row = Some (record row { pin = None; phase = Waiting Backend moment })
 
--- no row any more
+-- the row is removed
 abbrev pub gone : Row → Option Row
 gone row = None
 
--- the server whose slot a phase is
+-- the server that a phase has a slot of
 abbrev pub server_in : Phase → Option ℕ
 server_in (Serving server) = Some server
 server_in Loose = None
@@ -131,6 +131,6 @@ queue_in (Told cause) = None
 abbrev pub pin_of : ℕ → Rows → Option ℕ
 pin_of ticket rows = option_and_then (λ row. row.pin) (row_of ticket rows)
 
--- how many connections failed for a ticket
+-- the number of connections that failed for a ticket
 abbrev pub failures_of : ℕ → Rows → ℕ
 failures_of ticket rows = option_map_or (λ row. row.failures) (row_of ticket rows) 0

@@ -11,15 +11,14 @@ use Rattle.dispatch_log.specs.declared.row.Phase.TheVariants.{Loose, Waiting, Se
 use Rattle.dispatch_log.specs.declared.setup.ServerSet.{ServerSet}
 use Rattle.dispatch_log.specs.Rows.{Rows, served, queued}
 
--- the scene of a decision: the servers, how many requests each may serve at present, which of them are up, and where the
--- live requests stand
+-- the scene of a decision: the servers, the present limit of each, which of them are up, and the live requests
 pub record Scene : Type 0 where
   pub servers : List ServerSet
   pub limits : List Allowance
   pub ups : List Bool
   pub rows : Rows
 
--- a test of the server with a number; a number that is no server's fails it
+-- a test of the server with a number; false for a number that no server has
 abbrev pub of_server : Scene → ℕ → (ServerSet → Bool) → Bool
 of_server scene server test = option_map_or test (slice_get scene.servers server) false
 
@@ -32,13 +31,13 @@ abbrev pub is_open : Intake → Bool
 is_open (Open limit) = true
 is_open Closed = false
 
--- whether a server of a limit serves one more request beside so many; a closed one none
+-- a server with this limit serves one more request beside this many; a closed one none
 abbrev pub serves_beside : Intake → ℕ → Bool
 serves_beside (Open limit) count = (limit == 0) || nat_lt count limit
 serves_beside Closed count = false
 
--- whether balancing gives a server of a limit and a maxqueue one more beside so many that it serves and queues; a closed
--- one none
+-- balancing gives a server with this limit and maxqueue one more request beside this many that it
+-- serves and queues; a closed one none
 abbrev pub holds_beside : Intake → ℕ → ℕ → Bool
 holds_beside (Open limit) maxqueue count = (limit == 0) || nat_lt count (limit + maxqueue)
 holds_beside Closed maxqueue count = false
@@ -55,14 +54,15 @@ is_usable scene server = is_up scene server && of_server scene server (λ it. na
 abbrev pub is_free : Scene → ℕ → Bool
 is_free scene server = of_server scene server (λ it. serves_beside (limit_of scene server) (served server scene.rows))
 
--- room: the server is usable and not closed, and has no limit, or serves and queues fewer than its limit plus maxqueue
+-- room: the server is usable and not closed, and it has no limit or serves and queues fewer than
+-- its limit plus maxqueue
 abbrev pub has_room : Scene → ℕ → Bool
 has_room scene server =
     is_usable scene server
     && of_server scene server (λ it. holds_beside (limit_of scene server) it.maxqueue (served server scene.rows + queued (Server server) scene.rows))
 
--- whether a server takes a request that is bound to it: where it is up and open, into a slot where it is free, and else
--- into its queue, which may be as long as maxqueue, or of any length where that is 0
+-- a server takes a request that is pinned to it: it is up and open, and it is free or its queue is
+-- shorter than maxqueue, where 0 is without limit
 abbrev pub takes_pinned : Scene → ℕ → Bool
 takes_pinned scene server =
     is_up scene server
@@ -74,12 +74,12 @@ abbrev pub working_pin : Scene → Option ℕ → Option ℕ
 working_pin scene None = None
 working_pin scene (Some server) = if takes_pinned scene server then Some server else None
 
--- whether a slot of a server may go to a queue: where it is up to its own, and where it is usable to the backend's
+-- a slot of a server may go to a queue: to its own where the server is up, and to the backend's where it is usable
 abbrev pub may_take : Scene → ℕ → Queue → Bool
 may_take scene server Backend = is_usable scene server
 may_take scene server (Server own) = is_up scene server && (own == server)
 
--- whether a slot of a server may go to a row in a phase
+-- a slot of a server may go to a row in this phase
 abbrev pub may_go_to : Scene → ℕ → Phase → Bool
 may_go_to scene server (Waiting queue since) = may_take scene server queue
 may_go_to scene server Loose = false

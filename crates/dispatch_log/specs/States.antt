@@ -1,4 +1,4 @@
--- What a log leaves.
+-- The state that a log leaves.
 use Rattle.std.specs.Prelude.{ℕ, ◌+◌, ◌-◌, ◌==◌, Bool, true, List, [], ◌∷◌, Option, None, Some, length, map, replicate, slice_get, slice_set, if◌then◌else◌}
 use Rattle.std.specs.Option.{option_map_or}
 use Rattle.due_key.specs.declared.key.Key.{Key}
@@ -20,8 +20,8 @@ use Rattle.dispatch_log.specs.Retries.{failed}
 use Rattle.dispatch_log.specs.Rows.{Rows, changed, in_phase, in_backend_since, gone, pin_of, served}
 use Rattle.dispatch_log.specs.Scenes.{Scene}
 
--- the live requests, each server's results of checks, what each may serve at present, the moment of the last event, the
--- last ticket that was given, and the server that balancing picked last
+-- the live requests, each server's check results, each server's present limit, the moment of the
+-- last event, the last ticket that was given, and the server that balancing picked last
 pub record State : Type 0 where
   pub rows : Rows
   pub results : List (List Bool)
@@ -30,11 +30,11 @@ pub record State : Type 0 where
   pub ticket : ℕ
   pub cursor : ℕ
 
--- at first each server is open to as many as its setup says
+-- at first each server is open with the limit of its setup
 abbrev pub opening_limits : List ServerSet → List Allowance
 opening_limits servers = map (λ server. record { limit = Open server.limit; served = 0 }) servers
 
--- no request, no check, no event yet; the last server counts as picked
+-- the first state: no request, no check and no event yet; the last server counts as picked
 abbrev pub opening_state : Setup → State
 opening_state setup = record {
   rows = replicate setup.places None;
@@ -45,7 +45,7 @@ opening_state setup = record {
   cursor = length setup.servers - 1;
 }
 
--- what a decision looks at
+-- the part of a state that a decision depends on
 abbrev pub scene : Setup → State → Scene
 scene setup state = record {
   servers = setup.servers;
@@ -58,30 +58,30 @@ scene setup state = record {
 abbrev pub key_of : Arrival → Key
 key_of arrival = record { class = arrival.class; due = arrival.due; ticket = arrival.ticket }
 
--- the row of an arrival, before it has a place to wait or to be served
+-- the row of an arrival, before it waits or is served
 abbrev pub arrived : Arrival → Row
 arrived arrival = record { key = key_of arrival; pin = arrival.pin; failures = 0; phase = Loose }
 
--- the server that balancing picked last, where a request of this pin was put on a server: its pin is no pick
+-- the cursor after a request with this pin was put on a server: a pin doesn't move it
 abbrev pub cursor_after_placing : ℕ → Option ℕ → ℕ → ℕ
 cursor_after_placing server None cursor = server
 cursor_after_placing server (Some pin) cursor = if pin == server then cursor else server
 
--- the same where a ticket joined a queue
+-- the cursor after a ticket joined a queue
 abbrev pub cursor_after_joining : Queue → Option ℕ → ℕ → ℕ
 cursor_after_joining Backend pin cursor = cursor
 cursor_after_joining (Server server) pin cursor = cursor_after_placing server pin cursor
 
--- the same where a server took a request: one of weight 0 is no pick
+-- the cursor after a server took a request from a queue: a server of weight 0 doesn't move it
 abbrev pub cursor_after_granting : Setup → ℕ → ℕ → ℕ
 cursor_after_granting setup server cursor = if option_map_or (λ it. it.weight == 0) (slice_get setup.servers server) true then cursor else server
 
--- a server's limit is set, and what it serves is noted
+-- a server's limit is set, and the number of requests that it serves now is kept with it
 abbrev pub with_limit : ℕ → Intake → State → List Allowance
 with_limit server limit state = slice_set state.limits server (record { limit = limit; served = served server state.rows })
 
--- what an entry leaves: an arrival's row stands at its place, under the next ticket; a failure is counted as its event
--- begins, and a check's result is that of its server
+-- the state after an entry: an arrival's row is at its place, and its ticket is the last one; a
+-- failure is counted when its event begins, and a check's result is added to its server's
 abbrev pub after : Setup → State → Entry → State
 after setup state (Arrive moment arrival) = record {
   rows = slice_set state.rows arrival.place (Some (arrived arrival));
@@ -116,12 +116,12 @@ after setup state (Freed ticket server) = record state { rows = changed ticket (
 after setup state (Left ticket cause) = record state { rows = changed ticket (in_phase (Told cause)) state.rows }
 after setup state (Ended ticket) = record state { rows = changed ticket gone state.rows }
 
--- what a log leaves of a state
+-- the state after all entries of a log
 abbrev pub after_all : Setup → State → List Entry → State
 after_all setup state [] = state
 after_all setup state (entry ∷ entries) = after_all setup (after setup state entry) entries
 
--- a point of a log: its setup, the state that the entries before it left, and how many those are
+-- a point of a log: its setup, the state after the entries before it, and the number of those
 pub record Point : Type 0 where
   pub setup : Setup
   pub state : State

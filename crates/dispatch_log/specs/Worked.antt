@@ -1,4 +1,4 @@
--- Worked logs that are not legal, each for one reason.
+-- Worked examples of logs that aren't legal, each for one reason.
 use Rattle.std.specs.Prelude.{ℕ, ◌^◌, ℤ, pos, negsuc, List, [], ◌∷◌, ◌++◌, None, Some, false}
 use Rattle.dispatch_log.specs.declared.entry.Arrival.{Arrival}
 use Rattle.dispatch_log.specs.declared.entry.Entry.{Entry}
@@ -22,7 +22,7 @@ worked log = first_window worked_setup log
 abbrev pub arrival : ℕ → ℤ → ℕ → Arrival
 arrival ticket due place = record { ticket = ticket; class = pos 0; due = due; pin = None; place = place }
 
--- the same, bound to a server
+-- the same, pinned to a server
 abbrev pub bound_to : ℕ → ℕ → ℤ → ℕ → Arrival
 bound_to server ticket due place = record (arrival ticket due place) { pin = Some server }
 
@@ -40,19 +40,19 @@ two_wait =
 abbrev pub first_come_first_served : List Entry
 first_come_first_served = two_wait ++ Done 10 1 ∷ Freed 1 0 ∷ Ended 1 ∷ Granted 2 Backend 0 ∷ []
 
--- the slot that came back stays idle
+-- the freed slot stays idle
 abbrev pub idle_slot : List Entry
 idle_slot = two_wait ++ Done 10 1 ∷ Freed 1 0 ∷ Ended 1 ∷ []
 
--- a second request is served while the first one is
+-- a second request is served beside the first one
 abbrev pub grant_above_the_limit : List Entry
 grant_above_the_limit = two_wait ++ Granted 3 Backend 0 ∷ []
 
--- a due date that no offset makes of the moment
+-- the due date isn't the sum of the moment and any offset
 abbrev pub due_date_of_no_offset : List Entry
 due_date_of_no_offset = Arrive 5 (arrival 1 (pos 524293) 0) ∷ Direct 1 0 ∷ []
 
--- an arrival of a class above the highest
+-- an arrival with a class above the highest one
 abbrev pub class_out_of_range : List Entry
 class_out_of_range = Arrive 0 (record (arrival 1 (pos 0) 0) { class = pos 2048 }) ∷ Direct 1 0 ∷ []
 
@@ -68,7 +68,7 @@ end_is_missing = two_wait ++ Done 10 1 ∷ Freed 1 0 ∷ Granted 3 Backend 0 ∷
 abbrev pub ticket_left_out : List Entry
 ticket_left_out = Arrive 0 (arrival 2 (pos 0) 0) ∷ Direct 2 0 ∷ []
 
--- the slot goes to the backend's first request, and its server's own first one is due earlier
+-- the slot goes to the backend's first request, though the server's own first one is due earlier
 abbrev pub backend_head_first : List Entry
 backend_head_first =
     Arrive 0 (arrival 1 (pos 0) 0) ∷ Direct 1 0
@@ -88,15 +88,15 @@ open_server = record { limit = 0; maxqueue = 0; weight = 1; rise_fall = None }
 abbrev pub worked_by_two : List Entry → History
 worked_by_two = by_two open_server open_server
 
--- the first server has a request that is bound to it, and the next one goes there too
+-- the first server has a request that is pinned to it, and the next one goes there too
 abbrev pub more_loaded_server : List Entry
 more_loaded_server = Arrive 0 (bound 1 (pos 0) 0) ∷ Direct 1 0 ∷ Arrive 0 (arrival 2 (pos 0) 1) ∷ Direct 2 0 ∷ []
 
--- of equal servers the second one is picked first
+-- of two equal servers the second one is picked first
 abbrev pub tie_against_the_cursor : List Entry
 tie_against_the_cursor = Arrive 0 (arrival 1 (pos 0) 0) ∷ Direct 1 1 ∷ []
 
--- the second one weighs 2, each serves one, and the next request goes to the first one
+-- the second server has weight 2, each serves one request, and the next one goes to the first server
 abbrev pub worked_by_weights : List Entry → History
 worked_by_weights = by_two open_server (record open_server { weight = 2 })
 
@@ -106,11 +106,12 @@ loads_without_weights =
     ∷ Arrive 0 (bound_to 1 2 (pos 0) 1) ∷ Direct 2 1
     ∷ Arrive 0 (arrival 3 (pos 0) 2) ∷ Direct 3 0 ∷ []
 
--- a server that serves one at once, and in whose own queue five may wait
+-- a server that serves one request at once, and in whose own queue five may wait
 abbrev pub queueing_server : ServerSet
 queueing_server = record { limit = 1; maxqueue = 5; weight = 1; rise_fall = None }
 
--- each of two such servers serves one, in the first one's queue another waits, and the next request joins that queue
+-- each of two such servers serves one request, another one waits in the first one's queue, and the
+-- next one joins that queue
 abbrev pub worked_by_queues : List Entry → History
 worked_by_queues = by_two queueing_server queueing_server
 
@@ -121,7 +122,7 @@ loads_without_queues =
     ∷ Arrive 0 (bound_to 1 3 (pos 0) 2) ∷ Direct 3 1
     ∷ Arrive 0 (arrival 4 (pos 0) 3) ∷ Joined 4 (Server 0) ∷ []
 
--- one server that serves one at once, and in whose own queue one may wait
+-- one server that serves one request at once, and in whose own queue one may wait
 abbrev pub worked_by_room : List Entry → History
 worked_by_room log =
     first_window (record {
@@ -133,6 +134,6 @@ worked_by_room log =
       queue_timeout = 0;
     }) log
 
--- a request waits in the backend's queue while the server has room in its own
+-- a request waits in the backend's queue while the server's own queue has room
 abbrev pub waits_beside_room : List Entry
 waits_beside_room = Arrive 0 (arrival 1 (pos 0) 0) ∷ Direct 1 0 ∷ Arrive 0 (arrival 2 (pos 0) 1) ∷ Joined 2 Backend ∷ []

@@ -1,5 +1,5 @@
--- Worked logs of servers that are closed and opened: those that are legal, and others of which none is, each for one
--- reason.
+-- Worked examples of logs with servers that are closed and opened: some are legal, and the others
+-- are not, each for one reason.
 use Rattle.std.specs.Prelude.{pos, List, [], ◌∷◌, ◌++◌}
 use Rattle.verdict.specs.declared.cause.Cause.TheVariants.{NoServer}
 use Rattle.dispatch_log.specs.declared.allowance.Intake.TheVariants.{Open, Closed}
@@ -14,15 +14,15 @@ use Rattle.dispatch_log.specs.WorkedWindows.{two_are_served}
 abbrev pub closed_server_serves_on : List Entry
 closed_server_serves_on = two_are_served ++ Limit 3 0 Closed ∷ Done 4 1 ∷ Freed 1 0 ∷ Ended 1 ∷ []
 
--- it is closed and opened to 3, and 3 takes the new slot
+-- the server is closed and opened with limit 3, and 3 takes the new slot
 abbrev pub opened_server_grants : List Entry
 opened_server_grants = two_are_served ++ Limit 3 0 Closed ∷ Limit 4 0 (Open 3) ∷ Granted 3 Backend 0 ∷ []
 
--- where the one server is closed, a request waits
+-- the only server is closed, and a request waits
 abbrev pub waits_for_an_opening : List Entry
 waits_for_an_opening = Limit 0 0 Closed ∷ Arrive 1 (arrival 1 (pos 1) 0) ∷ Joined 1 Backend ∷ []
 
--- a request that is bound to a closed server goes to the other one
+-- a request that is pinned to a closed server goes to the other one
 abbrev pub pin_to_a_closed_server_is_ignored : List Entry
 pin_to_a_closed_server_is_ignored = Limit 0 0 Closed ∷ Arrive 0 (bound 1 (pos 0) 0) ∷ Direct 1 1 ∷ []
 
@@ -37,15 +37,15 @@ closing_moves_its_queue =
 abbrev pub grant_at_a_closed_server : List Entry
 grant_at_a_closed_server = two_are_served ++ Limit 3 0 Closed ∷ Done 4 1 ∷ Freed 1 0 ∷ Ended 1 ∷ Granted 3 Backend 0 ∷ []
 
--- the server is closed, and the slot of 1 is taken away
+-- the server is closed, and the slot of 1 is freed
 abbrev pub closing_stops_a_request : List Entry
 closing_stops_a_request = two_are_served ++ Limit 3 0 Closed ∷ Freed 1 0 ∷ Ended 1 ∷ []
 
--- it is closed and opened to 3, and the new slot stays idle
+-- the server is closed and opened with limit 3, and the new slot stays idle
 abbrev pub opened_server_grants_nothing : List Entry
 opened_server_grants_nothing = two_are_served ++ Limit 3 0 Closed ∷ Limit 4 0 (Open 3) ∷ []
 
--- a request that is bound to a closed server waits for it
+-- a request that is pinned to a closed server waits for it
 abbrev pub waits_for_a_closed_server : List Entry
 waits_for_a_closed_server = Limit 1 0 Closed ∷ Arrive 2 (bound 1 (pos 2) 0) ∷ Joined 1 (Server 0) ∷ []
 
@@ -53,11 +53,11 @@ waits_for_a_closed_server = Limit 1 0 Closed ∷ Arrive 2 (bound 1 (pos 2) 0) �
 abbrev pub balanced_to_a_closed_server : List Entry
 balanced_to_a_closed_server = Limit 0 0 Closed ∷ Arrive 1 (arrival 1 (pos 1) 0) ∷ Joined 1 (Server 0) ∷ []
 
--- a request is told that there is no server, where the one that there is is closed
+-- a request is told that no server is usable, though the only server is just closed
 abbrev pub no_server_beside_a_closed_one : List Entry
 no_server_beside_a_closed_one = Limit 0 0 Closed ∷ Arrive 1 (arrival 1 (pos 1) 0) ∷ Left 1 NoServer ∷ []
 
--- the first server is closed under `redispatch`, and those that wait for it wait on
+-- the first server is closed under `redispatch`, and the requests in its queue stay there
 abbrev pub closing_leaves_its_queue : List Entry
 closing_leaves_its_queue = two_are_bound ++ Limit 3 0 Closed ∷ []
 

@@ -1,4 +1,4 @@
--- Worked logs that are legal.
+-- Worked examples of legal logs.
 use Rattle.std.specs.Prelude.{pos, false, List, [], ◌∷◌, ◌++◌}
 use Rattle.verdict.specs.declared.cause.Cause.TheVariants.{Timeout}
 use Rattle.dispatch_log.specs.declared.entry.Entry.{Entry}

@@ -1,5 +1,5 @@
--- Worked logs of limits that change and of windows that follow one another: three that are legal, and others of which none
--- is, each for one reason.
+-- Worked examples of logs with changing limits and consecutive windows: three are legal, and the
+-- others are not, each for one reason.
 use Rattle.std.specs.Prelude.{pos, List, [], ◌∷◌, ◌++◌, None, Some, false}
 use Rattle.dispatch_log.specs.declared.allowance.Intake.TheVariants.{Open}
 use Rattle.dispatch_log.specs.declared.entry.Entry.{Entry}
@@ -12,7 +12,7 @@ use Rattle.dispatch_log.specs.Histories.{History, first_window, next_window}
 use Rattle.dispatch_log.specs.Rows.{changed}
 use Rattle.dispatch_log.specs.Worked.{arrival, two_wait, worked, worked_by_two, worked_setup}
 
--- one server, which may serve two at once
+-- one server that may serve two requests at once
 abbrev pub pair_server : ServerSet
 pair_server = record { limit = 2; maxqueue = 0; weight = 1; rise_fall = None }
 
@@ -43,19 +43,19 @@ grant_at_the_lowered_limit = two_are_served ++ Limit 3 0 (Open 1) ∷ Done 4 1 �
 abbrev pub raised_limit_grants_nothing : List Entry
 raised_limit_grants_nothing = two_are_served ++ Limit 3 0 (Open 3) ∷ []
 
--- the limit of a server that isn't there
+-- the limit of a server that doesn't exist
 abbrev pub limit_of_no_server : List Entry
 limit_of_no_server = two_are_served ++ Limit 3 1 (Open 3) ∷ []
 
--- the window after another, with its own log
+-- a second window with its own log, after a first one
 abbrev pub windows : History → List Entry → History
 windows first log = record (next_window first) { log = log }
 
--- 2 and 3 wait since the window before, and the slot that comes back goes to 3, which is due first
+-- 2 and 3 wait since the window before, and the freed slot goes to 3, which is due first
 abbrev pub waits_of_the_base_are_served : History
 waits_of_the_base_are_served = windows (worked two_wait) (Done 10 1 ∷ Freed 1 0 ∷ Ended 1 ∷ Granted 3 Backend 0 ∷ [])
 
--- a window at whose beginning 2 and 3 wait, where something of 3 is other than it was
+-- a window that begins while 2 and 3 wait, with one change to the row of 3
 abbrev pub begins_with_another : (Row → Row) → History
 begins_with_another change = record {
   setup = worked_setup;
@@ -63,23 +63,23 @@ begins_with_another change = record {
   log = [];
 }
 
--- 3 has a class above the highest
+-- 3 has a class above the highest one
 abbrev pub class_of_the_base_is_out_of_range : History
 class_of_the_base_is_out_of_range = begins_with_another (λ row. record row { key = record row.key { class = pos 2048 } })
 
--- 3 is due later than any offset makes it by now
+-- 3 has a due date that is later than now plus any offset
 abbrev pub due_date_of_the_base_is_too_late : History
 due_date_of_the_base_is_too_late = begins_with_another (λ row. record row { key = record row.key { due = pos 524290 } })
 
--- 3 waits since a moment that is to come
+-- 3 waits since a moment in the future
 abbrev pub wait_of_the_base_is_to_come : History
 wait_of_the_base_is_to_come = begins_with_another (λ row. record row { phase = Waiting Backend 3 })
 
--- 3 waits since the window before, and the slot that comes back stays idle
+-- 3 waits since the window before, and the freed slot stays idle
 abbrev pub waits_of_the_base_are_forgotten : History
 waits_of_the_base_are_forgotten = windows (worked two_wait) (Done 10 1 ∷ Freed 1 0 ∷ Ended 1 ∷ [])
 
--- ticket 1 went to the first server in the window before; of equal servers the first is picked again
+-- ticket 1 went to the first server in the window before; the first one of the equal servers is picked again
 abbrev pub cursor_is_reset : History
 cursor_is_reset =
     windows (worked_by_two (Arrive 0 (arrival 1 (pos 0) 0) ∷ Direct 1 0 ∷ Done 4 1 ∷ Freed 1 0 ∷ Ended 1 ∷ []))

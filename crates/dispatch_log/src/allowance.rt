@@ -1,17 +1,17 @@
-/// How many requests a server takes.
+/// The number of requests that a server takes.
 #[derive(Clone, Copy, Debug, PartialEq, Eq)]
 pub enum Intake {
-    /// It serves at most so many at once; 0: any number.
+    /// At most this number at once; 0 is without limit.
     Open(u32),
-    /// It takes none: what it serves goes on, and nothing else comes to it.
+    /// None: the requests that it serves go on, and no others come to it.
     Closed,
 }
 
-/// What a server may serve at present, and what it served when that was last changed.
+/// The present limit of a server, and what it served when that limit was set.
 #[derive(Clone, Copy, Debug, PartialEq, Eq)]
 pub struct Allowance {
     /// How many requests it takes.
     pub limit: Intake,
-    /// How many requests it served when the limit was last set. They are never stopped.
+    /// The number of requests that it served when the limit was last set. They are never stopped.
     pub served: usize,
 }

@@ -17,28 +17,30 @@ ghost use Rattle.dispatch_log.specs.WorkedWindows.{worked_by_pairs, raised_limit
 ghost use Rattle.dispatch_log.specs.WorkedClosings.{closed_server_serves_on, opened_server_grants, waits_for_an_opening, pin_to_a_closed_server_is_ignored, closing_moves_its_queue, grant_at_a_closed_server, closing_stops_a_request, opened_server_grants_nothing, waits_for_a_closed_server, balanced_to_a_closed_server, no_server_beside_a_closed_one, closing_leaves_its_queue, closing_moves_without_redispatch};
 ghost use Rattle.dispatch_log.specs.WorkedChanges.{worked_with_checks, worked_in_time, worked_with_a_retry, retry_past_the_retries, failure_counted_twice, redispatch_keeps_the_pin, redispatch_to_the_failed_server, redispatch_before_the_grant, no_server_beside_a_usable_one, told_one_millisecond_early, told_by_falling_ticket, expired_and_not_told, abort_of_a_served_request, failure_of_a_waiting_request, fall_leaves_its_queue, moves_by_ticket, grant_before_the_moves, rise_grants_nothing, rise_is_not_told, down_after_its_rise, down_though_it_answers, fall_grants_nothing, moved_without_a_fall, redispatched_by_a_new_due_date, served_by_a_fallen_server};
 
-/// The law of legal logs: whatever was asked of a dispatcher, in whatever order, as long as its
-/// log is legal no server serves more than its limit, every request stands in one place, and no
-/// free slot faces a request that may take it.
+/// The law of legal logs: whatever calls a dispatcher gets, in whatever order, as long as its log
+/// is legal no server serves more than its limit, every request is in exactly one place, and no
+/// server has a free slot while a request that may take it waits.
 pub fn legal_logs_are_dispatched()
     ensures { (history : History) → IsLegal history → IsDispatched history }
 {}
 
-/// The law of closed servers: from where a server is closed to where its limit is set again, no entry
-/// gives a request a slot of it or a stay in its queue, and it serves no more than when it was closed.
+/// The law of closed servers: from the entry that closes a server to the next one that sets its
+/// limit, no entry gives a request a slot of the server or a stay in its queue, and the server
+/// serves no more than when it was closed.
 pub fn closed_servers_take_nobody()
     ensures given { ClosedTakeNobody }
     ensures served { ClosedServeNoMore }
 {}
 
-/// The law of bounds: a legal log keeps within its setup, whose places are as many as its rows' places,
-/// whose servers are the only ones that it speaks of, and its tickets and moments stay in their ranges.
+/// The law of bounds: a legal log keeps within its setup. It has as many places as the setup says,
+/// it names only the setup's servers, and its tickets and moments stay in range.
 pub fn legal_logs_keep_within()
     ensures { (history : History) → IsLegal history → IsWithin history }
 {}
 
-/// The law of parts: what entries leave that stand behind others is what they leave of what those leave;
-/// they may come there exactly where each part may; and none but an event changes the moment.
+/// The law of parts: the state after two lists of entries is the state after the second one from
+/// the state after the first one. The entries of both lists may come exactly where each part may.
+/// Only an event changes the moment.
 pub fn entries_go_on_from_entries()
     ensures state { (setup : Setup) (state : State) (front back : List Entry) → after_all setup state (front ++ back) ≡ after_all setup (after_all setup state front) back }
     ensures stage { (stage : Stage) (front back : List Entry) → stage_after stage (front ++ back) ≡ stage_after (stage_after stage front) back }
@@ -46,38 +48,40 @@ pub fn entries_go_on_from_entries()
     ensures moment { (setup : Setup) (state : State) (brought : List Entry) → All (λ entry. begins_event entry ≡ false) brought → (after_all setup state brought).moment ≡ state.moment }
 {}
 
-/// The law of determined logs: two legal logs of one setup and one base with the same events, the places
-/// of arrivals included, are one; so each pick, each grant, each move and their order follow from the
-/// events alone. Where only the places differ, nothing else does, up to what the logs leave.
+/// The law of determined logs: two legal logs of one setup and one base with the same events,
+/// places of arrivals included, are equal. So each pick, each grant, each move and their order
+/// follow from the events alone. Where only the places differ, the logs and the states that they
+/// leave differ in nothing else.
 pub fn legal_logs_are_determined()
     ensures placed { (history other : History) → IsLegal history → IsLegal other → other.setup ≡ history.setup → other.base ≡ history.base → events other.log ≡ events history.log → other ≡ history }
     ensures unplaced { (history other : History) → IsLegal history → IsLegal other → other.setup ≡ history.setup → IsSameButForPlaces history.base other.base → AreSameButForPlaces (events history.log) (events other.log) → AreSameButForPlaces history.log other.log × IsSameButForPlaces (state_of history) (state_of other) }
 {}
 
-/// The law of determined calls: of legal histories that are the same but for the places of their rows
-/// each call is refused by both alike, and what an accepted one adds, or a roll begins with, is the same
-/// but for places. So the places in which requests are kept decide nothing.
+/// The law of determined calls: two legal histories that are the same except for the places of
+/// their rows refuse the same calls, and the entries that an accepted call adds, or the base that a
+/// roll makes, are the same except for places. So the places of requests decide nothing.
 pub fn calls_are_determined()
     ensures refused { (history other : History) → IsLegal history → IsLegal other → AreSameHistories history other → AreRefusedAlike history other }
     ensures added { (history other next other_next : History) (event other_event : Entry) → IsLegal history → IsLegal other → AreSameHistories history other → AddsEvent history next event → AddsEvent other other_next other_event → unplaced event ≡ unplaced other_event → AreSameHistories next other_next }
     ensures rolled { (history other : History) → AreSameHistories history other → AreSameHistories (next_window history) (next_window other) }
 {}
 
-/// The law of windows: a dispatcher's first one begins at a proper base, and so does the one after any
-/// legal log. What a log may rely on thus holds of every window.
+/// The law of windows: a dispatcher's first window begins at a proper base, and so does the window
+/// after any legal log. So the facts about a proper base hold for every window.
 pub fn windows_begin_at_bases()
     ensures first { (setup : Setup) → IsBase setup (opening_state setup) }
     ensures next { (history : History) → IsSound history.setup → IsLegal history → IsLegal (next_window history) }
 {}
 
-/// The law of all runs: after any list of calls since a dispatcher was made, each of which was refused,
-/// added its event with what that brings, or began the next window, the log is legal and the same holds.
+/// The law of all runs: after any list of calls since a dispatcher was made, each of which was
+/// refused, added its event with the entries that follow, or began the next window, the log is
+/// legal and the same facts hold.
 pub fn runs_are_dispatched()
     ensures legal { (setup : Setup) (calls : List Call) (history : History) → IsRun setup calls history → IsLegal history }
     ensures dispatched { (setup : Setup) (calls : List Call) (history : History) → IsRun setup calls history → IsDispatched history }
 {}
 
-/// The law of worked logs: each of these is legal.
+/// The law of the worked examples: each of these logs is legal.
 pub fn worked_logs_are_legal()
     ensures redispatch_to_the_other_server { IsLegal (worked_with_checks redispatch_to_the_other_server) }
     ensures told_by_rising_ticket { IsLegal (worked_in_time told_by_rising_ticket) }
@@ -92,7 +96,7 @@ pub fn worked_logs_are_legal()
     ensures closing_moves_its_queue { IsLegal (worked_with_checks closing_moves_its_queue) }
 {}
 
-/// The law of wrong logs: none of these, each wrong in one way, is legal.
+/// The law of the wrong examples: none of these logs, each wrong in one way, is legal.
 pub fn wrong_logs_are_not_legal()
     ensures first_come_first_served { IsLegal (worked first_come_first_served) → ⊥ }
     ensures idle_slot { IsLegal (worked idle_slot) → ⊥ }

@@ -1,5 +1,5 @@
-//! The log of a dispatcher, and what makes a log legal: the words that the core, the certificate
-//! and the replay share. `specs/` judges a log entry by entry and produces none.
+//! The log of a dispatcher, and the definition of a legal log: the vocabulary that the core, the
+//! certificate and the replay share. `specs/` judges a log entry by entry and produces none.
 #![tactic(auto)]
 
 mod allowance;

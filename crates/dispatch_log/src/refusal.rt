@@ -6,10 +6,10 @@ use thiserror::Error;
 /// Why a call was refused. A refused call changes nothing.
 #[derive(Clone, Copy, Debug, PartialEq, Eq, Error)]
 pub enum Refusal {
-    /// A growth found no memory.
+    /// The system refused memory.
     #[error("no memory")]
     NoMemory,
-    /// There are as many live requests as places.
+    /// All places have live requests.
     #[error("all places are taken")]
     PlacesFull,
     /// Fewer than `2 * places + 8` entries of the log are free.
@@ -18,7 +18,7 @@ pub enum Refusal {
     /// No live request has the ticket.
     #[error("no live request has this ticket")]
     NoSuchTicket,
-    /// The request isn't where the call needs it.
+    /// The request isn't in the phase that the call needs.
     #[error("the request is not in the phase that this call needs")]
     WrongPhase,
     /// No server has the number or name.
@@ -30,7 +30,7 @@ pub enum Refusal {
 }
 
 impl Refusal {
-    /// Its number in a trace's `refused` line.
+    /// Returns its number in a trace's `refused` line.
     pub fn number(self) -> u8
         ensures { result ≡ number_of self }
     {

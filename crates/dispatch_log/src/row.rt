@@ -2,27 +2,27 @@ use crate::queue::Queue;
 use due_key::{Key, Moment};
 use verdict::Cause;
 
-/// Where a live request stands.
+/// The phase of a live request.
 #[derive(Clone, Copy, Debug, PartialEq, Eq)]
 pub enum Phase {
-    /// In no place yet, or no more: only inside an event.
+    /// Not placed yet, or no longer: only inside an event.
     Loose,
-    /// In a queue since this moment.
+    /// It waits in a queue since this moment.
     Waiting(Queue, Moment),
-    /// A slot of this server is its own.
+    /// It has a slot of this server.
     Serving(usize),
-    /// It is told that it isn't served, and why; its place is free once that is done.
+    /// It is told that it isn't served, and why; its place is free once the caller has reported that.
     Told(Cause),
 }
 
 /// A live request.
 #[derive(Clone, Copy, Debug, PartialEq, Eq)]
 pub struct Row {
-    /// Its class, due date and ticket, fixed for its life.
+    /// Its class, due date and ticket, which never change.
     pub key: Key,
-    /// The server that it is bound to (`use-server`).
+    /// The server that it is pinned to (`use-server`).
     pub pin: Option<usize>,
-    /// How many connections failed for it.
+    /// The number of its connections that failed.
     pub failures: u32,
     pub phase: Phase,
 }
@@ -31,7 +31,7 @@ impl Phase {
     ghost use Rattle.std.specs.Prelude.{◌≡◌};
     ghost use Rattle.dispatch_log.specs.Rows.{server_in, queue_in};
 
-    /// The server whose slot it is.
+    /// Returns the server whose slot it has.
     pub fn server(self) -> Option<usize>
         ensures { result ≡ server_in self }
     {
@@ -41,7 +41,7 @@ impl Phase {
         }
     }
 
-    /// The queue that it waits in.
+    /// Returns the queue that it waits in.
     pub fn queue(self) -> Option<Queue>
         ensures { result ≡ queue_in self }
     {

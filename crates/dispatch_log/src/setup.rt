@@ -6,12 +6,12 @@ use crate::allowance::{Allowance, Intake};
 use list_facts::Items;
 use std::alloc::{AllocError, Global};
 
-/// What a server may take.
+/// The setup of a server.
 #[derive(Clone, Copy, Debug, PartialEq, Eq)]
 pub struct ServerSet {
-    /// `maxconn`: the greatest number of requests that it serves at once, until that is changed; 0: no limit.
+    /// `maxconn`: the most requests that it serves at once, until the limit is changed; 0 is without limit.
     pub limit: u32,
-    /// `maxqueue`: the greatest number of requests in its own queue; 0: no limit.
+    /// `maxqueue`: the most requests in its own queue; 0 is without limit.
     pub maxqueue: u32,
     /// `weight`, 0 to 256.
     pub weight: u32,
@@ -22,27 +22,27 @@ pub struct ServerSet {
 /// The servers in file order.
 pub type Servers = Items<ServerSet>;
 
-/// What a dispatcher is made for.
+/// The setup of a dispatcher.
 #[derive(Debug, Drop)]
 pub struct Setup {
     pub servers: Servers,
-    /// The greatest number of live requests, 1 to 4096.
+    /// The most live requests, 1 to 4096.
     pub places: usize,
-    /// The greatest number of log entries, 1 to 262144.
+    /// The most log entries, 1 to 262144.
     pub log: usize,
-    /// `retries`: how many further tries a request has whose connection fails, at most 999,999,999.
+    /// `retries`: the number of further tries for a request whose connection fails, at most 999,999,999.
     pub retries: u32,
     /// `option redispatch`: the last retry goes to another server.
     pub redispatch: bool,
-    /// `timeout queue` in milliseconds, below 2^62; 0: requests wait without an end.
+    /// `timeout queue` in milliseconds, below 2^62; 0: requests wait without limit.
     pub queue_timeout: u64,
 }
 
 impl Setup {
     ghost use Rattle.dispatch_log.specs.Setups.{IsSound};
 
-    /// Whether a dispatcher can be made for it: 1 to 64 servers with weights of at most 256 and
-    /// with `rise` and `fall` of at least 1 where they are checked, and the limits above.
+    /// Says whether a dispatcher can be made for the setup: 1 to 64 servers with weights of at most
+    /// 256 and, where they are checked, `rise` and `fall` of at least 1, and the limits above.
     pub fn sound(&self) -> bool
         ensures { IsTrue result ↔ IsSound self.now }
     {
@@ -57,7 +57,7 @@ impl Setup {
             && self.queue_timeout < 1 << 62
     }
 
-    /// What each server may serve at first, in file order.
+    /// Returns the limit of each server at first, in file order.
     pub fn opening_limits(&self, alloc: Global) -> Result<Vec<Allowance>, AllocError>
         ensures { IfOk result (λ limits. limits.items ≡ opening_limits self.now.servers) }
     {

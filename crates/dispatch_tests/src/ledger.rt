@@ -9,7 +9,7 @@ use std::alloc::Global;
 use std::process::Abort;
 use verdict::Cause;
 
-// A moment; 0 for a number that is none.
+// Makes a moment of a number; 0 where it is out of range.
 fn moment(number: u64) -> Moment {
     Moment::new(number).unwrap_or(Moment::zero())
 }
@@ -82,7 +82,7 @@ fn end(rt: &impl Abort, ledger: &mut Ledger<char>, ticket: u64)
     ledger.end(place);
 }
 
-// A request that comes and goes.
+// A request comes and goes.
 fn pass(rt: &impl Abort, ledger: &mut Ledger<char>, ticket: u64)
     requires { AreBelow ticket ledger.old.slots }
     ensures { ledger.new ≡ ledger.old }

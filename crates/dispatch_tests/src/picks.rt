@@ -8,13 +8,13 @@ use slot_ledger::Ledger;
 use std::alloc::Global;
 use std::process::Abort;
 
-// A step of a test, which is played on a ledger of three servers and the cursor of balancing.
+// A step of a test, which runs on a ledger of three servers and the cursor of balancing.
 #[derive(Clone, Copy)]
 enum Step {
     Down(usize),
     Up(usize),
     Limit(usize, Intake),
-    // Where a request with this pin that avoids this server is put.
+    // The placement of a request with this pin that avoids this server.
     Place(Option<usize>, Option<usize>, Placement),
     // Whether this server is a candidate for a request that avoids that one.
     Candidate(Option<usize>, usize, bool),

@@ -17,7 +17,8 @@ use std::process::Abort;
 
 type OfLists = Trace<ListQueue<Key, usize>>;
 
-// One server that takes one request at a time, four places and a log of so many entries.
+// Makes a trace of one server that takes one request at a time, with four places and room for this
+// number of entries.
 fn made(rt: &impl Abort, alloc: Global, log: usize) -> OfLists
     ensures { IsLegal result }
 {
@@ -39,7 +40,7 @@ fn made(rt: &impl Abort, alloc: Global, log: usize) -> OfLists
     Trace::new(alloc, setup).expect(rt, "memory")
 }
 
-// Puts the newcomer on the server or into the backend's queue.
+// Puts the new request on the server or into the backend's queue.
 fn put(rt: &impl Abort, trace: &mut OfLists, it: Ticketed)
     requires at { IsAt (state_of trace.old).rows it }
     requires may_put { MayPut trace.old None None it.ticket }
@@ -105,7 +106,7 @@ enum Call {
     Limit(usize),
 }
 
-// A log of 16 entries has room for one arrival: what a call answers before it, and behind it.
+// A log of 16 entries has room for one arrival: the answer of a call before it, and after it.
 struct Refused {
     name: &'static str,
     call: Call,

@@ -1,4 +1,4 @@
--- What becomes of a request whose connection failed.
+-- What follows for a request whose connection failed.
 use Rattle.std.specs.Prelude.{ℕ, if◌then◌else◌}
 use Rattle.dispatch_log.specs.declared.setup.Setup.{Setup}
 use Rattle.dispatch_log.specs.Retries.{are_spent, are_redispatched, failed_row}
@@ -10,6 +10,6 @@ use Rattle.dispatch_trace.specs.declared.failing.Fate.TheVariants.{Retried, Spen
 abbrev pub fate_of : Setup → ℕ → Fate
 fate_of setup failures = if are_spent setup failures then Spent else (if are_redispatched setup failures then Redispatched else Retried)
 
--- its slot, with one failure more
+-- its slot, with one more failure
 abbrev pub failed_slot : {H : Type 0} → Setup → Slot H → Slot H
 failed_slot setup slot = record { row = failed_row setup slot.row; node = slot.node }

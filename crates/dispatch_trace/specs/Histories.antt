@@ -17,7 +17,7 @@ use Rattle.dispatch_log.specs.States.{scene, after}
 use Rattle.dispatch_log.specs.Scenes.{Scene}
 use Rattle.dispatch_trace.specs.declared.position.Ticketed.{Ticketed}
 
--- a history with an entry more
+-- a history with one more entry
 abbrev pub with_entry : History → Entry → History
 with_entry history entry = record history { log = history.log ++ entry ∷ [] }
 
@@ -29,7 +29,8 @@ stage_of history = stage_after granting history.log
 abbrev pub MayComeNext : History → Entry → Type 0
 MayComeNext history entry = MayCome (end_of history) (stage_of history) entry
 
--- a request in no place may be put anywhere that its pin and the server to avoid let it, and its event owes nothing then
+-- a request without a phase may be put wherever its pin and the server to avoid allow, and its
+-- event owes nothing afterwards
 abbrev pub MayPut : History → Option ℕ → Option ℕ → ℕ → Type 0
 MayPut history pin avoid ticket =
     (entry : Entry) → IsPut (scene history.setup (state_of history)) (state_of history).cursor pin avoid ticket entry
@@ -41,11 +42,11 @@ pub record MayAccept (history : History) (refused : Option Refusal) : Type 0 whe
   pub settled : IsSettled (scene history.setup (state_of history))
   pub accepted : refused ≡ None
 
--- an event may begin there, no earlier than at a moment
+-- an event may begin at a history's end, no earlier than at this moment
 abbrev pub MayBeginNext : History → ℕ → Option Refusal → Type 0
 MayBeginNext history moment refused = MayBegin (end_of history) (stage_of history) (effective history moment) refused
 
--- the last event owes nothing but grants at a history's end, and grants may come there
+-- at a history's end the last event owes nothing but grants, and grants may come
 abbrev pub IsOverNext : History → Type 0
 IsOverNext history = IsOver history.setup (state_of history) (stage_of history)
 
@@ -56,7 +57,7 @@ MayGrantNext history = MayGrant history.setup (state_of history) (stage_of histo
 abbrev pub HasEntryRoom : History → Type 0
 HasEntryRoom history = entry_room history.setup ≤ history.setup.log - length history.log
 
--- whether a place's row waits, and how many do
+-- a place's row waits; the number of rows that wait
 abbrev pub waits : Option Row → Bool
 waits None = false
 waits (Some row) = is_waiting row.phase
@@ -68,15 +69,15 @@ waiting_of history = count_by waits (state_of history).rows
 abbrev pub HasPlaces : History → Type 0
 HasPlaces history = length (state_of history).rows ≡ history.setup.places
 
--- what a decision at a history's end looks at
+-- the part of a history's last state that a decision depends on
 abbrev pub scene_of : History → Scene
 scene_of history = scene history.setup (state_of history)
 
--- the cursor that an entry at a history's end leaves
+-- the cursor after an entry at a history's end
 abbrev pub cursor_after : History → Entry → ℕ
 cursor_after history entry = (after history.setup (state_of history) entry).cursor
 
--- a history goes on by one lawful grant, and one request less waits
+-- a history goes on by one lawful grant, and one request fewer waits
 pub record IsGrant (old new : History) : Type 0 where
   pub ticket : ℕ
   pub queue : Queue

@@ -9,11 +9,11 @@ use Rattle.dispatch_log.specs.Rows.{StandsAt}
 abbrev pub HasRowAt : History → ℕ → Type 0
 HasRowAt history place = (row : Row) × StandsAt (state_of history).rows place row
 
--- the request at a place has waited, at a moment, as long as it may
+-- the request at a place has waited, at this moment, as long as it may
 abbrev pub ExpiresAt : History → ℕ → ℕ → Type 0
 ExpiresAt history now place = (row : Row) × StandsAt (state_of history).rows place row × HasExpired history.setup now row.phase
 
--- tickets with places are just those of the expired requests
+-- these tickets with their places are exactly those of the expired requests
 abbrev pub AreExpired : History → List (ℕ × ℕ) → Type 0
 AreExpired history tickets =
     (ticket place : ℕ)

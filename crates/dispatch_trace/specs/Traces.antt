@@ -1,4 +1,4 @@
--- How a trace keeps what its log says.
+-- What a trace keeps, and how that follows from its log.
 use Rattle.std.specs.Prelude.{◌≡◌, ℕ, Bool, false, List, [], ◌∷◌, ◌++◌, Option, None, Some, length, map, slice_index_or}
 use Rattle.due_key.specs.declared.key.Key.{Key}
 use Rattle.dispatch_log.specs.declared.entry.Entry.{Entry}
@@ -22,7 +22,7 @@ use Rattle.dispatch_trace.specs.declared.position.Position.{Position}
 use Rattle.dispatch_trace.specs.Histories.{IsJudged}
 use Rattle.dispatch_trace.specs.Turns.{WaitsSince, AreInTurn}
 
--- what a trace holds: the live requests, the log, those that wait, and how far it has come
+-- the content of a trace: the live requests, the log, the requests that wait, and its position
 pub record Traced (N : Type 0) : Type 0 where
   pub kept : Kept N
   pub log : Recorded
@@ -33,22 +33,22 @@ pub record Traced (N : Type 0) : Type 0 where
 abbrev pub history_of : {N : Type 0} → Traced N → History
 history_of trace = record { setup = trace.kept.setup; base = trace.log.base; log = trace.log.entries }
 
--- a log with an entry more
+-- a log with one more entry
 abbrev pub noted : Recorded → Entry → Recorded
 noted log entry = record log { entries = log.entries ++ entry ∷ [] }
 
--- whether a server is up by the results
+-- a server is up by the results of its checks
 abbrev pub is_up_at : List ServerSet → List (List Bool) → ℕ → Bool
 is_up_at servers results server = slice_index_or (ups_of servers results) server false
 
--- a row that doesn't wait has the node with which it will, for its key and place
+-- a row that doesn't wait has the node that it will wait with, for its key and place
 abbrev pub HasItsNode : {N : Type 0} → (N → Key × ℕ) → ℕ → Phase → Slot N → Type 0
 HasItsNode {N} pair_of place (Waiting queue since) slot = Unit {0}
 HasItsNode {N} pair_of place Loose slot = (node : N) × (slot.node ≡ Some node) × (pair_of node ≡ (slot.row.key, place))
 HasItsNode {N} pair_of place (Serving server) slot = (node : N) × (slot.node ≡ Some node) × (pair_of node ≡ (slot.row.key, place))
 HasItsNode {N} pair_of place (Told cause) slot = (node : N) × (slot.node ≡ Some node) × (pair_of node ≡ (slot.row.key, place))
 
--- how a row waits, if it does: in which queue, and where in the log it joined it
+-- how a row waits, if it does: in which queue, and at which position of the log it joined it
 abbrev pub waiter_in : List Entry → Key → Phase → Option Waiter
 waiter_in log key (Waiting queue since) = Some (record { key = key; queue = queue; joined = joining_of key.ticket queue log })
 waiter_in log key Loose = None
@@ -62,7 +62,7 @@ waiter_of log (Some row) = waiter_in log row.key row.phase
 abbrev pub waiters_of : List Entry → Rows → Waiters
 waiters_of log rows = map (waiter_of log) rows
 
--- how far a state is
+-- the position of a state
 abbrev pub position_of : State → Position
 position_of state = record { cursor = state.cursor; last = state.moment; ticket = state.ticket }
 
@@ -70,7 +70,7 @@ position_of state = record { cursor = state.cursor; last = state.moment; ticket 
 abbrev pub HaveNodes : {N : Type 0} → (N → Key × ℕ) → List (Option (Slot N)) → Type 0
 HaveNodes {N} pair_of slots = (place : ℕ) (slot : Slot N) → StandsIn slots place slot → HasItsNode pair_of place slot.row.phase slot
 
--- what a trace holds is what a state says that its entries leave
+-- the content of a trace agrees with the state that its entries leave
 pub record Holds {N : Type 0} (pair_of : N → Key × ℕ) (trace : Traced N) (entries : List Entry) (state : State) : Type 0 where
   pub rows : rows_in trace.kept.slots ≡ state.rows
   pub nodes : HaveNodes pair_of trace.kept.slots
@@ -80,7 +80,7 @@ pub record Holds {N : Type 0} (pair_of : N → Key × ℕ) (trace : Traced N) (e
   pub in_turn : AreInTurn (WaitsSince state.rows) state.moment trace.waits.order
   pub position : trace.position ≡ position_of state
 
--- a trace holds what its log leaves, and its log is judged
+-- a trace agrees with the state that its log leaves, and each entry of its log may come where it stands
 pub record IsTrace {N : Type 0} (pair_of : N → Key × ℕ) (trace : Traced N) : Type 0 where
   pub sound : IsSound trace.kept.setup
   pub judged : IsJudged (history_of trace)

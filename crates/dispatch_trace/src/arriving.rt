@@ -17,7 +17,7 @@ use std::alloc::{AllocError, Global};
 /// Arrivals.
 impl<Q: PendQueue<Key, usize>> Trace<Q> {
     /// An arrival begins. Its row stands at a free place and is in no queue yet. The node that it
-    /// will wait with is all the memory that it takes.
+    /// will wait with is the only allocation.
     pub fn arrive(
         &mut self,
         alloc: Global,
@@ -56,7 +56,8 @@ impl<Q: PendQueue<Key, usize>> Trace<Q> {
     }
 }
 
-/// What an entry keeps of an arrival. Its numbers are small: there are 4,096 places and 64 servers at most.
+/// Returns what an entry keeps of an arrival. Its integers are small, since there are at most 4,096
+/// places and 64 servers.
 fn arrival_of(it: Ticketed, class: Class, due: Due, pin: Option<usize>) -> Arrival
     requires place { it.place < 2 ^ 16 }
     requires pin { IfSome pin (λ server. server < 2 ^ 8) }
@@ -74,7 +75,8 @@ fn arrival_of(it: Ticketed, class: Class, due: Due, pin: Option<usize>) -> Arriv
     }
 }
 
-/// Puts a row with the highest ticket at a free place, which is the answer, with the node that it will wait with.
+/// Puts a row with the highest ticket at a free place, with the node that it will wait with, and
+/// returns the place.
 fn admit<Q: PendQueue<Key, usize>>(
     alloc: Global,
     ledger: &mut Ledger<Q::Node>,
@@ -101,7 +103,7 @@ fn admit<Q: PendQueue<Key, usize>>(
     }
 }
 
-/// What a request with this key takes to wait.
+/// Allocates what a request with this key needs to wait.
 fn node_for<Q: PendQueue<Key, usize>>(
     alloc: Global,
     key: Key,

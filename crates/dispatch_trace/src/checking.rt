@@ -12,7 +12,7 @@ use dispatch_log::{Entry, Intake, Refusal, Setup};
 use due_key::{Key, Moment};
 use pend_queue::PendQueue;
 
-/// Checks of servers, and limits that change.
+/// Health checks, and limits that change.
 impl<Q: PendQueue<Key, usize>> Trace<Q> {
     pub fn refuses_check(&self, server: usize) -> Option<Refusal>
         ensures { result ≡ refuses_check self.now server }
@@ -23,7 +23,7 @@ impl<Q: PendQueue<Key, usize>> Trace<Q> {
         misses_check(self.ledger.setup(), server)
     }
 
-    /// A check of a server ended; the server is up, or down, by its results with this one.
+    /// A check of a server ended; the server is up or down by its results with this one.
     pub fn check(&mut self, moment: Moment, server: usize, ok: bool, up: bool)
         requires begins { MayAccept self.old (refuses_check self.old server) }
         requires up { up ≡ is_up_at self.old.setup.servers (with_result server ok (state_of self.old).results) server }
@@ -36,7 +36,7 @@ impl<Q: PendQueue<Key, usize>> Trace<Q> {
         self.position.last = now;
     }
 
-    /// Why a new limit of a server is refused. `O(1)`.
+    /// Returns why a new limit of a server is refused. `O(1)`.
     pub fn refuses_limit(&self, server: usize) -> Option<Refusal>
         ensures { result ≡ refuses_limit self.now server }
     {
@@ -49,7 +49,7 @@ impl<Q: PendQueue<Key, usize>> Trace<Q> {
         None
     }
 
-    /// A server takes so many requests from now on, or none. `O(1)`.
+    /// A server serves at most this number of requests from now on, or is closed. `O(1)`.
     pub fn limit(&mut self, moment: Moment, server: usize, limit: Intake)
         requires begins { MayAccept self.old (refuses_limit self.old server) }
         requires within { server < length self.old.setup.servers }
@@ -62,7 +62,7 @@ impl<Q: PendQueue<Key, usize>> Trace<Q> {
         self.position.last = now;
     }
 
-    /// The check changed the server's health.
+    /// The check has changed the server's health.
     pub fn tell_health(&mut self, server: usize, up: bool)
         requires lawful { MayComeNext self.old (Health server up) }
         requires room { length self.old.log < self.old.setup.log }
@@ -72,7 +72,7 @@ impl<Q: PendQueue<Key, usize>> Trace<Q> {
     }
 }
 
-/// Why no check of a server can end: there is no such server, or it is never checked.
+/// Returns why a check of a server is refused: the server doesn't exist, or isn't checked.
 fn misses_check(setup: &Setup, server: usize) -> Option<Refusal>
     ensures { result ≡ first_of ((nat_le (length setup.now.servers) server, NoSuchServer) ∷ (not (is_checked setup.now server), WrongPhase) ∷ []) }
 {

@@ -27,14 +27,14 @@ impl<Q: PendQueue<Key, usize>> Trace<Q> {
         self.position.last = now;
     }
 
-    /// The moment of an event that comes at a moment: no earlier than the last event's. `O(1)`.
+    /// Returns the moment of an event that comes at `moment`: no earlier than the last event's. `O(1)`.
     pub fn moment_at(&self, moment: Moment) -> Moment
         ensures { result ≡ effective self.now moment }
     {
         self.position.last.later(moment)
     }
 
-    /// Whether some request has, at a moment. `O(1)`.
+    /// Says whether some request has waited as long as it may at this moment. `O(1)`.
     pub fn expired(&self, moment: Moment) -> bool
         ensures { IsTrue result ↔ SomeExpires self.now moment }
     {
@@ -42,7 +42,7 @@ impl<Q: PendQueue<Key, usize>> Trace<Q> {
             .is_some()
     }
 
-    /// A place, where its request has.
+    /// Returns the place, where its request has waited as long as it may.
     fn if_expired(&self, place: Option<usize>, now: Moment) -> Option<usize>
         requires { IfSome place (HasRowAt self.now) }
         ensures { MatchOption result (IfSome place (λ at. ¬ (ExpiresAt self.now now at))) (λ at. (place ≡ Some at) × ExpiresAt self.now now at) }
@@ -55,8 +55,8 @@ impl<Q: PendQueue<Key, usize>> Trace<Q> {
         }
     }
 
-    /// Puts those that have into an empty queue, by ticket with their places. Looks at one request more than
-    /// there are.
+    /// Puts the expired requests into an empty queue, by ticket with their places. Looks at one
+    /// request more than are expired.
     pub fn gather(&self, tickets: &mut ListQueue<u64, usize>)
         requires none { tickets.old.pairs ≡ [] }
         requires room { self.now.setup.places ≤ tickets.old.room }
@@ -72,7 +72,7 @@ impl<Q: PendQueue<Key, usize>> Trace<Q> {
     }
 }
 
-/// Whether a request in this phase has waited as long as it may.
+/// Says whether a request in this phase has waited as long as it may.
 fn has_expired(setup: &Setup, phase: Phase, now: Moment) -> bool
     requires { setup.now.queue_timeout < 2 ^ 62 }
     ensures { IsTrue result ↔ HasExpired setup.now now phase }

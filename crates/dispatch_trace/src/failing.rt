@@ -16,20 +16,20 @@ use due_key::{Key, Moment};
 use pend_queue::PendQueue;
 use slot_ledger::Ledger;
 
-/// What becomes of a request whose connection failed.
+/// What follows for a request whose connection failed.
 #[derive(Clone, Copy, Debug, PartialEq, Eq)]
 pub enum Fate {
     /// It keeps its slot and is tried again.
     Retried,
     /// It is told that its retries are spent.
     Spent,
-    /// It gives its slot back and is put on another server where it can be.
+    /// It returns its slot and is put on another server where that can be.
     Redispatched,
 }
 
 /// Failed connections.
 impl<Q: PendQueue<Key, usize>> Trace<Q> {
-    /// A connection of the ticket's request failed, which has a slot. Answers how many failed so far.
+    /// A connection failed for the ticket's request, which has a slot. Returns the number of its failures so far.
     pub fn fail(&mut self, moment: Moment, it: Ticketed) -> u32
         requires begins { MayAccept self.old (refuses_failure self.old it.ticket) }
         requires at { IsAt (state_of self.old).rows it }
@@ -53,7 +53,7 @@ impl<Q: PendQueue<Key, usize>> Trace<Q> {
         self.log.note(Entry::Retried(ticket, server, failures));
     }
 
-    /// What becomes of a request once so many of its connections failed (`retries`, `option redispatch`).
+    /// Returns what follows for a request after this number of failures (`retries`, `option redispatch`).
     pub fn fate(&self, failures: u32) -> Fate
         ensures { result ≡ fate_of self.now.setup failures }
     {
@@ -68,7 +68,7 @@ impl<Q: PendQueue<Key, usize>> Trace<Q> {
     }
 }
 
-/// Whether the retry after so many failures is the last one and goes to another server.
+/// Says whether the retry after this number of failures is the last one and goes to another server.
 fn redispatches(setup: &Setup, failures: u32) -> bool
     ensures { result ≡ are_redispatched setup.now failures }
 {
@@ -76,7 +76,7 @@ fn redispatches(setup: &Setup, failures: u32) -> bool
 }
 
 /// Counts a failed connection of the row at a place, which loses its pin where it is redispatched.
-/// Answers how many failed so far.
+/// Returns the number of failures so far.
 fn count_failure<H: Drop>(ledger: &mut Ledger<H>, place: usize) -> u32
     requires { HasCountable ledger.old.slots place }
     ensures counted { ledger.new ≡ with_slots ledger.old (with_slot (failed_slot ledger.old.setup) ledger.old.slots place) }

@@ -1,8 +1,9 @@
-//! The trace of a dispatcher: its log with all that the log leaves, the live requests by place, those
-//! that wait, the cursor of balancing, the last moment and ticket. Each kind of entry has one method,
-//! which notes it and changes what it means, so that the trace always holds what its log says; a
-//! request that isn't served has two, `tell` where it is in no place and `dismiss` where it waits. No
-//! handle; memory is taken when it is made and at arrivals alone.
+//! The trace of a dispatcher: its log with all state that the log leaves: the live requests by
+//! place, those that wait, the cursor of balancing, the last moment and the last ticket. Each kind
+//! of entry has one method, which notes the entry and applies it, so that the trace always agrees
+//! with its log. A request that isn't served has two methods, `tell` where it has no phase and
+//! `dismiss` where it waits. The crate uses no handle, and allocates only when a trace is made and
+//! at arrivals.
 #![tactic(auto)]
 
 mod arriving;

@@ -13,7 +13,7 @@ use pend_queue::PendQueue;
 
 /// The queue of a server that went down (`option redispatch`).
 impl<Q: PendQueue<Key, usize>> Trace<Q> {
-    /// Moves the first request of a server's queue into the backend's. Answers whether there was one.
+    /// Moves the first request of a server's queue into the backend's. Says whether there was one.
     /// The queue's own cost beside `O(1)`.
     pub fn move_first(&mut self, server: usize) -> bool
         requires emptying { stage_of self.old ≡ emptying server }

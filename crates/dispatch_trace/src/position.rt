@@ -1,14 +1,14 @@
 use due_key::Moment;
 use server_pick::Cursor;
 
-/// Where a live request stands, and its ticket.
+/// The place of a live request, and its ticket.
 #[derive(Clone, Copy, Debug, PartialEq, Eq)]
 pub struct Ticketed {
     pub place: usize,
     pub ticket: u64,
 }
 
-/// How far a trace has come.
+/// The position of a trace.
 #[derive(Clone, Copy, Debug)]
 pub struct Position {
     /// The server that balancing picked last.

@@ -15,7 +15,7 @@ use server_pick::{Cursor, next_queue, next_taker};
 use verdict::Cause;
 use wait_queues::{Taken, Waiter};
 
-/// Requests that take slots, give them back, and wait for them.
+/// Requests that take slots, return them, and wait for them.
 impl<Q: PendQueue<Key, usize>> Trace<Q> {
     /// The return of a ticket's slot begins.
     pub fn done(&mut self, moment: Moment, it: Ticketed)
@@ -60,7 +60,7 @@ impl<Q: PendQueue<Key, usize>> Trace<Q> {
         self.log.note(Entry::Joined(it.ticket, queue));
     }
 
-    /// The request, which is in no place, is told that it isn't served. `O(1)`.
+    /// The request, which has no phase, is told that it isn't served. `O(1)`.
     pub fn tell(&mut self, it: Ticketed, cause: Cause)
         requires at { IsAt (state_of self.old).rows it }
         requires lawful { MayComeNext self.old (Left it.ticket cause) }
@@ -73,7 +73,7 @@ impl<Q: PendQueue<Key, usize>> Trace<Q> {
         self.log.note(Entry::Left(it.ticket, cause));
     }
 
-    /// The ticket's slot is given back. `O(1)`.
+    /// The ticket's slot is freed. `O(1)`.
     pub fn free(&mut self, it: Ticketed, server: usize)
         requires at { IsAt (state_of self.old).rows it }
         requires lawful { MayComeNext self.old (Freed it.ticket server) }
@@ -84,7 +84,7 @@ impl<Q: PendQueue<Key, usize>> Trace<Q> {
         self.log.note(Entry::Freed(it.ticket, server));
     }
 
-    /// The ticket's row is gone. `O(log n)`.
+    /// The ticket's row is removed. `O(log n)`.
     pub fn end(&mut self, it: Ticketed)
         requires at { IsAt (state_of self.old).rows it }
         requires lawful { MayComeNext self.old (Ended it.ticket) }
@@ -95,8 +95,8 @@ impl<Q: PendQueue<Key, usize>> Trace<Q> {
         self.log.note(Entry::Ended(it.ticket));
     }
 
-    /// Grants a slot where one is free and a request waits that it may go to. Answers whether it
-    /// did; where it didn't, all is settled. `O(s)` in the servers beside the queue's own cost.
+    /// Grants a slot where one is free and a request waits that may take it. Says whether it did;
+    /// where it didn't, all is settled. `O(s)` in the servers beside the queue's own cost.
     pub fn grant(&mut self) -> bool
         requires may_grant { MayGrantNext self.old }
         requires room { length self.old.log + waiting_of self.old ≤ self.old.setup.log }

@@ -19,7 +19,7 @@ use std::alloc::{AllocError, Global};
 use std::marker::Model;
 use wait_queues::WaitQueues;
 
-/// A log that goes on entry by entry, with what it leaves.
+/// A log that grows entry by entry, with the state that it leaves.
 #[derive(Drop)]
 pub struct Trace<Q: PendQueue<Key, usize>> {
     pub(crate) log: Log,
@@ -42,7 +42,7 @@ impl<Q: PendQueue<Key, usize>> Model for Trace<Q> {
 }
 
 impl<Q: PendQueue<Key, usize>> Trace<Q> {
-    /// A trace without an entry.
+    /// Makes a trace without an entry.
     pub fn new(alloc: Global, setup: Setup) -> Result<Trace<Q>, AllocError>
         requires { IsSound setup }
         ensures { IfOk result (λ trace. trace ≡ first_window setup []) }
@@ -64,7 +64,7 @@ impl<Q: PendQueue<Key, usize>> Trace<Q> {
         })
     }
 
-    /// What it was made for.
+    /// Returns its setup.
     pub fn setup(&self) -> &Setup
         ensures setup { result.now ≡ self.now.setup }
         ensures sound { IsSound self.now.setup }
@@ -79,7 +79,7 @@ impl<Q: PendQueue<Key, usize>> Trace<Q> {
         &self.log
     }
 
-    /// Whether the log has room for the longest event. `O(1)`.
+    /// Says whether the log has room for the longest event. `O(1)`.
     pub fn has_room(&self) -> bool
         ensures { IsTrue result ↔ HasEntryRoom self.now }
     {
@@ -87,7 +87,7 @@ impl<Q: PendQueue<Key, usize>> Trace<Q> {
         setup.log.saturating_sub(self.log.len()) >= 2 * setup.places + 8
     }
 
-    /// The live request with a ticket. `O(log n)`, the one look that a call takes.
+    /// Returns the live request with a ticket. `O(log n)`; each call searches once.
     pub fn find(&self, ticket: u64) -> Option<Ticketed>
         ensures { MatchOption result (row_of ticket (state_of self.now).rows ≡ None) (λ it. IsFound (state_of self.now).rows ticket it) }
     {
@@ -97,7 +97,7 @@ impl<Q: PendQueue<Key, usize>> Trace<Q> {
         Some(Ticketed { place, ticket })
     }
 
-    /// Where a live request stands. `O(1)`.
+    /// Returns the phase of a live request. `O(1)`.
     pub fn phase(&self, it: Ticketed) -> Phase
         requires { IsAt (state_of self.now).rows it }
         ensures { option_map (λ row. row.phase) (row_of it.ticket (state_of self.now).rows) ≡ Some result }
@@ -105,7 +105,7 @@ impl<Q: PendQueue<Key, usize>> Trace<Q> {
         self.ledger.row(it.place).phase
     }
 
-    /// Why an arrival with a pin is refused, memory aside. `O(1)`.
+    /// Returns why an arrival with this pin is refused, except for want of memory. `O(1)`.
     pub fn refuses_arrival(&self, pin: Option<usize>) -> Option<Refusal>
         ensures { result ≡ refuses_arrival self.now pin }
     {
@@ -124,7 +124,7 @@ impl<Q: PendQueue<Key, usize>> Trace<Q> {
         None
     }
 
-    /// Whether no server has the number of a pin.
+    /// Says whether a pin names a server that doesn't exist.
     fn pins_to_none(&self, pin: Option<usize>) -> bool
         ensures { result ≡ pins_to_none self.now.setup pin }
     {
@@ -134,7 +134,7 @@ impl<Q: PendQueue<Key, usize>> Trace<Q> {
         }
     }
 
-    /// The request whose return is accepted now, or why it is refused.
+    /// Returns the request whose return is accepted now, or why it is refused.
     pub fn accept_done(&self, ticket: u64) -> Result<Ticketed, Refusal>
         ensures refused { IfErr result (λ refusal. refuses_done self.now ticket ≡ Some refusal) }
         ensures accepted { IfOk result (λ it. refuses_done self.now ticket ≡ None) }
@@ -152,7 +152,7 @@ impl<Q: PendQueue<Key, usize>> Trace<Q> {
         }
     }
 
-    /// The request whose failure is accepted now, or why it is refused.
+    /// Returns the request whose failure is accepted now, or why it is refused.
     pub fn accept_failure(&self, ticket: u64) -> Result<Ticketed, Refusal>
         ensures refused { IfErr result (λ refusal. refuses_failure self.now ticket ≡ Some refusal) }
         ensures accepted { IfOk result (λ it. refuses_failure self.now ticket ≡ None) }
@@ -170,7 +170,7 @@ impl<Q: PendQueue<Key, usize>> Trace<Q> {
         }
     }
 
-    /// The request whose abort is accepted now, or why it is refused.
+    /// Returns the request whose abort is accepted now, or why it is refused.
     pub fn accept_abort(&self, ticket: u64) -> Result<Ticketed, Refusal>
         ensures refused { IfErr result (λ refusal. refuses_abort self.now ticket ≡ Some refusal) }
         ensures accepted { IfOk result (λ it. refuses_abort self.now ticket ≡ None) }
@@ -188,8 +188,8 @@ impl<Q: PendQueue<Key, usize>> Trace<Q> {
         }
     }
 
-    /// Where a request in no place goes, bound to this pin and with this server to avoid, and the
-    /// cursor that this leaves. `O(s)` in the servers.
+    /// Returns the placement of a request with this pin and with this server to avoid, and the
+    /// cursor after it. `O(s)` in the servers.
     pub fn placement(&self, pin: Option<usize>, avoid: Option<usize>) -> (Placement, Cursor)
         ensures placed { IsPlacement (scene_of self.now) (state_of self.now).cursor pin avoid result.0 }
         ensures cursor { result.1 ≡ cursor_placed pin result.0 (state_of self.now).cursor }
@@ -199,21 +199,21 @@ impl<Q: PendQueue<Key, usize>> Trace<Q> {
         (placement, cursor)
     }
 
-    /// How many requests a server serves. `O(1)`.
+    /// Returns the number of requests that a server serves. `O(1)`.
     pub fn served(&self, server: usize) -> usize
         ensures { result ≡ served server (state_of self.now).rows }
     {
         self.ledger.served(server)
     }
 
-    /// How many requests wait in a queue. `O(1)`.
+    /// Returns the number of requests that wait in a queue. `O(1)`.
     pub fn queued(&self, queue: Queue) -> usize
         ensures { result ≡ queued queue (state_of self.now).rows }
     {
         self.ledger.queued(queue)
     }
 
-    /// Whether a server is up. `O(1)`.
+    /// Says whether a server is up. `O(1)`.
     pub fn up(&self, server: usize) -> bool
         ensures { result ≡ is_up (scene_of self.now) server }
     {

@@ -13,11 +13,11 @@ use pend_queue::PendQueue;
 use readable_log::Base;
 use slot_ledger::Ledger;
 
-/// Windows.
+/// The windows of a log.
 impl<Q: PendQueue<Key, usize>> Trace<Q> {
-    /// The next window begins with what the log leaves, where the servers that are checked have these
-    /// healths; the entries are gone. What was the base is left in `spare`. Takes no memory; `O(n + s)`
-    /// in the places and servers.
+    /// Begins the next window with the state that the log leaves; the checked servers have these
+    /// healths, and the entries are dropped. The old base is left in `spare`. Allocates nothing;
+    /// `O(n + s)` in the places and servers.
     pub fn roll(&mut self, healths: &[Option<Health>], spare: &mut Base)
         requires legal { IsLegal self.old }
         requires healths { map results_by healths.now ≡ shortened_all self.old.setup.servers (state_of self.old).results }
@@ -38,7 +38,7 @@ impl<Q: PendQueue<Key, usize>> Trace<Q> {
     }
 }
 
-/// The base has the ledger's rows.
+/// Copies the ledger's rows into the base.
 fn save_rows<N: Drop>(ledger: &Ledger<N>, base: &mut Base)
     requires { length base.old.rows ≡ length ledger.now.slots }
     ensures { base.new ≡ record base.old { rows = rows_in ledger.now.slots } }

@@ -4,10 +4,10 @@ use Rattle.std.specs.Ordering.{nat_cmp, int_cmp, ordering_then}
 use Rattle.std.specs.declared.cmp.Ordering.{Ordering}
 use Rattle.due_key.specs.declared.key.Key.{Key}
 
--- how two keys compare: by class, else by due date, else by ticket
+-- the order of two keys: by class, then by due date, then by ticket
 abbrev pub key_cmp : Key → Key → Ordering
 key_cmp a b = ordering_then (int_cmp a.class b.class) (ordering_then (int_cmp a.due b.due) (nat_cmp a.ticket b.ticket))
 
--- of a lower class; or of one class and due earlier; or due together with a lower ticket
+-- a key has a lower class; or the same class and an earlier due date; or both the same and a lower ticket
 abbrev pub ComesBefore : Key → Key → Type 0
 ComesBefore a b = (a.class <ℤ b.class) ⊎ ((a.class ≡ b.class) × ((a.due <ℤ b.due) ⊎ ((a.due ≡ b.due) × (a.ticket < b.ticket))))

@@ -13,8 +13,8 @@ pub const LOWEST_CLASS: i64 = -2047;
 /// The highest class.
 pub const HIGHEST_CLASS: i64 = 2047;
 
-/// A priority class, from -2047 to 2047: what HAProxy's `http-request set-priority-class` sets.
-/// Of the requests in a queue those of the lowest class are served first.
+/// A priority class, from -2047 to 2047, as HAProxy's `http-request set-priority-class` sets it.
+/// The requests of a queue with the lowest class are served first.
 #[derive(Clone, Copy, Debug, PartialEq, Eq, PartialOrd, Ord)]
 pub struct Class {
     number: i16,
@@ -35,7 +35,7 @@ impl Model for Class {
 }
 
 impl Class {
-    /// The class of this number; outside of the range it is the nearer end.
+    /// Returns the class of this number, or the nearer end of the range.
     pub fn clamp(number: i64) -> Class
         ensures { result ≡ nearest LOWEST_CLASS HIGHEST_CLASS number }
     {
@@ -51,7 +51,7 @@ impl Class {
         i64::from(self.number)
     }
 
-    /// The key of a request of this class, due then, with this ticket.
+    /// Returns the key of a request of this class, with this due date and ticket.
     pub fn key(self, due: Due, ticket: u64) -> Key
         ensures key { result ≡ record { class = self; due = due; ticket = ticket } }
         ensures range { IsBetween LOWEST_CLASS HIGHEST_CLASS result.class }

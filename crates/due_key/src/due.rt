@@ -7,9 +7,9 @@ use crate::offset::Offset;
 use std::fmt;
 use std::marker::Model;
 
-/// A due date in milliseconds: a moment plus an offset, exact, and negative where the request
-/// arrived less than its offset after the moment 0. It always is such a sum, so that no
-/// difference from a moment wraps.
+/// A due date in milliseconds: the exact sum of a moment and an offset, negative where the offset
+/// is further below 0 than the arrival is after the moment 0. Since it always is such a sum, its
+/// difference from a moment can't overflow.
 #[derive(Clone, Copy, Debug, PartialEq, Eq, PartialOrd, Ord)]
 pub struct Due {
     number: i64,
@@ -29,7 +29,7 @@ impl Model for Due {
 }
 
 impl Due {
-    /// The due date of what arrives at this moment with this offset.
+    /// Returns the due date of an arrival at this moment with this offset.
     pub fn of(arrival: Moment, offset: Offset) -> Due
         ensures sum { result ≡ (pos arrival +ℤ offset) }
         ensures range { IsBetween LOWEST_OFFSET HIGHEST_OFFSET offset }
@@ -39,7 +39,7 @@ impl Due {
         }
     }
 
-    /// Its milliseconds.
+    /// Returns its milliseconds.
     pub fn get(self) -> i64
         ensures value { result ≡ self }
         ensures range { IsDue result }
@@ -47,7 +47,7 @@ impl Due {
         self.number
     }
 
-    /// By how many milliseconds a slot at this moment is late: negative where it is early.
+    /// Returns the number of milliseconds by which a slot at this moment is late: negative where it is early.
     pub fn lateness(self, moment: Moment) -> i64
         ensures { result ≡ (pos moment -ℤ self) }
     {

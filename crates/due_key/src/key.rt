@@ -7,8 +7,8 @@ ghost use Rattle.due_key.specs.Order.{key_cmp, ComesBefore};
 use crate::class::Class;
 use crate::due::Due;
 
-/// What orders the requests of a queue: the class, then the due date, then the ticket, lower
-/// first. Tickets count the accepted arrivals, so no two requests have one key.
+/// The key that orders the requests of a queue: by class, then by due date, then by ticket, lower
+/// first. Tickets count the accepted arrivals, so no two requests have the same key.
 #[derive(Clone, Copy, Debug, PartialEq, Eq, PartialOrd, Ord)]
 pub struct Key {
     pub class: Class,
@@ -16,8 +16,8 @@ pub struct Key {
     pub ticket: u64,
 }
 
-/// The law of the order of keys: what code with a bound `K: Ord` compares keys by is the
-/// dictionary order of class, due date and ticket, a total order in which only equal keys tie.
+/// The law of the order of keys: code with a bound `K: Ord` compares keys by class, due date and
+/// ticket, as in a dictionary; this is a total order in which only equal keys tie.
 pub fn order_of_keys()
     ensures at_bounds { (a b : Key) → ⟦<Key as Ord>⟧.cmp a b ≡ key_cmp a b }
     ensures dictionary { (a b : Key) → (key_cmp a b ≡ Less) ↔ ComesBefore a b }

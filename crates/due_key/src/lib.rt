@@ -1,6 +1,6 @@
-//! When a waiting request is due, and the key by which queues order requests: its class, its due
-//! date and its ticket, lower first. Plain numbers, each in its range by its type: no memory is
-//! taken, and no call fails but `Moment::new`.
+//! The due date of a waiting request, and the key by which queues order requests: class, due date
+//! and ticket, lower first. All are plain numbers, in range by their types: nothing is allocated,
+//! and only `Moment::new` can fail.
 #![tactic(auto)]
 
 mod class;

@@ -4,8 +4,7 @@ ghost use Rattle.std.specs.Option.{SomeIff};
 use std::fmt;
 use std::marker::Model;
 
-/// A moment in milliseconds, below 2^62. What it counts from is the caller's choice: a script's
-/// start, or the start of the program.
+/// A moment in milliseconds, below 2^62. The caller chooses its origin: the start of a script, or of the program.
 #[derive(Clone, Copy, Debug, PartialEq, Eq, PartialOrd, Ord)]
 pub struct Moment {
     number: u64,
@@ -24,7 +23,7 @@ impl Model for Moment {
 }
 
 impl Moment {
-    /// None exactly from 2^62 on.
+    /// Makes a moment of a number; `None` exactly from 2^62 on.
     pub fn new(number: u64) -> Option<Moment>
         ensures { SomeIff result (number < 2 ^ 62) number }
     {
@@ -35,14 +34,14 @@ impl Moment {
         }
     }
 
-    /// The moment 0.
+    /// Returns the moment 0.
     pub fn zero() -> Moment
         ensures { result ≡ 0 }
     {
         Moment { number: 0 }
     }
 
-    /// Its milliseconds.
+    /// Returns its milliseconds.
     pub fn get(self) -> u64
         ensures value { result ≡ self }
         ensures range { result < 2 ^ 62 }
@@ -50,7 +49,7 @@ impl Moment {
         self.number
     }
 
-    /// The later of the two.
+    /// Returns the later of the two.
     pub fn later(self, other: Moment) -> Moment
         ensures later { result ≡ max self other }
         ensures range { result < 2 ^ 62 }

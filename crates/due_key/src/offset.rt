@@ -11,8 +11,8 @@ pub const LOWEST_OFFSET: i64 = -524_287;
 /// The highest offset in milliseconds.
 pub const HIGHEST_OFFSET: i64 = 524_287;
 
-/// How many milliseconds after its arrival a request is due, from -524287 to 524287: what
-/// HAProxy's `http-request set-priority-offset` sets.
+/// The due date of a request relative to its arrival, in milliseconds from -524287 to 524287, as
+/// HAProxy's `http-request set-priority-offset` sets it.
 #[derive(Clone, Copy, Debug, PartialEq, Eq, PartialOrd, Ord)]
 pub struct Offset {
     number: i64,
@@ -33,7 +33,7 @@ impl Model for Offset {
 }
 
 impl Offset {
-    /// The offset of this many milliseconds; outside of the range it is the nearer end.
+    /// Returns the offset of this number of milliseconds, or the nearer end of the range.
     pub fn clamp(number: i64) -> Offset
         ensures { result ≡ nearest LOWEST_OFFSET HIGHEST_OFFSET number }
     {
@@ -42,7 +42,7 @@ impl Offset {
         }
     }
 
-    /// Its milliseconds.
+    /// Returns its milliseconds.
     pub fn get(self) -> i64
         ensures value { result ≡ self }
         ensures range { IsBetween LOWEST_OFFSET HIGHEST_OFFSET result }

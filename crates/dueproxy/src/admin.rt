@@ -1,4 +1,4 @@
-//! Where a proxy is asked how it goes, as its words say.
+//! The admin listener that the options ask for.
 
 use admin_http::Admin;
 use command_words::{AdminFault, AdminWords, admin_address};
@@ -6,7 +6,8 @@ use file_reasons::address_remedy;
 use std::io::Error;
 use std::net::{Net, SocketAddr, TcpListener, TcpStream};
 
-/// Where it is asked. None: nowhere. Where that can't be had it is said, and the status is answered: 2 where the words are wrong.
+/// Makes the admin listener; `None` where the options ask for none. Where it can't be made, prints
+/// why and returns the exit status: 2 where the options are wrong.
 pub(crate) fn admin_of<R: Net<Listener = TcpListener, Stream = TcpStream> + Eprint + AllocGlobal>(
     rt: &R,
     words: &AdminWords,

@@ -1,4 +1,4 @@
-//! What a proxy is steered by, as its words say.
+//! The controls that the options ask for.
 
 use command_words::ControlWords;
 use control_socket::{Controls, bound_at};
@@ -6,7 +6,8 @@ use std::fs;
 use std::net::Net;
 use std::rt::Files;
 
-/// What it is steered by. None: nothing. Where that can't be had it is said, and the status is answered.
+/// Makes the controls; `None` where the options ask for none. Where they can't be made, prints why
+/// and returns the exit status.
 pub(crate) fn controls_of<R: Files + Net + Eprint + AllocGlobal>(
     rt: &R,
     words: &ControlWords,
@@ -34,7 +35,7 @@ pub(crate) fn controls_of<R: Files + Net + Eprint + AllocGlobal>(
     }
 }
 
-/// Takes the socket's name away.
+/// Removes the socket's file.
 pub(crate) fn end_controls<R: Files>(rt: &R, words: &ControlWords) {
     if let Some(path) = &words.path {
         let _ = fs::remove_file(rt, path.as_str());

@@ -7,7 +7,7 @@ use config_convert::{Conversion, convert, push_note, status_of};
 use std::alloc::{AllocError, Global};
 use std::io::Write;
 
-/// Converts the configuration of a file onto standard output, says what changes, and answers the status.
+/// Converts the configuration of a file to standard output, reports the changes, and returns the exit status.
 pub(crate) fn convert_file(rt: &HostRuntime, sections: &Sections) -> u8 {
     match read_file(rt, &sections.file) {
         Ok(bytes) => convert_bytes(rt, &bytes, sections, &mut rt.stdout()),
@@ -34,7 +34,7 @@ fn convert_bytes<W: Write>(
     }
 }
 
-// Writes what was made, and then what changes.
+// Writes the conversion, and then the changes.
 fn tell<W: Write>(
     rt: &(impl Eprint + AllocGlobal),
     made: &Conversion,

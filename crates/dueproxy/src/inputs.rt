@@ -1,4 +1,4 @@
-//! What a script or a trace is read from.
+//! The input that a script or a trace is read from.
 
 use command_words::Input;
 use std::fs::File;
@@ -21,7 +21,8 @@ impl Read for Opened {
     }
 }
 
-/// Opens what the words name. Where they name nothing and a terminal is read, it is said what is awaited.
+/// Opens the input that the arguments name. Where they name none and standard input is a terminal,
+/// prints what is expected.
 pub(crate) fn open(rt: &HostRuntime, input: &Input, awaited: &str) -> io::Result<Opened> {
     match input {
         Input::File(name) => Ok(Opened::File(fs::open(rt, name.as_str())?)),
@@ -37,7 +38,7 @@ pub(crate) fn open(rt: &HostRuntime, input: &Input, awaited: &str) -> io::Result
     }
 }
 
-/// What an input is called.
+/// Returns the name of an input.
 pub(crate) fn name_of(input: &Input) -> &str {
     match input {
         Input::File(name) => name.as_str(),

@@ -1,4 +1,4 @@
-//! Which logs a proxy writes, as its words say.
+//! The logs that the options ask for.
 
 use crate::reasons::say_unopened;
 use command_words::LogWords;
@@ -10,7 +10,8 @@ use std::sync::{Arc, Wait};
 use std::thread;
 use std::thread::Threads;
 
-/// The logs, with the threads that write their files. Where a file can't be opened it is said, and the status is answered.
+/// Makes the logs, with the threads that write their files. Where a file can't be opened, prints
+/// why and returns the exit status.
 pub(crate) fn logs_of<R: Threads + Wait + Copy + Send + 'static>(
     host: HostRuntime,
     rt: &R,
@@ -69,7 +70,7 @@ fn sink_of<R: Threads + Wait + Copy + Send + 'static>(
     }
 }
 
-// The thread owns all that it works with: it may still wait for a reader when everything else is over.
+// The thread owns all that it works with: it may still wait for a reader when everything else has ended.
 fn start<R: Threads + Wait + Copy + Send + 'static>(
     host: HostRuntime,
     rt: R,

@@ -1,7 +1,8 @@
 //! Dueproxy: a reverse proxy that queues requests by class and due date, with HAProxy's keywords.
 //!
-//! Statuses: 0; 1 no memory, or a read or a write failed; 2 the words of the command line; 3 the configuration;
-//! 5 the script; 6 a configuration was converted, and something changes.
+//! Exit statuses: 0; 1 no memory, or a read or a write failed; 2 a fault in the command line; 3 one
+//! in the configuration; 5 one in the script; 6 a configuration was converted, and something
+//! changes.
 #![tactic(auto)]
 
 mod admin;
@@ -56,7 +57,7 @@ fn main(rt: HostRuntime) -> ExitCode {
     ExitCode::from(status)
 }
 
-// Who reads standard error at a terminal is told why.
+// At a terminal the advice is printed to standard error.
 fn beside_of(rt: &HostRuntime) -> Beside {
     if rt.stderr().is_terminal() {
         Beside::Advice
@@ -65,7 +66,7 @@ fn beside_of(rt: &HostRuntime) -> Beside {
     }
 }
 
-// Colours, where standard output is a terminal and the user didn't refuse them.
+// Uses colours where standard output is a terminal and the user hasn't refused them.
 fn looks_of(rt: &HostRuntime) -> Looks {
     let refused = match env::var(rt, "NO_COLOR") {
         Ok(word) => !word.is_empty(),

@@ -1,4 +1,4 @@
-//! What is said below the line of a fault of a script or of a trace.
+//! The advice below the line of a fault of a script or of a trace.
 
 use file_reasons::say_reason;
 use replay::Fault;
@@ -6,17 +6,17 @@ use script_advice::{Kept, explain_script_line, explain_trace_line};
 use std::io::{Error, ErrorKind, Read};
 use trace_views::InputFault;
 
-/// Of what there is more to say.
+/// The kind of a fault, for further advice.
 #[derive(Clone, Copy)]
 pub(crate) enum Why {
     Unread,
     Script(usize),
     Trace(usize),
-    /// The line says all.
+    /// The line says everything.
     Plain,
 }
 
-/// Says why an input can't be opened, and answers the status.
+/// Prints why an input can't be opened, and returns the exit status.
 pub(crate) fn say_unopened(rt: &impl Eprint, name: &str, error: Error) -> u8 {
     if error.kind() == ErrorKind::OutOfMemory {
         let _ = rt.eprintln("no memory");
@@ -27,7 +27,7 @@ pub(crate) fn say_unopened(rt: &impl Eprint, name: &str, error: Error) -> u8 {
     1
 }
 
-/// Says why a read of the input of this name failed, or what is wrong with a line of it.
+/// Prints why a read of the input with this name failed, or what is wrong with a line of it.
 pub(crate) fn say_why<R: Read>(
     rt: &(impl Eprint + AllocGlobal),
     name: &str,
@@ -51,7 +51,7 @@ pub(crate) fn say_why<R: Read>(
     }
 }
 
-/// Of a fault of a replay.
+/// Returns the kind of a replay's fault.
 pub(crate) fn why_of(fault: Fault) -> Why {
     match fault {
         Fault::Read => Why::Unread,
@@ -60,7 +60,7 @@ pub(crate) fn why_of(fault: Fault) -> Why {
     }
 }
 
-/// Of a fault of what is drawn or told.
+/// Returns the kind of a drawing's or a story's fault.
 pub(crate) fn why_of_input(fault: InputFault) -> Why {
     match fault {
         InputFault::Unread => Why::Unread,

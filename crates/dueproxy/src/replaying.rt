@@ -10,7 +10,7 @@ use replay::{Fault, replay, status_of};
 use script_advice::Kept;
 use std::io::{Read, Write};
 
-/// Replays a script onto standard output, and answers the status.
+/// Replays a script to standard output, and returns the exit status.
 pub(crate) fn replay_input(rt: &HostRuntime, input: &Input) -> u8 {
     match open(rt, input, "a script") {
         Ok(mut opened) => replay_stream(rt, name_of(input), &mut opened, &mut rt.stdout()),
@@ -33,7 +33,7 @@ fn replay_stream<R: Read, W: Write>(
     status
 }
 
-// Prints what went wrong, and answers the status.
+// Prints what went wrong, and returns the exit status.
 fn end(rt: &impl Eprint, ended: Result<(), Fault>) -> u8
     ensures { result ≡ status_of ended }
 {

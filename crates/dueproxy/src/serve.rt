@@ -1,4 +1,4 @@
-//! `dueproxy run`: a proxy as its words say.
+//! `dueproxy run`: a proxy as the command line asks for it.
 
 use crate::admin::admin_of;
 use crate::controls::{controls_of, end_controls};
@@ -16,7 +16,8 @@ use std::sync::Wait;
 use std::thread::Threads;
 use std::time::Clock;
 
-/// Serves as the file of this name says, with so many of each, and answers the status: 2 where a number is out of its range.
+/// Serves as the file with this name says, with these sizes, and returns the exit status: 2 where a
+/// number is out of its range.
 pub(crate) fn serve_file<
     R: Files
         + Net<Listener = TcpListener, Stream = TcpStream>
@@ -66,8 +67,9 @@ fn sizes_of(numbers: Numbers) -> Option<Sizes> {
     )
 }
 
-// What is asked of it beside its configuration. Where something of that can't be had it is said, and the status is answered; the control socket comes last, since
-// it is to be taken away again.
+// Makes the parts of the proxy beside its configuration. Where one can't be made, prints why and
+// returns the exit status. The control socket is made last, since its file has to be removed
+// afterwards.
 fn options_of<
     R: Files
         + Net<Listener = TcpListener, Stream = TcpStream>
@@ -98,7 +100,8 @@ fn options_of<
     })
 }
 
-// Says what went wrong, and why. A fault of the configuration is what was asked for.
+// Prints what went wrong, and why. A fault of the configuration goes to standard output, since it
+// is what the user asked for.
 fn say(rt: &(impl Print + Eprint + AllocGlobal), bytes: &[u8], fault: RunFault) {
     if let RunFault::Config(_) = fault {
         let _ = rt.println(fault);

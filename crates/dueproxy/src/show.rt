@@ -7,10 +7,10 @@ use std::sync::Wait;
 use std::thread::Threads;
 use std::time::Clock;
 
-/// Where the picture is drawn.
+/// The file of the picture.
 const FILE: &str = "dueproxy-demo.svg";
 
-/// Plays the demo, and answers the status: 1 where it didn't go well.
+/// Plays the demo, and returns the exit status: 1 where it failed.
 pub(crate) fn show<
     R: Files
         + Net<Listener = TcpListener, Stream = TcpStream>

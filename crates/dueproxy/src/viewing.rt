@@ -7,10 +7,10 @@ use script_advice::Kept;
 use std::io::{Read, Write};
 use trace_views::{DrawFault, InputFault, TellFault, draw, tell, waits_in};
 
-/// The status of words that ask for what isn't there.
+/// The exit status for arguments that ask for something that isn't there.
 const USAGE: u8 = 2;
 
-/// Draws a script or a trace onto standard output, and answers the status.
+/// Draws a script or a trace to standard output, and returns the exit status.
 pub(crate) fn draw_input(rt: &HostRuntime, input: &Input, only: &Option<Only>) -> u8 {
     match open(rt, input, "a script or a trace") {
         Ok(mut opened) => draw_stream(rt, name_of(input), &mut opened, &mut rt.stdout(), only),
@@ -39,7 +39,7 @@ fn draw_stream<R: Read, W: Write>(
     }
 }
 
-// Says of which queues and classes a picture of this input can be.
+// Prints the queues and classes of which this input allows a picture.
 fn say_what_is_there(rt: &(impl Eprint + AllocGlobal), input: &[u8]) {
     let mut rest = input;
     let Ok(waits) = waits_in(rt.alloc(), &mut rest) else {
@@ -52,7 +52,7 @@ fn say_what_is_there(rt: &(impl Eprint + AllocGlobal), input: &[u8]) {
     };
 }
 
-/// Tells the story of a ticket of a script or a trace on standard output, and answers the status.
+/// Tells the story of a ticket of a script or a trace on standard output, and returns the exit status.
 pub(crate) fn tell_input(rt: &HostRuntime, input: &Input, ticket: u64) -> u8 {
     match open(rt, input, "a script or a trace") {
         Ok(mut opened) => tell_stream(rt, name_of(input), &mut opened, &mut rt.stdout(), ticket),
@@ -78,7 +78,7 @@ fn tell_stream<R: Read, W: Write>(
     }
 }
 
-// Says more of a fault of the input, and answers the status.
+// Prints further advice on a fault of the input, and returns the exit status.
 fn end<R: Read>(
     rt: &(impl Eprint + AllocGlobal),
     name: &str,

@@ -1,4 +1,4 @@
-//! Clients that come.
+//! The acceptance of clients.
 
 use crate::guest::Visit;
 use crate::looping::Looper;
@@ -11,7 +11,7 @@ use std::sync::Wait;
 use std::sync::ledger::Ledger;
 use std::time::Clock;
 
-/// So many clients are taken at once, before others are attended to.
+/// The most clients that are accepted at once before the others get their turn.
 const BURST: usize = 64;
 
 impl<
@@ -19,7 +19,8 @@ impl<
     N: BoardName + Ledger,
     R: Net<Listener = TcpListener, Stream = TcpStream> + Clock + Print + Wait,
 > Looper<'a, N, R> {
-    /// Takes clients that wait at the listener. Where something is short it stops, and is tried again soon.
+    /// Accepts clients that wait at the listener. Where descriptors, slots or memory are short it
+    /// stops, and tries again soon.
     pub(crate) fn accept_some(&mut self) {
         for _ in 0..BURST {
             if self.short || self.shared.is_deaf() || self.shared.front.clients.are_all_taken() {
@@ -46,7 +47,7 @@ impl<
         }
     }
 
-    // A client came: it is a guest from now on, and what it sent already is read.
+    // Makes an accepted client a guest, and reads what it has already sent.
     fn greet(&mut self, client: TcpStream, address: SocketAddr) {
         if !self.shared.front.clients.take() {
             return;

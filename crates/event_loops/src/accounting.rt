@@ -1,4 +1,4 @@
-//! What a loop accounts of its exchanges, where lines of them are wanted.
+//! A loop's records of its exchanges, where the operator wants lines of them.
 
 use crate::guest::{Guest, Resident, Visit};
 use crate::looping::Looper;
@@ -23,7 +23,8 @@ impl<
     N: BoardName + Ledger,
     R: Net<Listener = TcpListener, Stream = TcpStream> + Clock + Print + Wait,
 > Looper<'a, N, R> {
-    /// An exchange begins at this client, on this line. Nothing is accounted of it where no lines are wanted, or there is no memory for that.
+    /// Begins the record of an exchange at this client, on this line. There is none where no lines
+    /// are wanted, or where there is no memory for it.
     pub(crate) fn begin_account(
         &mut self,
         presence: &mut Presence,
@@ -40,7 +41,7 @@ impl<
         presence.account = Box::new(self.settings.alloc, Account::new(client, now)).ok();
     }
 
-    /// Its head is there.
+    /// Notes that the exchange's head has come.
     pub(crate) fn note_asked(&mut self, visit: &mut Visit, view: &View, wish: Option<&Wish>) {
         if let Some(account) = &mut visit.presence.account {
             account.moments.asked = Some(self.gate.moment());
@@ -49,14 +50,14 @@ impl<
         }
     }
 
-    /// Its server has to go on with it.
+    /// Notes the server that the exchange was given to.
     pub(crate) fn note_granted(&mut self, visit: &mut Visit, server: usize) {
         if let Some(account) = &mut visit.presence.account {
             account.grant(server, self.gate.moment());
         }
     }
 
-    /// Bytes moved: they may be the first ones of the request, or of its answer.
+    /// Notes that bytes moved: they may be the first ones of the request, or of its answer.
     pub(crate) fn note_bytes(&mut self, visit: &mut Visit, client: bool, answers: bool) {
         let Some(account) = &mut visit.presence.account else {
             return;
@@ -70,7 +71,7 @@ impl<
         }
     }
 
-    /// It is told something that may end it.
+    /// Notes an event that may end the exchange.
     pub(crate) fn note_notice(&mut self, visit: &mut Visit, stage: Stage, notice: &Notice) {
         let Visit {
             presence,
@@ -97,7 +98,7 @@ impl<
         }
     }
 
-    /// It is over: where nothing else was told, by this one. Who asked for nothing has no line.
+    /// Ends the record: with this cause where no other was noted. A client that asked for nothing has no line.
     pub(crate) fn tell_end(
         &mut self,
         presence: &mut Presence,
@@ -118,7 +119,7 @@ impl<
         self.tell_of(account);
     }
 
-    /// All is over, also for who is in a slot of this loop.
+    /// Ends the records of all exchanges in this loop's slots, when the proxy ends.
     pub(crate) fn tell_of_rest(&mut self) {
         if self.teller.is_none() {
             return;
@@ -143,7 +144,7 @@ impl<
         self.lay(resident, hole);
     }
 
-    /// Hands out what is known of an exchange that is over.
+    /// Hands on the record of an exchange that is over.
     pub(crate) fn tell_of(&mut self, account: Box<Account>) {
         let mut account = account;
         if account.asked.is_none() && account.received == 0 && account.sent == 0 {
@@ -160,14 +161,14 @@ impl<
     }
 }
 
-/// Some of it came already.
+/// Notes that the first bytes have already come.
 pub(crate) fn note_come(presence: &mut Presence) {
     if let Some(account) = &mut presence.account {
         account.is_silent = false;
     }
 }
 
-// What was read of its client and written to it so far.
+// Adds the bytes that were read from the client and written to it so far.
 fn learn(account: &mut Account, client: &Line<Live>) {
     if let Some(meter) = client.socket().and_then(|live| live.meter()) {
         account.received = meter.received;
@@ -176,14 +177,14 @@ fn learn(account: &mut Account, client: &Line<Live>) {
     }
 }
 
-/// It waits, with this ticket.
+/// Notes that the request waits, with this ticket.
 pub(crate) fn note_ticket(presence: &mut Presence, at: Ticketed) {
     if let Some(account) = &mut presence.account {
         account.ticket = Some(at.ticket);
     }
 }
 
-/// It is told that it isn't served, for this cause; its client is gone, or isn't, and the proxy stops, or doesn't.
+/// Notes that the request is told this cause, whether its client has left, and whether the proxy stops.
 pub(crate) fn note_cause(presence: &mut Presence, cause: Cause, gone: bool, stops: bool) {
     if let Some(account) = &mut presence.account {
         match cause {
@@ -195,7 +196,7 @@ pub(crate) fn note_cause(presence: &mut Presence, cause: Cause, gone: bool, stop
     }
 }
 
-/// It is told that it gets no place, since it waited too long, or since the proxy stops.
+/// Notes that the request gets no place, since it waited too long, or since the proxy stops.
 pub(crate) fn note_refused(presence: &mut Presence, stops: bool) {
     if let Some(account) = &mut presence.account {
         let by = if stops { By::Proxy } else { By::ServerTime };
@@ -203,13 +204,13 @@ pub(crate) fn note_refused(presence: &mut Presence, stops: bool) {
     }
 }
 
-/// Whether a byte came of a server that is counted.
+/// Says whether a byte came from a server's connection whose bytes are counted.
 pub(crate) fn has_received(server: Option<&Live>) -> bool {
     let came = server.and_then(|live| live.meter());
     came.map_or(0, |meter| meter.received) != 0
 }
 
-/// Its server didn't answer, or not to the end.
+/// Notes that the server didn't answer, or not to the end.
 pub(crate) fn note_unanswered(visit: &mut Visit) {
     let Visit {
         presence,
@@ -223,7 +224,7 @@ pub(crate) fn note_unanswered(visit: &mut Visit) {
     }
 }
 
-/// Where its client is.
+/// Returns the client's address.
 pub(crate) fn client_of(presence: &Presence) -> Option<SocketAddr> {
     presence.account.as_ref().and_then(|account| account.client)
 }

@@ -22,7 +22,7 @@ impl<
     N: BoardName + Ledger,
     R: Net<Listener = TcpListener, Stream = TcpStream> + Clock + Print + Wait,
 > Looper<'a, N, R> {
-    /// Those who wait for a place get one, the first of all first, as long as there is one.
+    /// Gives places to the requests that wait for one, in the anteroom's order, as long as there are places.
     pub(crate) fn admit_all(&mut self) {
         for _ in self.rt.forever() {
             if !self.shared.has_outside() {
@@ -36,7 +36,7 @@ impl<
         }
     }
 
-    // It lies down in its place, at which this loop looks afterwards.
+    // Puts the request at its place, and looks at the place afterwards.
     fn lay_down(&mut self, outsider: Outsider, at: Ticketed) {
         let Outsider {
             presence,
@@ -64,7 +64,7 @@ impl<
         self.look_later_at(at.place);
     }
 
-    /// A place is looked at with those of which the gate was told.
+    /// Adds a place to those that the loop will look at.
     pub(crate) fn look_later_at(&mut self, place: usize) {
         let mut here = PlaceSet::new();
         if place < 4096 {
@@ -73,7 +73,7 @@ impl<
         self.gate.wake(&here);
     }
 
-    // It is told that it has no place.
+    // Tells a request that it gets no place.
     fn refuse(&mut self, outsider: Outsider) {
         let Outsider {
             presence,
@@ -94,7 +94,7 @@ impl<
         self.go(then);
     }
 
-    /// A request that found no place waits for one. It comes back where there is no memory for it, or no room.
+    /// Lets a request wait for a place. It comes back where there is no memory or no room for it.
     pub(crate) fn wait_outside(&mut self, wish: &Wish, outsider: Outsider) -> Result<(), Outsider> {
         self.shared
             .come_outside(self.rt, &self.registry, wish, outsider)?;
@@ -103,7 +103,7 @@ impl<
         Ok(())
     }
 
-    /// The poll told of a client that waits for a place. Where it left, it is through.
+    /// The poll reports a client that waits for a place. Where it has left, its request ends.
     pub(crate) fn hear_outside(&mut self, token: Token) {
         if let Some(outsider) = self.shared.leave_outside(self.rt, token) {
             let mut outsider = outsider;
@@ -117,7 +117,7 @@ impl<
         }
     }
 
-    /// All who wait for a place are told that they get none.
+    /// Tells all requests that wait for a place that they get none.
     pub(crate) fn refuse_outside(&mut self) {
         for _ in self.rt.forever() {
             let Some(outsider) = self.shared.take_first(self.rt) else {
@@ -127,7 +127,7 @@ impl<
         }
     }
 
-    /// Those who waited too long for a place are told so.
+    /// Tells the requests that waited too long for a place.
     pub(crate) fn refuse_late(&mut self, now: &Moment) {
         for _ in self.rt.forever() {
             let Some(outsider) = self.shared.take_late(self.rt, now) else {

@@ -1,4 +1,4 @@
-//! From a pass to its server's connection.
+//! From a pass to a connection to its server.
 
 ghost use Rattle.std.specs.Prelude.{◌≡◌, IfSome, true};
 
@@ -16,15 +16,15 @@ use std::sync::Wait;
 use std::sync::ledger::Ledger;
 use std::time::Clock;
 
-/// So often a connection is opened in place of one that broke before a byte reached the server.
+/// The most connections that are opened in place of ones that broke before the server got a byte.
 const MOST_REDIALS: u32 = 1;
 
-/// How a guest came by a connection.
+/// The connection that a guest was given.
 #[derive(Clone, Copy, Debug, PartialEq, Eq)]
 enum Begun {
-    /// It was opened for its request, and comes about or not.
+    /// A new one, which may still fail.
     Fresh,
-    /// It is there, since it was used before.
+    /// One that was used before.
     Used,
 }
 
@@ -33,8 +33,8 @@ impl<
     N: BoardName + Ledger,
     R: Net<Listener = TcpListener, Stream = TcpStream> + Clock + Print + Wait,
 > Looper<'a, N, R> {
-    /// A connection to the server of a guest's pass is begun, without waiting, where none is there that was used before. Where that server just failed it, some
-    /// time passes first.
+    /// Begins a connection to the server of a guest's pass, without waiting, where no used one is
+    /// free. Where that server has just failed the guest, it waits a while first.
     pub(crate) fn dial(&mut self, guest: Box<Guest<N>>, hole: Hole) -> Then<N> {
         if guest.visit.pauses || guest.linked.socket().is_some() {
             return self.keep(guest, hole, Soon::Rests);
@@ -56,8 +56,9 @@ impl<
         }
     }
 
-    // Begins a connection, where the server's name has an address by its last look-up. None: there is none to be had. By its type, what a guest has is a
-    // connection to the server of its pass.
+    // Begins a connection, where the last look-up of the server's name found an address. `None`
+    // where no connection can be had. By its type the guest's connection is one to the server of
+    // its pass.
     fn begin(&mut self, guest: &mut Guest<N>) -> Option<Begun>
         ensures { IfSome result (λ _. guest.new.linked.line.there ≡ true) }
     {
@@ -73,7 +74,7 @@ impl<
         }
     }
 
-    // Where the system is short, one that nobody uses is closed for it.
+    // Opens a connection. Where the system is short of descriptors, an unused connection is closed first.
     fn opened(&mut self, server: usize) -> Option<Live> {
         let address = self.shared.address_of(self.rt, server)?;
         let stream = match Dialing::connect(self.rt, address) {
@@ -85,7 +86,7 @@ impl<
         Some(Live::new(TcpStream::from(stream)))
     }
 
-    // What the poll tells of a connection that is begun.
+    // Registers a new connection with the poll.
     fn watch_of(&self, guest: &Guest<N>, token: Token) -> Watch {
         if !guest.visit.fresh && self.is_watched_anew(guest, token) {
             Watch::Reads
@@ -94,7 +95,7 @@ impl<
         }
     }
 
-    /// Whether a connection that was begun came about.
+    /// Finds out whether a connection that was begun has succeeded.
     pub(crate) fn look_at_connection(
         &mut self,
         guest: Box<Guest<N>>,
@@ -120,7 +121,7 @@ impl<
         self.tell(guest, hole, Notice::Connected(terms))
     }
 
-    /// There is no connection to a guest's server, whose name is looked up once more.
+    /// Handles the failure of a connection to a guest's server, whose name is looked up again.
     pub(crate) fn tell_of_no_connection(&mut self, guest: Box<Guest<N>>, hole: Hole) -> Then<N> {
         if let Some(number) = guest.linked.seated().server() {
             self.shared.front.addresses.look_again(self.rt, number);
@@ -128,8 +129,8 @@ impl<
         self.tell(guest, hole, Notice::Unreachable)
     }
 
-    /// The server's connection broke before a byte reached it, or was used before and broke before a byte of the answer came: another one takes its place, once
-    /// for each of the two.
+    /// Opens another connection in place of one that broke before it got a byte of the request, or
+    /// was used before and broke before a byte of the answer came: once for each of the two causes.
     pub(crate) fn redial(&mut self, guest: Box<Guest<N>>, hole: Hole) -> Then<N> {
         let mut guest = guest;
         let visit = &mut guest.visit;
@@ -148,7 +149,7 @@ impl<
     }
 }
 
-// What goes over it is counted for this exchange alone.
+// Counts the connection's bytes from 0 for this exchange.
 fn count_anew(server: Option<&Live>) {
     if let Some(live) = server {
         live.count_anew();

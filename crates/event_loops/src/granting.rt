@@ -1,4 +1,4 @@
-//! From a pass that was found to its guest, and back to the dispatcher.
+//! From a pass at a place to its guest, and back to the dispatcher.
 
 ghost use Rattle.std.specs.Prelude.{◌≡◌, [], false};
 ghost use Rattle.loop_shared.specs.Looks.{OwesNoLook};
@@ -25,7 +25,7 @@ impl<
     N: BoardName + Ledger,
     R: Net<Listener = TcpListener, Stream = TcpStream> + Clock + Print + Wait,
 > Looper<'a, N, R> {
-    /// Looks at each place of which the gate was told, and goes on with the guests that wait for their turn, until there are no more.
+    /// Looks at each place that the gate reported, and goes on with the guests that are ready, until none is left.
     pub(crate) fn go_on(&mut self)
         ensures told { OwesNoLook self.new.gate.woken }
         ensures soon { self.new.agenda.soon ≡ [] }
@@ -50,7 +50,7 @@ impl<
         }
     }
 
-    /// The same; and places that came free meanwhile go to those who wait for one.
+    /// The same; and gives places that came free meanwhile to requests that wait for one.
     pub(crate) fn go_on_with_places(&mut self)
         ensures told { OwesNoLook self.new.gate.woken }
         ensures soon { self.new.agenda.soon ≡ [] }
@@ -84,7 +84,8 @@ impl<
         }
     }
 
-    /// Looks at a place: the request that waits there, with its pass. None: nobody waits there, or waits on.
+    /// Looks at a place, and returns the request that waits there with its pass; `None` where no
+    /// request waits there, or it waits on.
     pub(crate) fn granted_at(&mut self, place: usize) -> Option<Granted<N>> {
         match self.shared.look_at(self.rt, &self.registry, place) {
             Looked::Granted(granted) => return Some(granted),
@@ -97,7 +98,7 @@ impl<
         None
     }
 
-    // A request has its verdict, and takes a slot of this loop.
+    // Puts a request with its verdict into a slot of this loop.
     fn take_in(&mut self, granted: Granted<N>) {
         match self.guests.open() {
             Some(hole) => {
@@ -105,7 +106,7 @@ impl<
                 self.go(then);
             }
             None => {
-                // No more guests have room than the descriptors that there are.
+                // There is no free slot: a loop has as many as its clients may have descriptors.
                 let Granted { taken, parked } = granted;
                 let mut parked = parked;
                 self.give_back(taken);
@@ -120,7 +121,8 @@ impl<
         }
     }
 
-    /// A request has its verdict: it goes on with its pass, or is told why it has none. Its client is watched so by this slot's token.
+    /// Goes on with a request that has its verdict: with its pass, or with the reason why it has
+    /// none. Its client is watched under this slot's token.
     pub(crate) fn welcome(&mut self, granted: Granted<N>, hole: Hole, watch: Watch) -> Then<N> {
         let Granted { taken, parked } = granted;
         let Parked {
@@ -160,7 +162,7 @@ impl<
         }
     }
 
-    /// A pass goes back, and what it frees is looked at before its client is told more.
+    /// Posts a pass, and looks at what that freed before the client is told more.
     pub(crate) fn part(
         &mut self,
         posting: Posting<N>,
@@ -193,14 +195,14 @@ impl<
         }
     }
 
-    /// Says how an exchange ended, and takes it back at its own place.
+    /// Posts how an exchange ended, and collects it at its own place.
     pub(crate) fn post(&mut self, posting: Posting<N>) {
         let place = posting.place();
         let lent = posting.post(self.shared.proxy.desk.board());
         self.return_seat(lent, place);
     }
 
-    // The same of one that no exchange had.
+    // Posts a pass that no exchange used.
     fn give_back(&mut self, taken: Taken<N>) {
         let place = taken.place();
         let lent = taken.post(self.shared.proxy.desk.board(), Ending::Done);

@@ -1,7 +1,9 @@
-//! Clients by how far they are.
+//! The clients of a loop in their stages.
 //!
-//! A `Guest` is one from its first byte to its last, but while its request waits: then it is `Parked` at its place, or an `Outsider`. One whose exchange is over
-//! lingers, until it closes its side. Beside them a server's connection that nobody uses has a slot, for the poll to tell of it.
+//! A `Guest` is a client from its first byte to its last, except while its request waits: then it
+//! is `Parked` at its place, or an `Outsider`. A client whose exchange is over is `Lingering` until
+//! it closes its side. An unused connection of a server has a slot too, so that the poll can report
+//! it.
 
 use crate::resetting::reset;
 use dispatch_trace::Ticketed;
@@ -22,65 +24,65 @@ pub(crate) enum Keyword {
     Connect,
     /// `timeout server`.
     Server,
-    /// How long a client stays without asking for anything.
+    /// The longest pause of a client between two requests.
     Stay,
-    /// How long a client lingers that was told everything.
+    /// How long a client lingers after its last answer.
     Linger,
-    /// How long a request waits before the server that just failed it is tried again.
+    /// How long a request waits before it tries the server again that has just failed it.
     Turnaround,
-    /// How long a server's connection stays open that nobody uses.
+    /// How long an unused connection of a server stays open.
     Unused,
 }
 
-/// What a loop has of a client beside its exchange. It has no `Drop`, as its presence has none.
+/// The state of a client beside its exchange. It has no `Drop`, since its presence has none.
 pub(crate) struct Visit {
     pub(crate) presence: Presence,
     pub(crate) client: Line<Live>,
-    /// Its place and its ticket, once it has them.
+    /// Its place and its ticket, where it has them.
     pub(crate) at: Option<Ticketed>,
-    /// The server that it was given to last.
+    /// The server that it was last given to.
     pub(crate) tried: Option<usize>,
-    /// When it began to wait for a place, where it had to.
+    /// When it began to wait for a place, if it had to.
     pub(crate) came: Option<Moment>,
-    /// Its client sends no more.
+    /// The client sends no more.
     pub(crate) ended: bool,
-    /// Its client stayed behind another request.
+    /// The client has had an earlier request on this connection.
     pub(crate) stayed: bool,
-    /// It waits before that server is tried again.
+    /// It waits before it tries that server again.
     pub(crate) pauses: bool,
-    /// So many connections were opened on its pass in place of one that broke.
+    /// The number of connections that were opened on its pass in place of ones that broke.
     pub(crate) redials: u32,
-    /// The connection to its server was opened for this request, or it has none.
+    /// Its server's connection was opened for this request, or there is none.
     pub(crate) fresh: bool,
-    /// One that was used before broke: it gets no other such.
+    /// A used connection broke: it gets no other used one.
     pub(crate) spoilt: bool,
-    /// What is to be done for it next.
+    /// What is to be done next.
     pub(crate) task: Task,
-    /// What the poll tells of its client, and of its server.
+    /// What the poll watches of its client's and its server's connection.
     pub(crate) client_watch: Watch,
     pub(crate) server_watch: Watch,
-    /// The timeout that runs for it.
+    /// The timeout that runs.
     pub(crate) timer: Option<Keyword>,
 }
 
 /// What is to be done for a guest.
 #[derive(Clone, Copy, Debug, PartialEq, Eq)]
 pub(crate) enum Task {
-    /// Bytes come and go.
+    /// Read and write.
     Serve,
-    /// Its request asks for a place.
+    /// Ask for a place for its request.
     Arrive,
-    /// Its pass is there, and no connection to its server.
+    /// Connect to the server of its pass.
     Dial,
-    /// No pass comes.
+    /// Tell it that no pass comes.
     Refuse,
-    /// Its server can't be reached.
+    /// Give its pass up, since its server can't be reached.
     GiveUp,
-    /// Its client sends no more, and doesn't wait for an answer.
+    /// End it: its client sends no more, and doesn't wait for an answer.
     Leave,
 }
 
-/// What a poll tells of a socket.
+/// What the poll watches of a socket.
 #[derive(Clone, Copy, Debug, PartialEq, Eq)]
 pub(crate) enum Watch {
     Nothing,
@@ -94,17 +96,17 @@ pub(crate) struct Guest<N: BoardName + Ledger> {
     pub(crate) visit: Visit,
 }
 
-/// A client that was told everything: what it still sends is thrown away.
+/// A client whose answer was sent whole: what it still sends is thrown away.
 #[derive(Drop)]
 pub(crate) struct Lingering {
     pub(crate) client: Live,
-    /// So many bytes more are thrown away.
+    /// The number of bytes that are still thrown away.
     pub(crate) left: usize,
-    /// Since when it lingers.
+    /// The moment when it began to linger.
     pub(crate) since: Moment,
 }
 
-/// Who is in a slot of a loop. Each is boxed, so that it doesn't move from call to call.
+/// The occupant of a loop's slot. Each is boxed, so that it isn't copied from call to call.
 pub(crate) enum Resident<N: BoardName + Ledger> {
     Guest(Box<Guest<N>>),
     Lingering(Box<Lingering>),
@@ -112,7 +114,7 @@ pub(crate) enum Resident<N: BoardName + Ledger> {
 }
 
 impl<N: BoardName + Ledger> Resident<N> {
-    /// Whether it is a client that stays, and asks for nothing, or a server's connection that nobody uses.
+    /// Says whether it is a client between two requests, or an unused connection of a server.
     pub(crate) fn is_silent(&self) -> bool {
         match self {
             Resident::Lingering(_) => false,
@@ -127,20 +129,20 @@ impl<N: BoardName + Ledger> Guest<N> {
         self.visit.stayed && self.linked.seated().is_silent()
     }
 
-    /// How far its exchange is.
+    /// Returns the stage of its exchange.
     pub(crate) fn stage(&self) -> Stage {
         self.linked.seated().stage()
     }
 }
 
 impl Visit {
-    /// Its server's connection is given up: whatever comes next is told anew.
+    /// Drops the connection to its server; the state of the next one begins anew.
     pub(crate) fn forget_server(&mut self) {
         self.server_watch = Watch::Nothing;
         self.fresh = true;
     }
 
-    /// Its client asks for more.
+    /// Prepares the visit for the client's next request.
     pub(crate) fn renew(&mut self) {
         self.forget_server();
         self.at = None;
@@ -153,7 +155,7 @@ impl Visit {
         self.task = Task::Serve;
     }
 
-    /// What goes on when its request begins to wait: that its client is here, and its client.
+    /// Separates what waits with its request: the presence of its client, and the client's connection.
     pub(crate) fn into_client(self) -> (Presence, Line<Live>) {
         let Visit {
             presence,
@@ -196,7 +198,7 @@ impl Visit {
     }
 }
 
-/// An exchange's connection to its server is given up amid a message.
+/// Resets an exchange's connection to its server amid a message.
 pub(crate) fn break_off<N: BoardName + Ledger>(linked: &Linked<N, Live>) {
     if let Some(live) = linked.socket() {
         reset(live.stream().as_raw_fd());

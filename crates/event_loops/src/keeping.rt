@@ -1,4 +1,4 @@
-//! Guests in their slots: kept until there is more to do, and let go.
+//! Guests in their slots: they are kept until there is more to do, and closed.
 
 use crate::guest::{Guest, Keyword, Resident, Visit, Watch, break_off};
 use crate::looping::Looper;
@@ -21,11 +21,11 @@ use std::time::Clock;
 pub(crate) enum Soon {
     /// At once.
     AtOnce,
-    /// Once what a returned slot woke was looked at.
+    /// Once the places that a returned slot woke were looked at.
     Next,
-    /// Once others were attended to.
+    /// Once the others have had their turn.
     Later,
-    /// Once the poll tells of a socket of its, or a time is over.
+    /// Once the poll reports one of its sockets, or a timeout expires.
     Rests,
 }
 
@@ -34,7 +34,7 @@ impl<
     N: BoardName + Ledger,
     R: Net<Listener = TcpListener, Stream = TcpStream> + Clock + Print + Wait,
 > Looper<'a, N, R> {
-    /// An exchange and its visit are a guest. Where there is no memory for it, it is over.
+    /// Makes a guest of an exchange and its visit. Where there is no memory for it, the exchange ends.
     pub(crate) fn seat(&mut self, linked: Linked<N, Live>, visit: Visit, hole: Hole) -> Then<N> {
         match Box::new(self.settings.alloc, Guest { linked, visit }) {
             Ok(guest) => Then::Goes(guest, hole),
@@ -45,7 +45,7 @@ impl<
         }
     }
 
-    /// A guest lies in its slot until there is more to do.
+    /// Puts a guest into its slot until there is more to do.
     pub(crate) fn keep(&mut self, guest: Box<Guest<N>>, hole: Hole, soon: Soon) -> Then<N> {
         let mut guest = guest;
         let token = hole.token();
@@ -65,7 +65,7 @@ impl<
         Then::Rests
     }
 
-    // The poll tells of its sockets.
+    // Registers its sockets with the poll. Says whether that succeeded.
     fn is_watched(&self, guest: &mut Guest<N>, token: Token) -> bool {
         let dials = guest.stage() == Stage::Dialing;
         let Guest { linked, visit } = guest;
@@ -80,7 +80,8 @@ impl<
             && self.watches(linked.socket(), server_watch, Subject::Server(token), dials)
     }
 
-    // It is told of it for writing too, where its last write found it full, or it is opened.
+    // Registers a socket with the poll; for writing too, where its last write was full, or where it
+    // is being opened.
     fn watches(
         &self,
         socket: Option<&Live>,
@@ -107,7 +108,7 @@ impl<
         }
     }
 
-    /// Puts who is in a slot back there.
+    /// Puts the occupant of a slot back there.
     pub(crate) fn lay(&mut self, resident: Resident<N>, hole: Hole) {
         match self.guests.fill(hole, resident) {
             Ok(()) => {}
@@ -126,13 +127,13 @@ impl<
         }
     }
 
-    /// A guest is over, however far it is: its pass is posted, and its client is through.
+    /// Ends a guest at any stage: its pass is posted, and its client's connection is closed.
     pub(crate) fn close(&mut self, guest: Box<Guest<N>>, hole: Hole) -> Then<N> {
         let Guest { linked, visit } = Box::into_inner(guest);
         self.close_on(linked, visit, hole)
     }
 
-    /// The same of one that lies in no box.
+    /// The same for a guest that isn't boxed.
     pub(crate) fn close_on(
         &mut self,
         linked: Linked<N, Live>,
@@ -160,7 +161,7 @@ impl<
         self.shared.note_end(self.rt, presence);
     }
 
-    /// A slot is free again, and no time runs for it.
+    /// Frees a slot and stops its timeout.
     pub(crate) fn close_slot(&mut self, hole: Hole, timer: Option<Keyword>) {
         self.untime(timer, hole.token().index());
         self.guests.close(hole);

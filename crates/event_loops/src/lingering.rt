@@ -1,5 +1,6 @@
-//! Clients that were told everything. The sending side is closed first, and what comes is read and thrown away: a close with bytes unread resets the connection,
-//! and so may cut the answer (RFC 9112, section 9.6).
+//! Clients whose answers were sent whole. The sending side is closed first, and what comes is read
+//! and thrown away: closing a connection with unread bytes resets it, and may cut the answer off
+//! (RFC 9112, section 9.6).
 
 use crate::guest::{Guest, Keyword, Lingering, Resident, Visit};
 use crate::looping::Looper;
@@ -17,13 +18,13 @@ use std::sync::Wait;
 use std::sync::ledger::Ledger;
 use std::time::Clock;
 
-/// So many bytes of a client that lingers are thrown away.
+/// The most bytes of a lingering client that are thrown away.
 const MOST_THROWN: usize = 1 << 26;
 
-/// So long a client lingers at most, in milliseconds, while it sends.
+/// The longest time that a client lingers while it sends, in milliseconds.
 const MOST_MILLIS: u64 = 30_000;
 
-/// So often it is read in a row, before others are attended to.
+/// The most reads in a row before the others get their turn.
 const READS: usize = 64;
 
 impl<
@@ -31,13 +32,13 @@ impl<
     N: BoardName + Ledger,
     R: Net<Listener = TcpListener, Stream = TcpStream> + Clock + Print + Wait,
 > Looper<'a, N, R> {
-    /// A guest was told everything: it is through, and lingers.
+    /// Lets a guest linger whose answer was sent whole.
     pub(crate) fn finish(&mut self, guest: Box<Guest<N>>, hole: Hole) -> Then<N> {
         let Guest { linked, visit } = Box::into_inner(guest);
         self.finish_on(linked, visit, hole)
     }
 
-    /// The same of one that lies in no box.
+    /// The same for a guest that isn't boxed.
     pub(crate) fn finish_on(
         &mut self,
         linked: Linked<N, Live>,
@@ -76,7 +77,7 @@ impl<
         Then::Rests
     }
 
-    /// What a client that lingers sends is thrown away.
+    /// Reads and throws away what a lingering client sends.
     pub(crate) fn listen(&mut self, lingering: Box<Lingering>, hole: Hole) {
         let mut lingering = lingering;
         for _ in 0..READS {
@@ -96,7 +97,7 @@ impl<
         self.lay(Resident::Lingering(lingering), hole);
     }
 
-    // It sent something: its time begins anew, for a while.
+    // Restarts its timeout since it sent something, within a limit.
     fn linger_on(&mut self, lingering: &Lingering, key: usize) {
         let now = self.gate.moment();
         if now.get().saturating_sub(lingering.since.get()) < MOST_MILLIS {
@@ -105,7 +106,7 @@ impl<
         }
     }
 
-    // The poll tells when more comes. Where too many linger, it is closed at once.
+    // Puts it into its slot until the poll reports more bytes. Where too many linger, it is closed at once.
     fn linger(&mut self, lingering: Box<Lingering>, hole: Hole) {
         let connection = lingering.client.stream().as_raw_fd();
         let subject = Subject::Client(hole.token());
@@ -118,7 +119,7 @@ impl<
         }
     }
 
-    /// A client lingers no more.
+    /// Closes a lingering client.
     pub(crate) fn end_lingering(&mut self, hole: Hole) {
         self.lingering = self.lingering.saturating_sub(1);
         self.close_slot(hole, Some(Keyword::Linger));

@@ -19,10 +19,10 @@ use std::time::{Clock, Duration};
 
 const EVENTS: usize = 256;
 
-/// No time is over before all that the poll has to tell was looked at, but for so many times as many events.
+/// The most batches of events that are read before timeouts are judged.
 const BATCHES: u32 = 64;
 
-/// One loop: a thread's guests, and what it works with.
+/// A loop: a thread's guests, and its tools.
 pub(crate) struct Looper<'a, N: BoardName + Ledger, R> {
     pub(crate) rt: &'a R,
     pub(crate) shared: &'a Shared<'a, N>,
@@ -32,28 +32,29 @@ pub(crate) struct Looper<'a, N: BoardName + Ledger, R> {
     pub(crate) gate: SocketGate<'a, R>,
     pub(crate) settings: Settings,
     pub(crate) guests: Slots<Resident<N>>,
-    /// So many slots there are.
+    /// The number of slots.
     pub(crate) room: usize,
     pub(crate) limits: Limits,
     pub(crate) keywords: Keywords,
-    /// What is read goes here first.
+    /// The buffer for reads.
     pub(crate) buffer: Vec<u8>,
-    /// Connections of servers that nobody uses.
+    /// The unused connections of servers.
     pub(crate) shelves: Shelves,
-    /// Guests with more to do, by their slots: once what was woken was looked at, and once others were attended to.
+    /// The guests with more to do, by their slots: those for after the look at the woken places,
+    /// and those for after the others' turn.
     pub(crate) agenda: Agenda,
     /// More clients may wait at the listener.
     pub(crate) more: bool,
-    /// Something was short: descriptors, slots.
+    /// Descriptors or slots were short.
     pub(crate) short: bool,
-    /// When what was short was last tried again.
+    /// When the loop last tried again after a shortage.
     pub(crate) tried: Moment,
-    /// A place may have come free for those who wait for one.
+    /// A place may have come free for a request that waits for one.
     pub(crate) freed: bool,
-    /// So many clients linger, and so many may.
+    /// The number of lingering clients, and the most that there may be.
     pub(crate) lingering: usize,
     pub(crate) most_lingering: usize,
-    /// Who is told of exchanges that ended, where lines of them are wanted.
+    /// The sink for records of ended exchanges, where lines of them are wanted.
     pub(crate) teller: Option<Teller<'a>>,
     ghost buffered: { 0 < vec_len buffer },
 }
@@ -63,7 +64,8 @@ impl<
     N: BoardName + Ledger,
     R: Net<Listener = TcpListener, Stream = TcpStream> + Clock + Print + Wait,
 > Looper<'a, N, R> {
-    /// Until all clients that may come were served. Then what is still under way is over, and its passes are posted.
+    /// Runs until all clients that may come were served. Then it ends what is still under way, and
+    /// posts its passes.
     pub(crate) fn run(self, poll: Poll) {
         let mut looper = self;
         looper.go_round(poll);
@@ -128,7 +130,8 @@ impl<
         }
     }
 
-    // Waits until the poll has something to tell or a time is over, unless more is known to be there. No look is owed then, and nobody waits for his turn.
+    // Waits until the poll reports something or a timeout expires, unless there is more to do. No
+    // look at a place is owed then, and no guest waits for its turn.
     fn sleep(&mut self, poll: &mut Poll, events: &mut Events, is_more: bool)
         requires told { OwesNoLook self.old.gate.woken }
         requires soon { self.old.agenda.soon ≡ [] }
@@ -137,17 +140,18 @@ impl<
         let wait = if is_more { Some(0) } else { self.patience() };
         let _ = poll.poll(events, wait.map(Duration::from_millis));
         if events.iter().count() == 0 {
-            // A wait that a signal ended tells of nothing, whatever there is: no time is over before that was looked at.
+            // A wait that a signal ended reports nothing, whatever there is. So the poll is asked
+            // again before timeouts are judged.
             let _ = poll.poll(events, Some(Duration::from_millis(0)));
         }
     }
 
-    /// Whether there is something to do at once.
+    /// Says whether there is something to do at once.
     pub(crate) fn has_more(&self) -> bool {
         self.more || !self.agenda.puts_nothing_off()
     }
 
-    // Servers, clients and requests that wait first, then what others were told, the listener last.
+    // Attends to servers, clients and waiting requests first, then to the mailbox, and to the listener last.
     fn attend(&mut self, events: &Events) {
         self.agenda.turn_over();
         self.go_on_with_places();
@@ -174,7 +178,7 @@ impl<
         }
     }
 
-    // What others were told of places.
+    // Reads what other loops report of places.
     fn open_mail(&mut self) {
         let places = self.shared.take_mail(self.rt, self.home);
         self.gate.wake(&places);
@@ -189,7 +193,7 @@ impl<
     }
 }
 
-// A guest is over with all the others: its pass is posted, and its seat comes back.
+// Ends a guest when the loop ends: its pass is posted, and its seat is returned.
 fn part_with<R: Wait, N: BoardName + Ledger>(
     rt: &R,
     shared: &Shared<'_, N>,

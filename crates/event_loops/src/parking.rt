@@ -23,7 +23,7 @@ impl<
     N: BoardName + Ledger,
     R: Net<Listener = TcpListener, Stream = TcpStream> + Clock + Print + Wait,
 > Looper<'a, N, R> {
-    /// A guest's request asks for a place. Who finds none, or others who wait for one, waits outside.
+    /// Asks for a place for a guest's request. Where there is none, or others wait for one, it waits outside.
     pub(crate) fn arrive(&mut self, guest: Box<Guest<N>>, hole: Hole) -> Then<N> {
         let Guest { linked, visit } = Box::into_inner(guest);
         match linked.into_queued() {
@@ -50,14 +50,14 @@ impl<
         }
     }
 
-    // The dispatcher doesn't take it, for another cause than want of places.
+    // Ends a request that the dispatcher refuses for another cause than want of places.
     fn turn_away(&mut self, queued: Queued, visit: Visit, hole: Hole) -> Then<N> {
         let mut visit = visit;
         visit.task = Task::Refuse;
         self.seat(Linked::unseated(self.settings.alloc, queued), visit, hole)
     }
 
-    // It waits for a place.
+    // Lets a request wait for a place.
     fn go_outside(&mut self, queued: Queued, visit: Visit, wish: &Wish, hole: Hole) -> Then<N> {
         self.untime(visit.timer, hole.token().index());
         let (presence, client) = visit.into_client();
@@ -89,7 +89,7 @@ impl<
         }
     }
 
-    // It lies down in its place, which is looked at afterwards.
+    // Puts the request at its place, and looks at the place afterwards.
     fn park(&mut self, queued: Queued, visit: Visit, at: Ticketed, hole: Hole) -> Then<N> {
         self.untime(visit.timer, hole.token().index());
         let watch = visit.client_watch;
@@ -121,7 +121,8 @@ impl<
         }
     }
 
-    /// Its server couldn't be reached: it lies down anew, then its pass is posted, and then its place is looked at.
+    /// Handles a request whose server couldn't be reached: it is put at its place again, then its
+    /// pass is posted, and then the place is looked at.
     pub(crate) fn fail(
         &mut self,
         posting: Posting<N>,
@@ -157,12 +158,12 @@ impl<
             }
         }
         self.post(posting);
-        // A thread that took the failure back before this one may have found nothing to go on with.
+        // Another thread that collected the failure before may have found no request here yet.
         self.look_later_at(place);
         Then::Rests
     }
 
-    /// The poll told of a client that waited. Where it left, its request is given up.
+    /// The poll reports a client whose request waits. Where it has left, its request is aborted.
     pub(crate) fn hear_waiting(&mut self, place: usize, ticket: u64) {
         if self.shared.lies_left(self.rt, place, ticket) {
             self.shared.proxy.give_up(self.rt, &mut self.gate, ticket);

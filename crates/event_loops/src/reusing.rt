@@ -1,7 +1,8 @@
-//! Connections of servers that stay for further requests (`run --reuse`).
+//! Connections of servers that stay open for further requests (`run --reuse`).
 //!
-//! One whose exchange ended clean lies in a slot of its loop, and the poll tells of it: whatever comes on it closes it, bytes or its end. The last used is the
-//! first that is used again, once a read found nothing on it.
+//! A connection whose exchange ended clean gets a slot of its loop, and the poll watches it: bytes
+//! or an end on it close it. The last one used is the first to be used again, once a read has found
+//! nothing on it.
 
 ghost use Rattle.std.specs.Bool.{OnTrue};
 ghost use Rattle.std.specs.Prelude.{◌≡◌, true};
@@ -22,17 +23,17 @@ use std::sync::Wait;
 use std::sync::ledger::Ledger;
 use std::time::Clock;
 
-/// The unused connections of a loop: of each server their slots, the last used last.
+/// The unused connections of a loop: the slots of each server's, the last one used last.
 #[derive(Drop)]
 pub(crate) struct Shelves {
     shelves: Vec<Vec<Token>>,
-    /// So many there are in all, and so many there may be.
+    /// The number of all of them, and the most that there may be.
     count: usize,
     most: usize,
 }
 
 impl Shelves {
-    /// None, of so many servers, of which there may be so many in all.
+    /// Makes empty shelves for this number of servers and at most this number of connections.
     pub(crate) fn empty(alloc: Global, servers: usize, most: usize) -> Result<Shelves, AllocError> {
         let mut shelves = Vec::with_capacity(alloc, servers)?;
         for _ in 0..servers {
@@ -49,7 +50,7 @@ impl Shelves {
         self.shelves.len()
     }
 
-    /// One more. False: there are as many as there may be, or there is no memory for it.
+    /// Adds a connection. False where there are as many as there may be, or no memory for one more.
     fn put(&mut self, server: usize, token: Token) -> bool {
         if self.most <= self.count {
             return false;
@@ -64,19 +65,19 @@ impl Shelves {
         is_put
     }
 
-    /// The last used of a server, which is none any more.
+    /// Takes the last used connection of a server.
     fn take(&mut self, server: usize) -> Option<Token> {
         let token = self.shelves.get_mut(server)?.pop()?;
         self.count = self.count.saturating_sub(1);
         Some(token)
     }
 
-    /// The one that nobody used for longest. `O(n)`.
+    /// Returns the connection that has been unused for longest. `O(n)`.
     fn oldest(&self, server: usize) -> Option<Token> {
         self.shelves.get(server)?.first().copied()
     }
 
-    /// One is none any more. `O(n)`.
+    /// Removes a connection. `O(n)`.
     fn forget(&mut self, server: usize, token: Token) {
         if let Some(shelf) = self.shelves.get_mut(server) {
             let before = shelf.len();
@@ -92,8 +93,8 @@ impl<
     N: BoardName + Ledger,
     R: Net<Listener = TcpListener, Stream = TcpStream> + Clock + Print + Wait,
 > Looper<'a, N, R> {
-    /// A guest's exchange is over for its server: the connection stays where that is asked for and the exchange ended clean, and is given up where the answer isn't
-    /// whole.
+    /// Takes the server's connection from a guest: it is kept where reuse is on and the exchange
+    /// ended clean, and reset where the answer isn't whole.
     pub(crate) fn release_server(&mut self, guest: &mut Guest<N>) {
         let Guest { linked, visit } = guest;
         if !linked.seated().is_answered() {
@@ -107,7 +108,8 @@ impl<
         }
     }
 
-    // Closed where the server has as many as it may, or the system or memory is short.
+    // Keeps a connection, or closes it where the server has as many as it may, or where memory or
+    // the system is short.
     fn set_aside(&mut self, unused: Unused<Live>) {
         let server = unused.server();
         if self.shared.is_stopping() || !self.shared.note_unused(server) {
@@ -137,8 +139,8 @@ impl<
         }
     }
 
-    /// A connection to a guest's server that was used before becomes its own, where its request may have one. Where it has none, and the server has too many,
-    /// one is closed for the one that is opened.
+    /// Gives the guest a used connection to its server, where its request may have one. Where there
+    /// is none and the server has too many, an unused one is closed to make room for a new one.
     pub(crate) fn takes_up(&mut self, guest: &mut Guest<N>, server: usize) -> bool
         ensures { OnTrue result (guest.new.linked.line.there ≡ true) }
     {
@@ -161,7 +163,7 @@ impl<
         false
     }
 
-    /// Closes the connections that other loops call for.
+    /// Closes the connections that other loops ask for.
     pub(crate) fn close_called_for(&mut self) {
         for server in 0..self.shelves.servers() {
             if self.shelves.oldest(server).is_some() && self.shared.is_one_called_for(server) {
@@ -170,7 +172,7 @@ impl<
         }
     }
 
-    /// Closes a connection that nobody uses, of any server. False: there is none.
+    /// Closes an unused connection of any server. False where there is none.
     pub(crate) fn close_any(&mut self) -> bool {
         for server in 0..self.shelves.servers() {
             if self.close_oldest(server) {
@@ -180,7 +182,7 @@ impl<
         false
     }
 
-    // The one of a server that nobody used for longest.
+    // Closes a server's connection that has been unused for longest.
     fn close_oldest(&mut self, server: usize) -> bool {
         let Some(token) = self.shelves.oldest(server) else {
             return false;
@@ -201,7 +203,7 @@ impl<
         }
     }
 
-    // The last used, out of its slot.
+    // Takes the last used connection out of its slot.
     fn take_unused(&mut self, server: usize) -> Option<Unused<Live>> {
         for _ in self.rt.forever() {
             let token = self.shelves.take(server)?;
@@ -220,7 +222,7 @@ impl<
         unreachable!()
     }
 
-    /// Something came on a connection that nobody uses, or its time is over: it is closed.
+    /// Closes an unused connection on which something came, or whose time is over.
     pub(crate) fn end_unused(&mut self, unused: Box<Unused<Live>>, hole: Hole) {
         let server = unused.server();
         self.shelves.forget(server, hole.token());
@@ -228,7 +230,7 @@ impl<
         self.shared.note_used(server);
     }
 
-    /// The poll tells of a connection that is used again.
+    /// Registers a connection that is used again with the poll.
     pub(crate) fn is_watched_anew(&self, guest: &Guest<N>, token: Token) -> bool {
         match guest.linked.socket() {
             None => false,

@@ -1,4 +1,4 @@
-//! What a guest's exchange is told, and what it gives away.
+//! The events and results of a guest's exchange.
 
 use crate::accounting::has_received;
 use crate::guest::{Guest, Keyword, Resident, Task, Visit};
@@ -16,13 +16,13 @@ use std::time::Clock;
 
 /// Whether there is more to do for a guest.
 pub(crate) enum Then<N: BoardName + Ledger> {
-    /// There is, at once.
+    /// There is more to do at once.
     Goes(Box<Guest<N>>, Hole),
-    /// It lies where it is found, or is over.
+    /// It was put away, or is over.
     Rests,
 }
 
-/// What a poll tells of a socket.
+/// The poll's report of a socket.
 #[derive(Clone, Copy)]
 pub(crate) struct Told {
     pub(crate) reads: bool,
@@ -51,7 +51,8 @@ impl<
     N: BoardName + Ledger,
     R: Net<Listener = TcpListener, Stream = TcpStream> + Clock + Print + Wait,
 > Looper<'a, N, R> {
-    /// The poll told of a client. A reset ends its exchange, whatever it is at; an end of its input only where `option abortonclose` says so.
+    /// Handles the poll's report of a client. A reset ends its exchange at any stage; an end of its
+    /// input only under `option abortonclose`.
     pub(crate) fn hear_client(&mut self, token: Token, told: Told) {
         let Some((resident, hole)) = self.guests.lend(token) else {
             return;
@@ -75,12 +76,12 @@ impl<
         }
     }
 
-    // Whether a client sends no more, and `option abortonclose` says that it waits for no answer then.
+    // Says whether a client sends no more and, under `option abortonclose`, waits for no answer.
     fn has_left(&self, guest: &Guest<N>) -> bool {
         guest.visit.ended && self.settings.rules.aborts && guest.linked.seated().has_asked()
     }
 
-    /// The poll told of a server's connection.
+    /// Handles the poll's report of a server's connection.
     pub(crate) fn hear_server(&mut self, token: Token, told: Told) {
         let Some((resident, hole)) = self.guests.lend(token) else {
             return;
@@ -100,7 +101,7 @@ impl<
         }
     }
 
-    /// Goes on with who is in a slot.
+    /// Goes on with the occupant of a slot.
     pub(crate) fn work(&mut self, token: Token) {
         let Some((resident, hole)) = self.guests.lend(token) else {
             return;
@@ -147,7 +148,7 @@ impl<
         self.settle(carried, visit, hole, soon)
     }
 
-    /// Tells a guest's exchange something.
+    /// Reports an event to a guest's exchange.
     pub(crate) fn tell(&mut self, guest: Box<Guest<N>>, hole: Hole, notice: Notice) -> Then<N> {
         let Guest { linked, visit } = Box::into_inner(guest);
         let mut visit = visit;
@@ -194,7 +195,7 @@ impl<
         }
     }
 
-    // What an exchange gave away that is over since there was no memory for it.
+    // Posts the pass of an exchange that ended for want of memory.
     fn give_up_with(&mut self, given: Given<N>) {
         match given {
             Given::Nothing | Given::Retries => {}
@@ -202,7 +203,7 @@ impl<
         }
     }
 
-    // Where it goes from here, by its stage.
+    // Decides by its stage where a guest goes next.
     fn place(&mut self, guest: Box<Guest<N>>, hole: Hole, soon: Soon) -> Then<N> {
         if self.has_left(&guest) {
             let mut guest = guest;
@@ -225,7 +226,7 @@ impl<
     }
 }
 
-// This is to be done for a guest next.
+// Sets the guest's next task.
 fn next<N: BoardName + Ledger>(guest: Box<Guest<N>>, hole: Hole, task: Task) -> Then<N> {
     let mut guest = guest;
     guest.visit.task = task;

@@ -17,7 +17,7 @@ impl<
     N: BoardName + Ledger,
     R: Net<Listener = TcpListener, Stream = TcpStream> + Clock + Print + Wait,
 > Looper<'a, N, R> {
-    /// A guest was told everything: it asks again where it may, and else is through.
+    /// Ends a guest's exchange: its client may ask again where both sides keep the connection, and else lingers.
     pub(crate) fn end_or_ask_again(&mut self, guest: Box<Guest<N>>, hole: Hole) -> Then<N> {
         let Guest { linked, visit } = Box::into_inner(guest);
         match linked.ask_again(self.settings.alloc) {
@@ -40,7 +40,7 @@ impl<
         }
     }
 
-    /// Clients that stay and ask for nothing are through, and so are connections of servers that nobody uses.
+    /// Closes clients between two requests, and unused connections of servers.
     pub(crate) fn dismiss_silent(&mut self) {
         for index in 0..self.room {
             self.dismiss_silent_at(index);

@@ -1,4 +1,4 @@
-//! The threads: loops, and one that has servers checked.
+//! The threads: the loops, and one that checks the servers.
 
 use crate::looping::Looper;
 use crate::reusing::Shelves;
@@ -20,29 +20,29 @@ use std::thread;
 use std::thread::{JoinHandle, Scope, Threads};
 use std::time::Clock;
 
-/// So many bytes are read at once, at most.
+/// The most bytes of one read.
 const BUFFER: usize = 16_384;
 
-/// So often each direction of an exchange moves, before others are attended to.
+/// The most moves of each direction of an exchange before the others get their turn.
 const TURNS: u32 = 4;
 
-/// So many guests a loop has at once, at most.
+/// The most guests of a loop.
 const MOST_GUESTS: u64 = 16_384;
 
-/// So many of its clients linger at once, at most.
+/// The most lingering clients of a loop.
 const MOST_LINGERING: u64 = 4096;
 
-/// So many connections of servers that nobody uses a loop has at once, at most.
+/// The most unused connections of a loop.
 const MOST_UNUSED: u64 = 4096;
 
-/// A loop that isn't begun yet.
+/// A loop that hasn't started yet.
 #[derive(Drop)]
 pub struct Unbegun {
     poll: Poll,
     home: usize,
 }
 
-/// A loop for each poll.
+/// Makes a loop for each poll.
 pub fn loops_of(alloc: Global, polls: Vec<Poll>) -> Result<Vec<Unbegun>, AllocError> {
     let mut loops = Vec::new(alloc);
     for (home, poll) in polls.into_iter().enumerate() {
@@ -51,7 +51,7 @@ pub fn loops_of(alloc: Global, polls: Vec<Poll>) -> Result<Vec<Unbegun>, AllocEr
     Ok(loops)
 }
 
-/// A scope with all threads in it. It returns once all is over and each thread has ended.
+/// Runs all threads in a scope. It returns once the proxy has ended and each thread has.
 pub fn run_all<
     R: Net<Listener = TcpListener, Stream = TcpStream> + Clock + Print + Threads + Wait + Sync,
     N: BoardName + Ledger + Send + Sync,
@@ -88,7 +88,7 @@ pub fn run_all<
     })
 }
 
-// A thread that runs beside the loops. Where it can't be started, all is over.
+// Starts a thread beside the loops. Where that fails, the proxy ends.
 fn kept<R: Wait, N: BoardName + Ledger, T>(
     rt: &R,
     shared: &Shared<'_, N>,
@@ -106,7 +106,7 @@ fn join<R: Threads + Wait>(rt: &R, thread: Option<JoinHandle<()>>) {
     }
 }
 
-// A thread for each loop, the last one first. Where one can't be started, all is over.
+// Starts a thread for each loop, the last one first. Where one can't be started, the proxy ends.
 fn begin_loops<
     's,
     E,
@@ -142,7 +142,7 @@ fn run_loop<
     }
 }
 
-// Fails where the system has no poll to spare, too.
+// Makes a loop. Fails also where the system refuses a poll.
 fn looper<
     'a,
     R: Net<Listener = TcpListener, Stream = TcpStream> + Clock + Print + Wait,
@@ -201,7 +201,7 @@ fn looper<
     })
 }
 
-// What a loop tells of its exchanges with.
+// Makes the sink for a loop's records.
 fn teller_of<'a, R: Wait, N: BoardName + Ledger>(
     rt: &R,
     shared: &'a Shared<'a, N>,
@@ -209,7 +209,8 @@ fn teller_of<'a, R: Wait, N: BoardName + Ledger>(
     shared.front.log?.teller(rt)
 }
 
-/// What lends threads what they share. Of a type parameter it is known by a bound alone that it may be shared, so that it is shown of `Shared` once.
+/// Lends threads the data that they share. Whether a type parameter may be shared is known only
+/// from a bound, so this trait shows it once, for `Shared`.
 pub trait Lends<N: BoardName + Ledger> {
     fn lend(&self) -> &Shared<'_, N>;
 }

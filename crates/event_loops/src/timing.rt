@@ -1,4 +1,4 @@
-//! The times of a loop.
+//! The timeouts of a loop.
 
 use crate::guest::{Guest, Keyword, Resident, Visit};
 use crate::keeping::Soon;
@@ -16,22 +16,23 @@ use std::sync::Wait;
 use std::sync::ledger::Ledger;
 use std::time::Clock;
 
-/// How soon a loop looks again at what was short, in milliseconds.
+/// How soon a loop tries again after a shortage, in milliseconds.
 const SOON: u64 = 10;
 
-/// How seldom a loop looks at the dispatcher's queues, at most, in milliseconds.
+/// The longest time between two looks at the dispatcher's queues, in milliseconds.
 const SELDOM: u64 = 1000;
 
 /// How long a client lingers, in milliseconds.
 const LINGER: u64 = 2000;
 
-/// How long a server's connection stays open that nobody uses, in milliseconds: as long as HAProxy's `pool-purge-delay`, unless that is given there.
+/// How long an unused connection of a server stays open, in milliseconds: the default of HAProxy's
+/// `pool-purge-delay`.
 const UNUSED: u64 = 5000;
 
-/// How long a request waits at most before the server that just failed it is tried again, in milliseconds.
+/// The longest wait of a request before it tries the server again that has just failed it, in milliseconds.
 const TURNAROUND: u64 = 1000;
 
-/// The numbers that the timeouts have in a loop's table. None: without an end.
+/// The numbers of the timeouts in a loop's table. `None`: without limit.
 #[derive(Clone, Copy)]
 pub(crate) struct Keywords {
     client: Option<usize>,
@@ -44,7 +45,7 @@ pub(crate) struct Keywords {
 }
 
 impl Keywords {
-    /// Those of what gates share, for the keys below `room`.
+    /// Makes the timeouts from the settings that all gates share, for the keys below `room`.
     pub(crate) fn of(
         alloc: Global,
         front: &Front<'_>,
@@ -90,7 +91,7 @@ fn timed(
     }
 }
 
-// The timeout that is to run for a guest.
+// Returns the timeout that is to run for a guest.
 fn wanted<N: BoardName + Ledger>(seated: &Seated<N>, visit: &Visit) -> Option<Keyword> {
     if visit.pauses {
         return Some(Keyword::Turnaround);
@@ -109,7 +110,7 @@ impl<
     N: BoardName + Ledger,
     R: Net<Listener = TcpListener, Stream = TcpStream> + Clock + Print + Wait,
 > Looper<'a, N, R> {
-    /// The timeout that a guest is under runs for it, and no other.
+    /// Makes the timeout of the guest's stage run for it, and no other.
     pub(crate) fn time(&mut self, seated: &Seated<N>, visit: &mut Visit, key: usize) {
         let wanted = wanted(seated, visit);
         if visit.timer != wanted {
@@ -131,7 +132,7 @@ impl<
         }
     }
 
-    /// Bytes moved at a side of a guest: where its timeout is that side's, it begins anew.
+    /// Restarts the guest's timeout where bytes moved at the side that it limits.
     pub(crate) fn note_moved(
         &mut self,
         visit: &Visit,
@@ -148,7 +149,7 @@ impl<
         }
     }
 
-    /// How many milliseconds the poll may wait. None: until it has something to tell.
+    /// Returns how many milliseconds the poll may wait; `None` is without limit.
     pub(crate) fn patience(&self) -> Option<u64> {
         if self.has_more() {
             return Some(0);
@@ -166,7 +167,7 @@ impl<
         least
     }
 
-    /// Looks at what is over.
+    /// Handles the timeouts that expired.
     pub(crate) fn look_at_limits(&mut self) {
         let now = self.gate.moment();
         self.limits.look_at_clock(now);
@@ -187,7 +188,7 @@ impl<
         }
     }
 
-    // Requests that waited too long for a pass are told so.
+    // Tells the requests that waited too long for a pass.
     fn look_at_queues(&mut self) {
         let now = self.gate.moment();
         if self.shared.proxy.desk.expired(self.rt, now) {
@@ -196,13 +197,14 @@ impl<
         }
         if let Some(millis) = self.shared.proxy.config.queue_timeout {
             self.refuse_late(&now);
-            // Of those who waited for their place the time counts from their coming on, which the dispatcher doesn't know.
+            // A request that waited for its place is timed from its arrival there, which the
+            // dispatcher doesn't know.
             self.give_up(&Hopeless::Late { now, millis });
         }
         self.shared.look_for_waits(self.rt);
     }
 
-    // Requests that wait at their places are given up.
+    // Gives up requests that wait at their places.
     fn give_up(&mut self, hopeless: &Hopeless) {
         let mut from = 0;
         for _ in self.rt.forever() {
@@ -215,13 +217,13 @@ impl<
         self.go_on();
     }
 
-    /// Who waits for a place or for a pass is told that it isn't served.
+    /// Tells all requests that wait for a place or for a pass that they aren't served.
     pub(crate) fn refuse_waiting(&mut self) {
         self.refuse_outside();
         self.give_up(&Hopeless::All);
     }
 
-    // A timeout is over for who is in a slot.
+    // Handles the timeout of a slot's occupant.
     fn end_time(&mut self, overdue: Overdue) {
         let Overdue { keyword: _, key } = overdue;
         let Some(token) = self.guests.token_of(key) else {

@@ -1,4 +1,4 @@
--- What becomes of an exchange that is driven.
+-- The effect of driving an exchange.
 use Rattle.std.specs.Prelude.{◌≡◌, ◌≢◌, Bool, true, false, []}
 use Rattle.exchange_machine.specs.Histories.{History}
 use Rattle.mixed_exchange.specs.Steps.{IsAt, ended, reads_client, reads_server, writes_server, to_client}
@@ -15,8 +15,9 @@ pub record AreSameTerms (h now : History) : Type 0 where
   pub tries : now.tries ≡ h.tries
   pub adds : now.adds ≡ h.adds
 
--- What came of both sockets is what the history says came of the client and of the server, but for what waits; and what the sockets took is what it says both
--- were sent. Behind it the exchange goes on as another and gives this away.
+-- The bytes that came from both sockets are those that the history says came from the client and
+-- the server, except for the bytes that wait; the bytes that the sockets took are those that it
+-- says both were sent. Afterwards the exchange is `next`, and has given this away.
 pub record Drives (client_old client_new server_old server_new : Wire) (client_moved server_moved : Bool) (h : History) (next : Exchange) (outcome : Outcome) : Type 0 where
   pub now : History
   pub client : Carries client_old client_new h.client_in now.client_in h.to_client now.to_client client_moved
@@ -24,7 +25,7 @@ pub record Drives (client_old client_new server_old server_new : Wire) (client_m
   pub same : AreSameTerms h now
   pub at : IsAt next (ended outcome now)
 
--- at which side a move moved bytes
+-- the side at which a move moved bytes
 abbrev pub at_client : Did → Bool
 at_client Rests = false
 at_client Client = true
@@ -37,17 +38,18 @@ at_server Client = false
 at_server Server = true
 at_server Tells = false
 
--- nothing can be done for the client's answer: what it is sent was last answered to be full, and what its server sends, that nothing is there
+-- nothing can be done for the answer: the client's socket was full at the last write, and nothing
+-- was there at the last read from the server
 pub record IsDownAtRest (x : Exchange) (client server : Wire) : Type 0 where
   pub writes : to_client x ≢ [] → client.full ≡ true
   pub reads : reads_server x ≡ true → (server.waits ≡ []) × (server.dry ≡ true)
 
--- nothing can be done for the server's request
+-- nothing can be done for the request, in the same sense
 pub record IsUpAtRest (x : Exchange) (client server : Wire) : Type 0 where
   pub writes : writes_server x ≡ true → server.full ≡ true
   pub reads : reads_client x ≡ true → (client.waits ≡ []) × (client.dry ≡ true)
 
--- nothing changed
+-- nothing has changed
 pub record IsSame (x y : Exchange) (client_old client_new server_old server_new : Wire) : Type 0 where
   pub exchange : y ≡ x
   pub client : client_new ≡ client_old

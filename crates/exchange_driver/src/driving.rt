@@ -13,25 +13,26 @@ use crate::socket::Socket;
 use mixed_exchange::{Exchange, Outcome, Rules};
 use std::alloc::Global;
 
-/// With what an exchange is driven.
+/// The settings with which an exchange is driven.
 #[derive(Clone, Copy)]
 pub struct Settings {
     pub alloc: Global,
     pub rules: Rules,
-    /// So many times each direction moves at most, before others are attended to.
+    /// The most moves of each direction before the others get their turn.
     pub turns: u32,
 }
 
-/// What a driver comes to rest at.
+/// What a driver rests at.
 #[derive(Clone, Copy, Debug, PartialEq, Eq)]
 pub enum Rest {
-    /// There is nothing to do before a poll tells of one of both sockets.
+    /// There is nothing to do before the poll reports one of the two sockets.
     Waits,
-    /// There is more to do, now.
+    /// There is more to do at once.
     Again,
 }
 
-/// An exchange that was driven: what it gave away, at which side bytes moved, and whether there is more to do.
+/// The result of driving an exchange: what it gave away, the sides at which bytes moved, and
+/// whether there is more to do.
 pub struct Driven {
     pub exchange: Exchange,
     pub outcome: Outcome,
@@ -40,15 +41,16 @@ pub struct Driven {
     pub rest: Rest,
 }
 
-// At which side bytes moved so far.
+// The sides at which bytes have moved so far.
 #[derive(Clone, Copy)]
 struct Moves {
     client: bool,
     server: bool,
 }
 
-/// Reads and writes until there is nothing to read and nothing to write, or the exchange gives something away, or the turns are spent. Both directions take
-/// turns. Each turn is a call of the system, or two.
+/// Reads and writes until there is nothing to read and nothing to write, or the exchange gives
+/// something away, or the turns are spent. The two directions alternate. Each turn is one or two
+/// system calls.
 pub fn drive<C: Socket, S: Socket>(
     exchange: Exchange,
     settings: Settings,
@@ -175,7 +177,7 @@ fn rests(exchange: Exchange) -> Turned
     }
 }
 
-// What waits for the client goes out, or else more of the answer is read.
+// Writes what waits for the client, or else reads more of the answer.
 fn move_down<C: Socket, S: Socket>(
     exchange: Exchange,
     settings: Settings,
@@ -207,7 +209,7 @@ fn move_down<C: Socket, S: Socket>(
     hear_server(exchange, settings, client, server, &mut buffer[..most])
 }
 
-// What waits for the server goes out, or else more of the request is read.
+// Writes what waits for the server, or else reads more of the request.
 fn move_up<C: Socket, S: Socket>(
     exchange: Exchange,
     settings: Settings,

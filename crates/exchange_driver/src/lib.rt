@@ -1,6 +1,8 @@
-//! An exchange driven over two streams that never wait: what comes of them goes into the machine, and what it has to send goes out.
+//! An exchange that is driven over two non-blocking streams: the bytes that come go into the state
+//! machine, and the bytes that it has to send go out.
 //!
-//! A driver comes to rest only for what last answered that nothing is there, or that it is full: so no edge of a poll is lost.
+//! A driver rests only where the last read found nothing, or the last write was full: so no edge of
+//! an edge-triggered poll is lost.
 #![tactic(auto)]
 
 mod driving;

@@ -8,7 +8,8 @@ use exchange_machine::forget;
 use std::alloc::Global;
 use std::marker::Model;
 
-/// One side of an exchange: its socket, where there is one, and what came of it that the exchange didn't take yet.
+/// One side of an exchange: its socket, where there is one, and the bytes from it that the exchange
+/// hasn't taken yet.
 #[derive(Drop)]
 pub struct Line<S: Socket> {
     socket: Option<S>,
@@ -33,7 +34,7 @@ impl<S: Socket> Model for Line<S> {
 }
 
 impl<S: Socket> Line<S> {
-    /// Without a socket: nothing comes of it, and it takes nothing.
+    /// Makes a line without a socket: nothing comes from it, and it takes nothing.
     pub fn without_socket(alloc: Global) -> Line<S>
         ensures none { result.there ≡ false }
         ensures left { result.left ≡ None }
@@ -46,7 +47,7 @@ impl<S: Socket> Line<S> {
         }
     }
 
-    /// Of a socket of which nothing waits to be taken.
+    /// Makes a line of a socket, with no bytes that wait.
     pub fn new(alloc: Global, socket: S) -> Line<S>
         ensures there { result.there ≡ true }
         ensures left { result.left ≡ S.left socket }
@@ -60,14 +61,14 @@ impl<S: Socket> Line<S> {
         }
     }
 
-    /// The socket, where there is one.
+    /// Returns the socket, where there is one.
     pub fn socket(&self) -> Option<&S>
         ensures { is_some result ≡ self.now.there }
     {
         self.socket.as_ref()
     }
 
-    /// The socket, and what came of it that nobody took is let go.
+    /// Returns the socket, and drops the bytes that wait.
     pub fn into_socket(self) -> Option<S>
         ensures there { is_some result ≡ self.there }
         ensures left { IfSome result (λ socket. S.left socket ≡ self.left) }
@@ -77,7 +78,7 @@ impl<S: Socket> Line<S> {
         socket
     }
 
-    /// Gives back the memory for what may wait, where nothing does.
+    /// Frees the memory for waiting bytes, where none wait.
     pub fn rest(&mut self)
         ensures left { (self.new.left ≡ self.old.left) × (self.new.taken ≡ self.old.taken) }
         ensures waits { self.new.waits ≡ self.old.waits }
@@ -88,7 +89,7 @@ impl<S: Socket> Line<S> {
         }
     }
 
-    /// A poll told that it may be read again, or written to: of a socket it isn't known any more that it answered so.
+    /// The poll reports the socket as ready to read or to write: the last answer of that kind no longer stands.
     pub fn wake(&mut self, reads: bool, writes: bool)
         ensures dry { self.new.dry ≡ is_still_at self.old.there self.old.dry reads }
         ensures full { self.new.full ≡ is_still_at self.old.there self.old.full writes }
@@ -101,7 +102,7 @@ impl<S: Socket> Line<S> {
         }
     }
 
-    /// Was nothing there at the last read, or is no socket there?
+    /// Says whether nothing was there at the last read, or there is no socket.
     pub fn is_dry(&self) -> bool
         ensures { result ≡ self.now.dry }
     {
@@ -111,7 +112,7 @@ impl<S: Socket> Line<S> {
         }
     }
 
-    /// Was it full at the last write, or is no socket there?
+    /// Says whether it was full at the last write, or there is no socket.
     pub fn is_full(&self) -> bool
         ensures { result ≡ self.now.full }
     {
@@ -121,14 +122,14 @@ impl<S: Socket> Line<S> {
         }
     }
 
-    /// What came and waits to be taken.
+    /// Returns the bytes that wait to be taken.
     pub fn waiting(&self) -> &[u8]
         ensures { result.now ≡ self.now.waits }
     {
         self.waits.as_slice()
     }
 
-    /// So many bytes of it were taken. `O(n)`.
+    /// Removes the first bytes, which were taken. `O(n)`.
     pub(crate) fn taken(&mut self, count: usize)
         ensures left { (self.new.left ≡ self.old.left) × (self.new.taken ≡ self.old.taken) }
         ensures waits { self.new.waits ≡ drop count self.old.waits }
@@ -138,7 +139,8 @@ impl<S: Socket> Line<S> {
         forget(&mut self.waits, count);
     }
 
-    /// Reads once into the buffer, where all of that may wait. Without memory for that it counts as failed.
+    /// Reads once into the buffer, all of which may have to wait. Where there is no memory for
+    /// that, the read counts as failed.
     pub(crate) fn hear(&mut self, buffer: &mut [u8]) -> Heard
         requires { 0 < length buffer.old }
         ensures within { came result ≤ length buffer.new }
@@ -161,7 +163,7 @@ impl<S: Socket> Line<S> {
         }
     }
 
-    /// What was read and not taken waits.
+    /// Keeps the bytes that were read and not taken.
     pub(crate) fn keep(&mut self, bytes: &[u8])
         requires { length self.old.waits + length bytes.now ≤ self.old.room }
         ensures left { (self.new.left ≡ self.old.left) × (self.new.taken ≡ self.old.taken) }

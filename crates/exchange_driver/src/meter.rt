@@ -1,34 +1,34 @@
-//! What is counted of a connection.
+//! The counters of a connection.
 
 ghost use Rattle.std.specs.Prelude.{◌≡◌, ◌+◌, ◌-◌, ◌^◌, min, length};
 
-/// Where the status stands in the first line of an answer, behind `HTTP/1.1 ` (RFC 9112, section 4).
+/// The position of the status in the first line of an answer, after `HTTP/1.1 ` (RFC 9112, section 4).
 const STATUS_AT: u8 = 9;
 
 const STATUS_END: u8 = 12;
 
-/// What went over a connection, and the status of the answer that it was sent.
+/// The numbers of bytes that went over a connection, and the status of the answer that was sent on it.
 #[derive(Clone, Copy, Debug, PartialEq, Eq)]
 pub struct Meter {
-    /// So many bytes came.
+    /// The number of bytes that came.
     pub received: u64,
-    /// So many bytes were sent.
+    /// The number of bytes that were sent.
     pub sent: u64,
     scan: Scan,
 }
 
-/// How far a status is looked for in what is sent.
+/// The state of the search for a status in the bytes that are sent.
 #[derive(Clone, Copy, Debug, PartialEq, Eq)]
 enum Scan {
-    /// So many bytes of a head's first line went out, and this is the status so far.
+    /// In the first line of a head: the number of its bytes that were sent, and the status so far.
     Line(u8, u16),
-    /// A head before the answer's own goes out, and so many of the bytes that end it were the last ones.
+    /// In an interim head: the number of bytes of its end that were sent last.
     Interim(u8),
     Found(u16),
 }
 
 impl Meter {
-    /// Of a connection over which nothing went.
+    /// Makes the counters of a new connection.
     pub fn new() -> Meter
         ensures { (result.received ≡ 0) × (result.sent ≡ 0) }
     {
@@ -39,7 +39,7 @@ impl Meter {
         }
     }
 
-    /// The status of the answer that was sent: the first one that is no interim answer's.
+    /// Returns the status of the answer that was sent: the first one that isn't of an interim answer.
     pub fn status(&self) -> Option<u16> {
         match self.scan {
             Scan::Found(status) => Some(status),
@@ -47,14 +47,14 @@ impl Meter {
         }
     }
 
-    /// So many bytes came.
+    /// Counts bytes that came.
     pub(crate) fn note_received(&mut self, count: usize)
         ensures { (self.new.received ≡ min (self.old.received + count) (2 ^ 64 - 1)) × (self.new.sent ≡ self.old.sent) }
     {
         self.received = self.received.saturating_add(count as u64);
     }
 
-    /// These bytes were sent.
+    /// Counts bytes that were sent.
     pub(crate) fn note_sent(&mut self, bytes: &[u8])
         ensures { (self.new.sent ≡ min (self.old.sent + length bytes.now) (2 ^ 64 - 1)) × (self.new.received ≡ self.old.received) }
     {
@@ -63,7 +63,7 @@ impl Meter {
     }
 }
 
-// What is known of the status behind these bytes.
+// Returns the state of the search after these bytes.
 fn scanned(scan: Scan, bytes: &[u8]) -> Scan {
     let mut scan = scan;
     for byte in bytes {

@@ -1,7 +1,7 @@
 ghost use Rattle.std.specs.Prelude.{◌≡◌, is_some};
 
-/// That bytes moved, one at least: the only cause for which a time that runs begins anew. Only a driver makes it. It has no `Drop`: whoever moved bytes tells
-/// the times of it.
+/// The token of the fact that at least one byte moved: the only cause for restarting a timeout.
+/// Only a driver makes it. It has no `Drop`, so whoever moved bytes has to tell the timeouts.
 pub struct Moved {
     told: (),
 }
@@ -17,7 +17,7 @@ impl Moved {
         }
     }
 
-    /// The times were told.
+    /// Gives the token up once the timeouts were told.
     pub fn spend(self) {
         let Moved { told: () } = self;
     }

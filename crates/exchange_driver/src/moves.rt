@@ -1,4 +1,4 @@
-//! One call of one socket, or one look at what waits of it, and what the exchange makes of it.
+//! A single call of a socket, or a single look at its waiting bytes, and what the exchange makes of it.
 
 ghost use Rattle.std.specs.Prelude.{◌≡◌, ◌≢◌, ◌<◌, [], length};
 ghost use Rattle.exchange_driver.specs.Drives.{Drives, at_client, at_server};
@@ -10,16 +10,16 @@ use crate::line::Line;
 use crate::socket::{Heard, Said, Socket};
 use mixed_exchange::{Event, Exchange, Outcome, Step};
 
-/// What a move did.
+/// The effect of a move.
 #[derive(Clone, Copy, Debug, PartialEq, Eq)]
 pub(crate) enum Did {
     /// There was nothing to do.
     Rests,
-    /// Bytes came of the client, or went to it.
+    /// Bytes came from the client, or went to it.
     Client,
-    /// Bytes came of the server, or went to it.
+    /// Bytes came from the server, or went to it.
     Server,
-    /// No byte moved, but something was told.
+    /// No byte moved, but an event was reported.
     Tells,
 }
 
@@ -111,7 +111,7 @@ pub(crate) fn say_server<C: Socket, S: Socket>(
     }
 }
 
-/// What waits of the client is taken.
+/// Takes bytes of the client that wait.
 pub(crate) fn use_client<C: Socket, S: Socket>(
     exchange: Exchange,
     settings: Settings,
@@ -131,7 +131,7 @@ pub(crate) fn use_client<C: Socket, S: Socket>(
     behind(step, Did::Tells)
 }
 
-/// What waits of the server is taken.
+/// Takes bytes of the server that wait.
 pub(crate) fn use_server<C: Socket, S: Socket>(
     exchange: Exchange,
     settings: Settings,
@@ -151,7 +151,7 @@ pub(crate) fn use_server<C: Socket, S: Socket>(
     behind(step, Did::Tells)
 }
 
-/// Reads of the client once.
+/// Reads from the client once.
 pub(crate) fn hear_client<C: Socket, S: Socket>(
     exchange: Exchange,
     settings: Settings,
@@ -185,7 +185,7 @@ pub(crate) fn hear_client<C: Socket, S: Socket>(
     }
 }
 
-/// Reads of the server once.
+/// Reads from the server once.
 pub(crate) fn hear_server<C: Socket, S: Socket>(
     exchange: Exchange,
     settings: Settings,

@@ -2,40 +2,40 @@ ghost use Rattle.std.specs.Prelude.{◌≡◌, ◌≤◌, ◌<◌, ℕ, List, Op
 ghost use Rattle.std.specs.Io.KnownBytes.{Consumes, Appends};
 ghost use Rattle.exchange_driver.specs.Answers.{came, went, is_nothing, is_full, is_still};
 
-/// What a read gave.
+/// The result of a read.
 #[derive(Clone, Copy, Debug, PartialEq, Eq)]
 pub enum Heard {
-    /// So many bytes, one at least.
+    /// This number of bytes, at least one.
     Bytes(usize),
     /// Nothing is there.
     Nothing,
-    /// The end, or a failure.
+    /// The end of the input, or a failure.
     Ended { well: bool },
 }
 
-/// What a write took.
+/// The result of a write.
 #[derive(Clone, Copy, Debug, PartialEq, Eq)]
 pub enum Said {
-    /// So many bytes, one at least.
+    /// This number of bytes, at least one.
     Bytes(usize),
     /// It is full.
     Full,
-    /// It takes no more, ever.
+    /// It will never take any more.
     Failed,
 }
 
-/// A stream whose calls never wait, both ways. A call that a signal ends is made again.
+/// A non-blocking stream in both directions. A call that a signal interrupts is made again.
 pub trait Socket: Drop {
     /// The bytes that it has left to give, where they are known.
     ghost left: { Self → Option (List ℕ) };
 
-    /// The bytes that it took, where they are known.
+    /// The bytes that it has taken, where they are known.
     ghost taken: { Self → Option (List ℕ) };
 
-    /// Whether its last read answered that nothing is there, and nothing was told of it since.
+    /// Its last read answered that nothing is there, and nothing was reported since.
     ghost dry: { Self → Bool };
 
-    /// Whether its last write answered that it is full, and nothing was told of it since.
+    /// Its last write answered that it is full, and nothing was reported since.
     ghost full: { Self → Bool };
 
     fn hear(&mut self, buffer: &mut [u8]) -> Heard
@@ -57,7 +57,7 @@ pub trait Socket: Drop {
         ensures left { left self.new ≡ left self.old }
         ensures dry { dry self.new ≡ dry self.old };
 
-    /// A poll told that it may be read again, or written to: of that it isn't known any more that it answered so.
+    /// The poll reports it as ready to read or to write: the last answer of that kind no longer stands.
     fn wake(&mut self, reads: bool, writes: bool)
         ensures dry { dry self.new ≡ is_still (dry self.old) reads }
         ensures full { full self.new ≡ is_still (full self.old) writes }

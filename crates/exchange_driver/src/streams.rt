@@ -8,10 +8,10 @@ use std::cell::Cell;
 use std::io::{ErrorKind, Read, Write};
 use std::net::TcpStream;
 
-/// So often a call is made again that a signal ended.
+/// The most times that a call is made again after a signal.
 const SIGNALS: u32 = 1 << 16;
 
-/// A reader and a writer that never wait, as a socket.
+/// A non-blocking reader and a non-blocking writer, as a socket.
 #[derive(Drop)]
 pub struct Duplex<R: Read + Drop, W: Write + Drop> {
     pub reads: R,
@@ -20,13 +20,13 @@ pub struct Duplex<R: Read + Drop, W: Write + Drop> {
     is_full: bool,
 }
 
-/// A connection that never waits.
+/// A non-blocking connection.
 #[derive(Drop)]
 pub struct Live {
     stream: TcpStream,
     is_dry: bool,
     is_full: bool,
-    /// What goes over it, where that is counted.
+    /// Its counters, where they are wanted.
     meter: Cell<Option<Meter>>,
 }
 
@@ -54,12 +54,12 @@ impl Live {
         }
     }
 
-    /// What went over it since it was last counted anew. None: it isn't counted.
+    /// Returns what went over it since the count began; `None` where it isn't counted.
     pub fn meter(&self) -> Option<Meter> {
         self.meter.get()
     }
 
-    /// What goes over it is counted from now on.
+    /// Begins to count from 0.
     pub fn count_anew(&self) {
         self.meter.set(Some(Meter::new()));
     }
@@ -78,7 +78,7 @@ impl Live {
         }
     }
 
-    /// The stream, to be told to a poll or asked for its state.
+    /// Returns the stream, for registration with a poll or for a look at its state.
     pub fn stream(&self) -> &TcpStream {
         &self.stream
     }
@@ -182,7 +182,7 @@ impl Said {
     }
 }
 
-// Reads once, and again where a signal ended that.
+// Reads once, and again where a signal interrupted it.
 fn hear<R: Read>(reads: &mut R, buffer: &mut [u8]) -> Heard
     ensures within { came result ≤ length buffer.new }
     ensures length { length buffer.new ≡ length buffer.old }
@@ -203,7 +203,7 @@ fn hear<R: Read>(reads: &mut R, buffer: &mut [u8]) -> Heard
     Heard::Ended { well: false }
 }
 
-// Writes once, and again where a signal ended that.
+// Writes once, and again where a signal interrupted it.
 fn say<W: Write>(writes: &mut W, bytes: &[u8]) -> Said
     ensures within { went result ≤ length bytes.now }
     ensures some { (count : ℕ) → result ≡ Said.Bytes count → 0 < count }

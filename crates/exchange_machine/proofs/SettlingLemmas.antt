@@ -182,7 +182,7 @@ pub got_tried : (h : History) (bytes : List ℕ) → AreTries h → AreTries (cl
 got_tried h bytes (untried is) = untried is
 got_tried h bytes (some_tries r behind asked tries) = some_tries r behind asked tries
 
--- the client took so many bytes more, and the rest waits
+-- the client took more bytes, this many, and the rest waits
 ends_took : (h : History) (w : Whole) (behind out left unsent extra : List ℕ) (count : ℕ) → Ends h w behind out unsent extra → left ≡ drop count out
     → Ends (client_got h (take count out)) w behind left unsent extra
 ends_took h w behind out left unsent extra count is rest =

@@ -1,4 +1,4 @@
--- Whole answers, as they are read and as a client is told of them.
+-- Whole answers, as the proxy reads them and as it sends them to the client.
 use Rattle.std.specs.Prelude.{◌≡◌, ℕ, Bool, false, ◌&&◌, List, ◌++◌}
 use Rattle.relay_body.specs.declared.framing.Framing.TheVariants as Framed
 use Rattle.http_texts.specs.Messages.{IsAnswered}
@@ -17,17 +17,19 @@ use Rattle.exchange_machine.specs.declared.sides.Down.TheVariants.{Heads, Body}
 use Rattle.exchange_machine.specs.declared.signs.Sign.{Sign}
 use Rattle.exchange_machine.specs.declared.signs.Sign.TheVariants.{ServerEnded}
 
--- an answer was read whole, where its server's input is over or isn't
+-- the answer was read whole, where the server's input is over or not
 abbrev pub is_read_at : Down → Coding → Bool → Bool
 is_read_at (Heads count) coding over = false
 is_read_at Body coding over = is_read coding over
 
--- this one's was; the input of its server is over where it came to its end, didn't break, and nothing of it is held
+-- the answer of this exchange was read whole; the server's input counts as over where it came to
+-- its end without an error, and none of it is held
 abbrev pub has_answered : Passing → Bool
 has_answered p = is_read_at p.phase p.down.coding (p.well && is_none p.down_held.items)
 
--- The text is the leave and the whole answer to the client's request, as its server sent it: one whose end doesn't show went on to the end of the server's
--- input, and that didn't break.
+-- The text is the interim answers and the whole answer to the client's request, as its server sent
+-- them; an answer without a marked end went on to the end of the server's input, which came without
+-- an error.
 pub record TellsAnswer (signs : List Sign) (client_in server_in text : List ℕ) : Type 0 where
   pub says : Persistence
   pub request : Request

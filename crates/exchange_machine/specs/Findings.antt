@@ -1,4 +1,4 @@
--- What stands at the front of what came of a server.
+-- What stands at the front of a server's bytes.
 use Rattle.std.specs.Prelude.{ℕ, List}
 use Rattle.http_texts.specs.Messages.{HasRole}
 use Rattle.http_texts.specs.declared.fault.Fault.{Fault}
@@ -9,14 +9,14 @@ use Rattle.req_view.specs.AnswerHeads.{NeverHasAnswer, SaysAnswer, WaitsForAnswe
 use Rattle.exchange_machine.specs.declared.heading.Seen.{Seen}
 use Rattle.exchange_machine.specs.declared.heading.Seen.TheVariants.{More, Interim, Final, Refused}
 
--- a head that is framed badly, or one too many
+-- a head with an unsound framing, or one interim head too many
 pub record Unplanned (method : List ℕ) (count : ℕ) (held : List ℕ) : Type 0 where
   pub answer : Answer
   pub len : ℕ
   pub says : SaysAnswer held answer len
   pub role : HasRole method answer count Roles.Refused
 
--- why none is passed on
+-- why no head is passed on
 abbrev pub NoneStands : List ℕ → ℕ → List ℕ → Fault → Type 0
 NoneStands method count held Faulty.Head = NeverHasAnswer held
 NoneStands method count held Faulty.Framing = Unplanned method count held
@@ -26,7 +26,7 @@ NoneStands method count held Faulty.Write = ⊥
 NoneStands method count held Faulty.Turns = ⊥
 NoneStands method count held Faulty.Closed = ⊥
 
--- what is seen behind so many heads before an answer to a request of this method
+-- what is found after this number of interim heads, for a request with this method
 abbrev pub IsSeen : List ℕ → ℕ → List ℕ → Seen → Type 0
 IsSeen method count held More = WaitsForAnswer held
 IsSeen method count held (Interim a len) = SaysAnswer held a len × HasRole method a count Roles.Interim

@@ -1,4 +1,4 @@
--- The law of an exchange: after any interleaving of reads, writes, ends and times-out.
+-- The law of an exchange: it holds after any interleaving of reads, writes, ends and timeouts.
 use Rattle.std.specs.Prelude.{◌≡◌, ◌≢◌, ℕ, List, [], ◌∷◌, ◌++◌}
 use Rattle.std.specs.List.{AllByRecursion}
 use Rattle.grant_board.specs.Views.{Grant}
@@ -20,7 +20,8 @@ use Rattle.exchange_machine.specs.Repeats.{IsTry}
 use Rattle.exchange_machine.specs.Requests.{IsAskedBy, IsNoRequest}
 use Rattle.exchange_machine.specs.declared.signs.Sign.TheVariants.{ClientOver, NoMemory}
 
--- a front of what a part became that stands at the front of the input, where Part says which input is a part and what it becomes
+-- a front of the text of a part that stands at the front of the input, where Part says which input
+-- is a part and what it becomes
 pub record IsOfPart (Part : List ℕ → List ℕ → Type 0) (input sent : List ℕ) : Type 0 where
   pub used : List ℕ
   pub rest : List ℕ
@@ -34,9 +35,10 @@ pub data ToServer (h : History) : Type 0 where
   nothing : h.to_server ≡ [] → ToServer h
   of_request : (r : Request) (behind : List ℕ) → IsAskedBy h.client_in r behind → IsOfPart (PartOfForwarded h.adds r) behind h.to_server → ToServer h
 
--- What the client is told: nothing yet; or that what it sent begins with no request, or that its time for one is over, or that memory is wanting; or one
--- refusal, which has its reason, before a server was reached; or leave to go on, and then the answered text of what the server sent, or one such refusal,
--- and never both.
+-- The text for the client: nothing yet; a refusal because what it sent begins with no request, its
+-- time for one is over, or memory is short; one refusal with its reason before a server was
+-- reached; or the `100` that lets it go on, and after it the answered text of what the server
+-- sent, or one such refusal, and never both.
 pub data ClientText (h : History) : List ℕ → Type 0 where
   silent : ClientText h []
   refused_unread : (fault : Fault) → fault ≢ Faulty.NoMemory → IsNoRequest fault h.client_in → ClientText h (refusal_text BadRequest)
@@ -49,7 +51,7 @@ pub data ClientText (h : History) : List ℕ → Type 0 where
   answered : (says : Persistence) (r : Request) (behind text : List ℕ) → IsAskedBy h.client_in r behind
       → IsOfPart (PartOfAnswered says r.method (framed_for r.version)) h.server_in text → ClientText h (leave_text r ++ text)
 
--- the client was sent a front of it
+-- the client was sent a front of its text
 pub record ToClient (h : History) : Type 0 where
   pub text : List ℕ
   pub is : ClientText h text
@@ -59,12 +61,12 @@ pub record ToClient (h : History) : Type 0 where
 abbrev pub IsFair : Post → Type 0
 IsFair p = p.ending ≡ Failed → p.reached ≡ []
 
--- each pass is posted once, in the order in which they were handed in, but for the one that is held
+-- each pass is posted once, in the order in which they were handed in, except for the one that is held
 pub data ArePosted (h : History) : Type 0 where
   all_posted : h.grants ≡ passes_of h.posts → ArePosted h
   one_held : (pass : Grant) → h.grants ≡ passes_of h.posts ++ pass ∷ [] → ArePosted h
 
--- what broken connections were sent is fronts of the client's request, which may be sent once more
+-- each broken connection was sent a front of the client's request, and the request may be sent again
 pub data AreTries (h : History) : Type 0 where
   none : h.tries ≡ [] → AreTries h
   of_request : (r : Request) (behind : List ℕ) → IsAskedBy h.client_in r behind → AllByRecursion (IsTry r) h.tries → AreTries h

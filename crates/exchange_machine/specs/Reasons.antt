@@ -1,4 +1,4 @@
--- Why a client is told that it is not answered.
+-- Why a client is refused.
 use Rattle.std.specs.Prelude.{◌≡◌, ℕ, ◌≤◌, true, List, ◌∷◌, ◌++◌, length, Option, Some, None}
 use Rattle.httparse.specs.Grammar.{ResponseHead, print_response}
 use Rattle.relay_body.specs.Framings.{LacksBody}
@@ -14,13 +14,13 @@ use Rattle.exchange_machine.specs.Requests.{BreaksBody}
 use Rattle.exchange_machine.specs.declared.signs.Sign.{Sign}
 use Rattle.exchange_machine.specs.declared.signs.Sign.TheVariants.{ClientEnded, ClientFailed, ServerEnded, ServerFailed, ServerDeaf, Unreachable, Unserved, ClientOver, QueueOver, ConnectOver, ServerOver, NoMemory}
 
--- the sign is among these
+-- this sign is among the signs
 pub record Shows (signs : List Sign) (sign : Sign) : Type 0 where
   pub before : List Sign
   pub behind : List Sign
   pub is : signs ≡ before ++ sign ∷ behind
 
--- what a client whose request was read is told for it, where no answer began
+-- the status for a client whose request was read, for a sign before any answer began
 abbrev pub told_for : Sign → Option Code
 told_for ClientEnded = None
 told_for ClientFailed = None
@@ -35,13 +35,13 @@ told_for ConnectOver = Some Unavailable
 told_for ServerOver = Some BadGateway
 told_for NoMemory = Some Unavailable
 
--- behind so many heads before an answer these bytes begin with none that is passed on
+-- after this number of interim heads the bytes begin with no head that is passed on
 pub data NoneFollows (method : List ℕ) (count : ℕ) (held : List ℕ) : Type 0 where
   never : NeverHasAnswer held → NoneFollows method count held
   unplanned : (a : Answer) (len : ℕ) → SaysAnswer held a len → answer_plan method a ≡ None → NoneFollows method count held
   ninth : (a : Answer) (len : ℕ) → SaysAnswer held a len → is_interim a.status ≡ true → 8 ≤ count → NoneFollows method count held
 
--- what came of a server has no answer that is passed on
+-- the bytes from the server have no answer that is passed on
 pub record LacksAnswer (method input : List ℕ) : Type 0 where
   pub interims : List ResponseHead
   pub are : AreInterims method interims
@@ -49,7 +49,7 @@ pub record LacksAnswer (method input : List ℕ) : Type 0 where
   pub input_is : input ≡ print_heads interims ++ held
   pub lacks : NoneFollows method (length interims) held
 
--- what came of a server is an answer whose body is none, whatever follows
+-- the bytes from the server are an answer with an unsound body, whatever follows
 pub record BreaksAnswer (method input : List ℕ) : Type 0 where
   pub interims : List ResponseHead
   pub are : AreInterims method interims
@@ -60,7 +60,8 @@ pub record BreaksAnswer (method input : List ℕ) : Type 0 where
   pub input_is : input ≡ print_heads interims ++ (print_response head ++ behind)
   pub breaks : (more : List ℕ) → LacksBody plan.body (behind ++ more)
 
--- why a request that was read is refused: a sign says so, or what came of the server is no answer, or what came behind its head is no body
+-- why a request that was read is refused: a sign says so; or the bytes from the server are no
+-- answer; or the bytes after its own head are no body
 pub data Reason (signs : List Sign) (r : Request) (behind answer : List ℕ) : Code → Type 0 where
   of_sign : (sign : Sign) (code : Code) → Shows signs sign → told_for sign ≡ Some code → Reason signs r behind answer code
   bad_answer : LacksAnswer r.method answer → Reason signs r behind answer BadGateway

@@ -1,23 +1,24 @@
--- When the machine sends a request once more.
+-- When the machine sends a request again.
 use Rattle.std.specs.Prelude.{◌≡◌, ◌⊎◌, Bool, true, false, ◌&&◌, []}
 use Rattle.exchange_machine.specs.Repeats.{is_bare, is_idempotent}
 use Rattle.exchange_machine.specs.declared.sides.Down.TheVariants.{Heads}
 use Rattle.exchange_machine.specs.declared.dialing.Dialing.{Dialing}
 use Rattle.exchange_machine.specs.declared.passing.Passing.{Passing}
 
--- it has no body, and may be served twice, or nothing of it reached a server; and nothing of an answer came
+-- it has no body, and is idempotent or hasn't reached a server; and no byte of an answer came
 pub record IsRepeatable (p : Passing) : Type 0 where
   pub heads : p.phase ≡ Heads 0
   pub none : p.down_held.items ≡ []
   pub bare : is_bare p.framing ≡ true
   pub safe : (is_idempotent p.view.method ≡ true) ⊎ (p.reached ≡ false)
 
--- nothing of it reached a server, and nothing of an answer came: what waits for the server may go to another one as it stands
+-- no byte of it reached a server, and no byte of an answer came: the bytes that wait for the server
+-- may go to another connection as they are
 pub record IsUntouched (p : Passing) : Type 0 where
   pub heads : p.phase ≡ Heads 0
   pub none : p.down_held.items ≡ []
   pub unreached : p.reached ≡ false
 
--- it may go out on a connection that was used before, which its server may just be closing: it has no body, and may be served twice
+-- it may go out on a used connection, which its server may be closing: it has no body, and is idempotent
 abbrev pub takes_used : Dialing → Bool
 takes_used d = is_idempotent d.waiting.asked.view.method && is_bare d.waiting.asked.framing

@@ -1,4 +1,4 @@
--- What a client sent: a request, or what is none that the proxy takes.
+-- The client's bytes: a request, or something that the proxy refuses.
 use Rattle.std.specs.Prelude.{◌≡◌, ◌⊎◌, ℕ, List, ◌++◌, Some}
 use Rattle.httparse.specs.Grammar.{RequestHead, print_request}
 use Rattle.relay_body.specs.Framings.{LacksBody}
@@ -10,27 +10,27 @@ use Rattle.http_texts.specs.declared.fault.Fault.TheVariants.{NoMemory, Head, Fr
 use Rattle.req_view.specs.Heads.{NeverHasHead}
 use Rattle.req_view.specs.Request.{Request, request_of}
 
--- the request that the client sent, and what it sent behind its head
+-- the request that the client sent, and the bytes after its head
 pub record IsAskedBy (input : List ℕ) (r : Request) (behind : List ℕ) : Type 0 where
   pub head : RequestHead
   pub is : IsRequest head
   pub request_is : r ≡ request_of head
   pub input_is : input ≡ print_request head ++ behind
 
--- what came behind the head of a request begins with no body as it frames it, whatever follows
+-- the bytes after a request's head begin with no body of its framing, whatever follows
 pub record BreaksBody (r : Request) (behind : List ℕ) : Type 0 where
   pub framing : Framed.Framing
   pub framed : request_framing r ≡ Some framing
   pub breaks : (more : List ℕ) → LacksBody framing (behind ++ more)
 
--- a request came whose body is none
+-- a request came with an unsound body
 pub record IsBroken (input : List ℕ) : Type 0 where
   pub request : Request
   pub behind : List ℕ
   pub asked : IsAskedBy input request behind
   pub breaks : BreaksBody request behind
 
--- what is wrong with an input that is refused before a pass is asked for; with half a head nothing is
+-- the fault of an input that is refused before a pass is asked for; half a head has none
 abbrev pub IsNoRequest : Fault → List ℕ → Type 0
 IsNoRequest Head input = NeverHasHead input
 IsNoRequest Framing input = FramedBadly input ⊎ IsBroken input
@@ -40,7 +40,7 @@ IsNoRequest Write input = ⊥
 IsNoRequest Turns input = ⊥
 IsNoRequest Closed input = ⊥
 
--- what is wrong with an input that begins with no head, or with one that frames its body badly, whatever stands behind it
+-- the fault of an input that begins with no head, or with one whose framing is unsound, whatever stands after it
 abbrev pub LacksHead : Fault → List ℕ → Type 0
 LacksHead Head input = NeverHasHead input
 LacksHead Framing input = FramedBadly input

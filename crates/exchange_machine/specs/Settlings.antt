@@ -18,7 +18,7 @@ use Rattle.exchange_machine.specs.declared.settling.Settling.{Settling}
 use Rattle.exchange_machine.specs.declared.sides.Down.{Down}
 use Rattle.exchange_machine.specs.declared.sides.Down.TheVariants.{Heads, Body}
 
--- both messages were whole; where it is clean nothing is left on the server's side
+-- both messages were whole; where it is clean, nothing is left on the server's side
 pub record IsSettling (s : Settling) (h : History) : Type 0 where
   pub whole : Whole
   pub unsent : List ℕ
@@ -36,30 +36,31 @@ abbrev pub IsRest : Rest → History → Type 0
 IsRest (Rests.Settling s) h = IsSettling s h
 IsRest (Rests.Leaving l) h = IsLeaving l h
 
--- whose client is left, that one knows whether the answer was read whole
+-- an exchange that only has bytes left for its client knows whether the answer was read whole
 abbrev pub IsMarked : Bool → Rest → Type 0
 IsMarked whole (Rests.Settling s) = Unit {0}
 IsMarked whole (Rests.Leaving l) = l.whole ≡ whole
 
--- an answer was read to the end that it says: one that goes to the end of the input says none
+-- the answer was read to its marked end; one that goes to the end of the input has none
 abbrev pub is_done_at : Down → Coding → Bool
 is_done_at (Heads count) coding = false
 is_done_at Body coding = is_done coding
 
--- a server was asked to keep its connection
+-- the server was asked to keep its connection open
 abbrev pub asks_to_stay : Persistence → Bool
 asks_to_stay Close = false
 asks_to_stay Persist = true
 asks_to_stay KeepAlive = false
 
--- Nothing is left on its server's side, whatever its client is told of its own: both messages were read to the ends that they say, the request has no body and
--- all of it was sent, nothing of what came of the server is held, and it was asked to keep its connection, and keeps it.
+-- Nothing is left on the server's side, whatever the client is told of its own connection: both
+-- messages were read to their marked ends, the request has no body and was sent whole, no byte from
+-- the server is held, and the server was asked to keep its connection open, and does.
 abbrev pub is_clean : Passing → Bool
 is_clean p =
     asks_to_stay p.adds.asks && p.kept && is_none p.up.out && is_none p.down_held.items && is_done p.up.coding && is_done_at p.phase p.down.coding
     && is_bare p.framing
 
--- what is left knows whether its server's connection can be used again
+-- what is left knows whether the server's connection can be used again
 abbrev pub IsCleanAs : Bool → Rest → Type 0
 IsCleanAs clean (Rests.Settling s) = s.clean ≡ clean
 IsCleanAs clean (Rests.Leaving l) = l.clean ≡ clean

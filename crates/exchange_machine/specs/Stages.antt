@@ -1,4 +1,4 @@
--- What an exchange at each stage is, after a history.
+-- The state of an exchange at each stage, after a history.
 use Rattle.std.specs.Prelude.{◌≡◌, ◌≢◌, ℕ, ◌<◌, false, true, List, [], ◌∷◌, ◌++◌, length, Some}
 use Rattle.std.specs.List.{AllByRecursion}
 use Rattle.http_texts.specs.Framings.{request_framing}
@@ -29,12 +29,12 @@ use Rattle.exchange_machine.specs.declared.signs.Sign.TheVariants.{ServerEnded}
 use Rattle.exchange_machine.specs.declared.asking.Turn.{Turn}
 use Rattle.exchange_machine.specs.declared.asking.Turn.TheVariants as Turns
 
--- no server was sent anything, and none sent anything
+-- no server was sent a byte, and none sent one
 pub record IsUnsent (h : History) : Type 0 where
   pub server : h.to_server ≡ []
   pub answer : h.server_in ≡ []
 
--- nothing happened but that bytes of the client came
+-- nothing has happened but that bytes came from the client
 pub record IsFresh (h : History) : Type 0 where
   pub unsent : IsUnsent h
   pub silent : h.to_client ≡ []
@@ -48,12 +48,12 @@ pub record IsAsking (a : Asking) (h : History) : Type 0 where
   pub held : h.client_in ≡ a.held.items
   pub none : HasNoHead h.client_in
 
--- the head was read, and these bytes behind it
+-- the head was read, with these bytes after it
 pub record IsAsked (a : Asked) (h : History) : Type 0 where
   pub asked : IsAskedBy h.client_in a.view a.held.items
   pub framed : request_framing a.view ≡ Some a.framing
 
--- nothing goes out before a pass is there
+-- nothing is sent before the pass comes
 pub record IsWaiting (w : Waiting) (h : History) : Type 0 where
   pub unsent : IsUnsent h
   pub asked : IsAsked w.asked h
@@ -71,7 +71,7 @@ pub record IsDialing (d : Dialing) (h : History) : Type 0 where
   pub tries : AllByRecursion (IsTry d.waiting.asked.view) h.tries
   pub unreached : d.reached ≡ false → reached_by h ≡ []
 
--- of the leave so many bytes are still at the front of what waits, and nothing behind it went out
+-- this number of bytes of the `100` are still at the front of what waits, and nothing after it was sent
 pub record HasLeave (count : ℕ) (leave went out : List ℕ) : Type 0 where
   pub left : List ℕ
   pub behind : List ℕ
@@ -79,7 +79,7 @@ pub record HasLeave (count : ℕ) (leave went out : List ℕ) : Type 0 where
   pub leave_is : leave ≡ went ++ left
   pub out_is : out ≡ left ++ behind
 
--- both sides run
+-- both sides are active
 pub record IsPassing (p : Passing) (h : History) : Type 0 where
   pub behind : List ℕ
   pub asked : IsAskedBy h.client_in p.view behind
@@ -100,7 +100,7 @@ pub record IsPassing (p : Passing) (h : History) : Type 0 where
   pub adds : p.adds ≡ h.adds
   pub leave : p.begun ≡ false → HasLeave p.leave_left (leave_text p.view) h.to_client p.down.out
 
--- its pass was posted, and what the client is still told waits
+-- the pass was posted, and the last bytes for the client wait
 pub record IsLeaving (l : Leaving) (h : History) : Type 0 where
   pub server : ToServer h
   pub text : List ℕ
@@ -112,12 +112,12 @@ pub record IsLeaving (l : Leaving) (h : History) : Type 0 where
   pub fair : AllByRecursion IsFair h.posts
   pub tried : AreTries h
 
--- what came is refused before a pass is asked for, for this reason
+-- the bytes are refused before a pass is asked for, for this reason
 pub record IsUnread (why : Fault) (h : History) : Type 0 where
   pub reason : IsNoRequest why h.client_in
   pub fresh : IsFresh h
 
--- what became of a head that was read further
+-- the result of reading a head further
 abbrev pub IsTurn : Turn → History → Type 0
 IsTurn (Turns.More a) h = IsAsking a h
 IsTurn (Turns.Whole w) h = IsWaiting w h
@@ -128,19 +128,20 @@ IsMore (Turns.More a) = Unit {0}
 IsMore (Turns.Whole w) = ⊥
 IsMore (Turns.Refused held why) = ⊥
 
--- what came behind a head that is taken is a front of a body, or a body and more
+-- the bytes after an accepted head are a front of a body, or a body and more
 abbrev pub IsChecked : Turn → Type 0
 IsChecked (Turns.More a) = Unit {0}
 IsChecked (Turns.Whole w) = is_bad (read (start_of w.asked.framing true) w.asked.held.items).coding ≡ false
 IsChecked (Turns.Refused held why) = Unit {0}
 
--- what became of a look for a head alone in these bytes: all are held, and more may come, or they lack a head for this reason
+-- the result of looking for a head alone in these bytes: all are held and more may come, or they
+-- lack a head for this reason
 abbrev pub HeadSays : Turn → List ℕ → Type 0
 HeadSays (Turns.More a) bytes = (a.held.items ≡ bytes) × (length bytes < 16384)
 HeadSays (Turns.Whole w) bytes = Unit {0}
 HeadSays (Turns.Refused held why) bytes = LacksHead why bytes
 
--- a refusal goes out of which no outbox holds a byte
+-- a refusal is sent, without an outbox
 pub record IsTelling (t : Telling) (h : History) : Type 0 where
   pub server : ToServer h
   pub text : List ℕ
@@ -150,7 +151,7 @@ pub record IsTelling (t : Telling) (h : History) : Type 0 where
   pub fair : AllByRecursion IsFair h.posts
   pub tried : AreTries h
 
--- nothing more is done
+-- the exchange is over
 pub record IsOver (h : History) : Type 0 where
   pub server : ToServer h
   pub client : ToClient h

@@ -16,22 +16,23 @@ use relay_body::Framing;
 use req_view::{View, Viewed, view};
 use std::alloc::Global;
 
-/// The request's head is being read. What came is held, 16 KiB at most.
+/// An exchange whose request head is being read. It holds the bytes that came, at most 16 KiB.
 #[derive(Drop)]
 pub struct Asking {
     pub(crate) held: Vec<u8>,
 }
 
-/// What became of a head that was read further.
+/// The result of reading a head further.
 pub enum Turn {
     More(Asking),
     Whole(Waiting),
-    /// No head can come of what came, or it frames its body badly, or what came behind it is no body: 400. Or memory is wanting.
+    /// The bytes can't become a head, their framing is unsound, or the bytes behind the head are no
+    /// body: 400. Or memory is short.
     Refused(Vec<u8>, Fault),
 }
 
 impl Asking {
-    /// Of a new client.
+    /// Makes the exchange of a new client.
     pub fn new(alloc: Global) -> Asking
         ensures { stages.IsAsking result nothing_yet }
     {
@@ -40,19 +41,20 @@ impl Asking {
         }
     }
 
-    /// Did nothing come of the client yet?
+    /// Says whether no byte has come from the client yet.
     pub fn is_silent(&self) -> bool
         ensures { result ≡ is_none self.now.held.items }
     {
         self.held.is_empty()
     }
 
-    /// How many bytes more are held.
+    /// Returns the number of bytes that it still takes.
     pub fn room(&self) -> usize {
         HEAD_BYTES.saturating_sub(self.held.len())
     }
 
-    /// What came of the client: it is held, as far as 16 KiB go, and a head is looked for where a line ends. `O(n)`, and at a line's end in all that is held.
+    /// Takes bytes of the client as long as they fit into 16 KiB, and looks for a head where a line
+    /// ends. `O(n)`; at a line's end in all bytes that are held.
     pub fn client_bytes(self, alloc: Global, input: &[u8]) -> (usize, Turn)
         ensures within { result.0 ≤ length input.now }
         ensures turn { (h : History) → stages.IsAsking self h → stages.IsTurn result.1 (client_came h (take result.0 input.now)) }
@@ -63,7 +65,7 @@ impl Asking {
         (used, looked_behind(turn))
     }
 
-    /// The same, whatever stands behind a head: that may be none of its bodies.
+    /// The same, whatever stands behind a head, even if it can't be its body.
     pub fn head_bytes(self, alloc: Global, input: &[u8]) -> (usize, Turn)
         ensures within { result.0 ≤ length input.now }
         ensures turn { (h : History) → stages.IsAsking self h → stages.IsTurn result.1 (client_came h (take result.0 input.now)) }
@@ -80,14 +82,14 @@ impl Asking {
         }
     }
 
-    /// How many bytes of the client are held.
+    /// Returns the number of bytes that it holds.
     pub fn count(&self) -> usize
         ensures { result ≡ length self.now.held.items }
     {
         self.held.len()
     }
 
-    /// The client sends no more: what is wrong with what came. `O(n)`.
+    /// The client sends no more: returns the fault of its bytes. `O(n)`.
     pub fn fault(&self, alloc: Global) -> Fault
         ensures lacks { (h : History) → stages.IsAsking self.now h → LacksRequest result h.client_in }
         ensures waits { result ≡ Fault.Read → (h : History) → stages.IsAsking self.now h → Waits h.client_in }
@@ -98,7 +100,7 @@ impl Asking {
         }
     }
 
-    /// `timeout client` is over, and no request is there: 400.
+    /// `timeout client` expired before a whole request came: 400.
     pub fn late(self) -> Telling
         ensures { (h : History) → stages.IsAsking self h → Shows h.signs Sign.ClientOver → stages.IsTelling result h }
     {
@@ -106,7 +108,7 @@ impl Asking {
     }
 }
 
-// Where no line ended since there was no head, there is none.
+// Looks for a head where a line has ended since the last look; else there can be none.
 fn look_further(alloc: Global, held: Vec<u8>, feed: bool) -> Turn
     ensures turn { (h : History) → stages.IsFresh h → h.client_in ≡ held.items → (feed ≡ false → HasNoHead h.client_in) → stages.IsTurn result h }
     ensures says { stages.HeadSays result held.items }
@@ -117,7 +119,7 @@ fn look_further(alloc: Global, held: Vec<u8>, feed: bool) -> Turn
     look(alloc, held)
 }
 
-// Which head stands in the bytes that came.
+// Looks for a head in the bytes that came.
 fn look(alloc: Global, held: Vec<u8>) -> Turn
     ensures turn { (h : History) → stages.IsFresh h → h.client_in ≡ held.items → stages.IsTurn result h }
     ensures says { stages.HeadSays result held.items }
@@ -132,7 +134,7 @@ fn look(alloc: Global, held: Vec<u8>) -> Turn
     }
 }
 
-// What stands in the bytes that came, and behind its head.
+// Looks for a head in the bytes that came, and at what stands behind it.
 pub(crate) fn look_on(alloc: Global, held: Vec<u8>) -> Turn
     ensures turn { (h : History) → stages.IsFresh h → h.client_in ≡ held.items → stages.IsTurn result h }
     ensures checked { stages.IsChecked result }
@@ -151,7 +153,7 @@ fn looked_behind(turn: Turn) -> Turn
     }
 }
 
-// A head was read: is what came behind it a body, or may it become one?
+// Checks whether the bytes behind a head are a body or may become one.
 fn look_behind(waiting: Waiting) -> Turn
     ensures turn { (h : History) → stages.IsFresh h → stages.IsWaiting waiting h → stages.IsTurn result h }
     ensures more { stages.IsMore result → ⊥ }

@@ -16,7 +16,7 @@ use grant_board::Pass;
 use http_texts::{Additions, Persistence};
 use std::alloc::Global;
 
-/// Its pass is there, and a server is being connected to.
+/// An exchange that has its pass, and whose server is being connected to.
 pub struct Dialing {
     pub(crate) waiting: Waiting,
     pub(crate) pass: Pass,
@@ -24,19 +24,19 @@ pub struct Dialing {
     pub(crate) reached: bool,
 }
 
-/// How a server's connection is used.
+/// The terms of use of a server's connection.
 #[derive(Clone, Copy, Debug, PartialEq, Eq)]
 pub struct Terms {
-    /// What is added to the request.
+    /// The fields that are added to the request.
     pub adds: Additions,
-    /// Whether the proxy would serve its client further.
+    /// The proxy is willing to serve its client further.
     pub willing: bool,
-    /// Whether the connection was opened for this request.
+    /// The connection was opened for this request.
     pub fresh: bool,
 }
 
 impl Dialing {
-    /// Its client has gone: the pass goes back as done, since the server isn't to blame.
+    /// The client has left: the pass is posted as done, since the server isn't to blame.
     pub fn abandon(self) -> Pass
         ensures ends { (h : History) → stages.IsDialing self h → stages.IsOver (posted h result ending.Done) }
         ensures pass { result ≡ self.pass }
@@ -49,29 +49,30 @@ impl Dialing {
         pass
     }
 
-    /// Its pass, to be looked at.
+    /// Returns its pass.
     pub fn pass(&self) -> &Pass
         ensures { result.now ≡ self.now.pass }
     {
         &self.pass
     }
 
-    /// Did a byte of the request reach a server, on a connection before this one?
+    /// Says whether a byte of the request reached a server on an earlier connection.
     pub fn has_reached(&self) -> bool
         ensures { result ≡ self.now.reached }
     {
         self.reached
     }
 
-    /// May the request go out on a connection that was used before, which its server may just be closing? It has no body, and may be served twice (RFC 9110,
-    /// section 9.2.2), so that it can be sent once more.
+    /// Says whether the request may go out on a used connection, which its server may be closing:
+    /// it has no body and is idempotent (RFC 9110, section 9.2.2), so it can be sent again.
     pub fn takes_used(&self) -> bool
         ensures { result ≡ repeats.takes_used self.now }
     {
         is_idempotent(self.waiting.asked.view.method()) && is_bare(self.waiting.asked.framing)
     }
 
-    /// The server can't be reached, and nothing reached one before: the pass goes back as failed, and another may be waited for.
+    /// The server can't be reached, and no byte reached one before: the pass is posted as failed,
+    /// and the exchange may wait for another.
     pub fn fail(self) -> (Waiting, Pass)
         requires { self.reached ≡ false }
         ensures { (h : History) → stages.IsDialing self h → stages.IsWaiting result.0 (posted h result.1 ending.Failed) }
@@ -84,7 +85,7 @@ impl Dialing {
         (waiting, pass)
     }
 
-    /// Nothing is tried any more: the pass goes back as done, and its client is to be told why.
+    /// The exchange makes no more tries: the pass is posted as done, and the client is to be told why.
     pub fn give_up(self) -> (Waiting, Pass)
         ensures { (h : History) → stages.IsDialing self h → stages.IsWaiting result.0 (posted h result.1 ending.Done) }
     {
@@ -96,7 +97,8 @@ impl Dialing {
         (waiting, pass)
     }
 
-    /// The server was reached: its head goes out, and both sides run from here on. Where there is no memory or no room for the head, nothing changes.
+    /// The server was reached: the request's head is sent, and both sides are active from now on.
+    /// Where there is no memory or no room for the head, nothing changes.
     pub fn connected(
         self,
         alloc: Global,
@@ -126,7 +128,7 @@ impl Dialing {
         Ok(self.begin(alloc, up, down, terms))
     }
 
-    // Both sides begin, behind the request's head and the leave.
+    // Begins both sides, after the request's head and the `100`.
     fn begin(self, alloc: Global, mut up: Way, down: Way, terms: Terms) -> Passing
         requires up { up.out ≡ request_text terms.adds self.waiting.asked.view self.waiting.asked.framing }
         requires down { down.out ≡ leave_text self.waiting.asked.view }

@@ -1,4 +1,4 @@
-//! How an exchange ends at which both sides ran: its pass goes out, and what is left.
+//! The end of an exchange at which both sides were active: its pass, and what is left.
 
 ghost use Rattle.std.specs.Prelude.{◌≡◌, ◌≢◌, [], true, false, IsTrue};
 ghost use Rattle.body_coder.specs.Stops.{is_bad, is_done};
@@ -26,7 +26,7 @@ use http_texts::{Code, Persistence};
 pub enum Rest {
     /// Its client may ask again.
     Settling(Settling),
-    /// Its client is left once all is told.
+    /// The connection is closed once the last bytes are sent.
     Leaving(Leaving),
 }
 
@@ -43,7 +43,8 @@ pub struct Ended {
 }
 
 impl Passing {
-    /// The client is told this in place of an answer of which it took no byte, for this reason, behind what it took of the leave.
+    /// The client is sent this refusal in place of an answer of which it took no byte, after what
+    /// it took of the `100`.
     pub fn refuse(self, code: Code) -> Ended
         requires { self.begun ≡ false }
         ensures { (h : History) → (is : stages.IsPassing self h) → Reason h.signs self.view is.behind h.server_in code
@@ -64,7 +65,7 @@ impl Passing {
         }
     }
 
-    /// The server's input came to its end before the answer's: 502.
+    /// The server's input ended before the answer did: 502.
     pub fn refuse_unanswered(self) -> Ended
         requires none { self.begun ≡ false }
         requires ended { self.ended ≡ true }
@@ -73,7 +74,7 @@ impl Passing {
         self.refuse(Code::BadGateway)
     }
 
-    /// What came behind the answer's head is none of its bodies: 502.
+    /// The bytes after the answer's head can't be its body: 502.
     pub fn refuse_broken(self) -> Ended
         requires none { self.begun ≡ false }
         requires body { self.phase ≡ Down.Body }
@@ -83,7 +84,7 @@ impl Passing {
         self.refuse(Code::BadGateway)
     }
 
-    /// What came behind the request's head is none of its bodies: 400.
+    /// The bytes after the request's head can't be its body: 400.
     pub fn refuse_request(self) -> Ended
         requires none { self.begun ≡ false }
         requires bad { is_bad self.up.coding ≡ true }
@@ -92,7 +93,8 @@ impl Passing {
         self.refuse(Code::BadRequest)
     }
 
-    /// Its client has gone: nothing more is written, and the pass goes back as done, since the server isn't to blame.
+    /// The client has left: nothing more is written, and the pass is posted as done, since the
+    /// server isn't to blame.
     pub fn abandon(self) -> Pass
         ensures ends { (h : History) → stages.IsPassing self h → stages.IsOver (posted h result ending.Done) }
         ensures pass { result ≡ self.pass }
@@ -101,8 +103,9 @@ impl Passing {
         pass
     }
 
-    /// May the request be sent once more, on another connection? No byte of an answer came and it has no body; and no byte of it reached a server, or the
-    /// connection at hand was used before and the request is one that may be served twice.
+    /// Says whether the request may be sent again on another connection: no byte of an answer came
+    /// and it has no body; and no byte of it reached a server, or the present connection was used
+    /// before and the request is idempotent.
     pub fn can_repeat(&self) -> bool
         ensures may { IsTrue result → repeats.IsRepeatable self.now }
         ensures each { repeats.IsRepeatable self.now → self.now.fresh ≡ false → IsTrue result }
@@ -113,7 +116,7 @@ impl Passing {
             && is_bare(self.framing)
     }
 
-    /// The server's connection broke: the same request goes out on another, on the same pass.
+    /// The server's connection broke: the same request is sent on another one, under the same pass.
     pub fn again(self) -> Dialing
         requires { repeats.IsRepeatable self }
         ensures { (h : History) → stages.IsPassing self h → (h.server_in ≡ []) × stages.IsDialing result (retried h) }
@@ -154,7 +157,7 @@ impl Passing {
         }
     }
 
-    /// Did nothing of it reach a server, and nothing of an answer come?
+    /// Says whether no byte of the request reached a server, and no byte of an answer came.
     pub fn is_untouched(&self) -> bool
         ensures may { IsTrue result → repeats.IsUntouched self.now }
         ensures each { repeats.IsUntouched self.now → IsTrue result }
@@ -162,7 +165,8 @@ impl Passing {
         !self.reached && self.phase == Down::Heads(0) && self.down_held.is_empty()
     }
 
-    /// The server's connection broke before it was handed a byte: what waits for the server goes out on another as it stands, on the same pass.
+    /// The server's connection broke before it took a byte: the bytes that wait for the server are
+    /// sent on another one as they are, under the same pass.
     pub fn redial(&mut self)
         requires { repeats.IsUntouched self.old }
         ensures { (h : History) → stages.IsPassing self.old h → (h.server_in ≡ []) × stages.IsPassing self.new (retried h) }
@@ -173,7 +177,7 @@ impl Passing {
         self.dialing = true;
     }
 
-    /// Were both messages read to their ends, and was the client told that it may ask again?
+    /// Says whether both messages were read to their ends, and the client was told that it may ask again.
     pub fn is_whole(&self) -> bool
         ensures whole { IsTrue result → (self.now.phase ≡ Down.Body) × (is_done self.now.up.coding ≡ true) × (is_done self.now.down.coding ≡ true)
             × (self.now.says ≢ Persistence.Close) }
@@ -189,8 +193,10 @@ impl Passing {
         }
     }
 
-    /// Is nothing left on the server's side? Both messages were read to the ends that they say, the request has no body and all of it was sent, nothing came
-    /// behind the answer, and the server was asked to keep its connection, and keeps it. A server that doesn't read a body would take it for the next request.
+    /// Says whether nothing is left on the server's side: both messages were read to their marked
+    /// ends, the request has no body and was sent whole, nothing came after the answer, and the
+    /// server was asked to keep its connection open, and does. (A server that doesn't read a body
+    /// would take it for the next request.)
     pub fn is_clean(&self) -> bool
         ensures { result ≡ settling.is_clean self.now }
     {
@@ -203,7 +209,7 @@ impl Passing {
             && is_bare(self.framing)
     }
 
-    // Was the answer read to the end that it says?
+    // Says whether the answer was read to its marked end.
     fn is_done_at(&self) -> bool
         ensures { result ≡ settling.is_done_at self.now.phase self.now.down.coding }
     {
@@ -213,7 +219,7 @@ impl Passing {
         }
     }
 
-    /// It is over: its pass is to be posted. Where both messages were whole the client may ask again.
+    /// Ends the exchange: its pass is to be posted. Where both messages were whole the client may ask again.
     pub fn settle(self) -> Settled
         ensures ends { (h : History) → stages.IsPassing self h → settling.IsRest result.rest (posted h result.pass ending.Done) }
         ensures whole { settling.IsMarked (has_answered self) result.rest }
@@ -271,7 +277,7 @@ impl Passing {
         }
     }
 
-    /// It is over, however far it is: its pass is to be posted as done, since nothing is tried again.
+    /// Ends the exchange at any stage: its pass is to be posted as done, since nothing is tried again.
     pub fn end(self) -> Ended
         ensures ends { (h : History) → stages.IsPassing self h → stages.IsLeaving result.rest (posted h result.pass ending.Done) }
         ensures pass { result.pass ≡ self.pass }
@@ -280,7 +286,8 @@ impl Passing {
         self.end_as(false, false)
     }
 
-    // And whether its answer was read whole, and its server's connection can be used again.
+    // Ends it, with the knowledge whether its answer was read whole, and whether its server's
+    // connection can be used again.
     fn end_as(self, whole: bool, clean: bool) -> Ended
         requires whole { whole ≡ true → has_answered self ≡ true }
         requires clean { clean ≡ true → settling.is_clean self ≡ true }
@@ -322,7 +329,7 @@ impl Passing {
     }
 }
 
-// Was a server asked to keep its connection?
+// Says whether a server was asked to keep its connection open.
 fn asks_to_stay(asks: Persistence) -> bool
     ensures { result ≡ settling.asks_to_stay asks }
 {

@@ -1,4 +1,4 @@
-//! The heads that a server sends: found in what came, and handed on.
+//! The heads that a server sends: they are found in its bytes, and handed on.
 
 ghost use Rattle.std.specs.Prelude.{◌≡◌, ◌≢◌, ◌<◌, ℕ, true, false, Some, IsSome};
 ghost use Rattle.exchange_machine.specs.Histories.{History};
@@ -19,35 +19,35 @@ use http_texts::{
 use req_view::{AnswerHead, Viewed, answer_head};
 use std::alloc::Global;
 
-/// What became of a look for a head of an answer.
+/// The result of looking for a head of an answer.
 #[derive(Clone, Copy, Debug, PartialEq, Eq)]
 pub enum Headed {
     More,
     Interim,
     /// The answer's own head was handed on.
     Answer,
-    /// There is no room for its text before more is sent.
+    /// There is no room for its text until more is sent.
     Full,
-    /// No memory.
+    /// Memory is short.
     Short,
-    /// What came has no answer that is passed on.
+    /// The bytes have no answer that is passed on.
     Refused,
 }
 
-/// What stands at the front of what came of a server, behind so many heads before an answer.
+/// What stands at the front of a server's bytes, after a number of interim heads.
 #[derive(Drop)]
 pub enum Seen {
-    /// No head yet.
+    /// No whole head yet.
     More,
-    /// A head before the answer, of so many bytes.
+    /// An interim head, of this number of bytes.
     Interim(AnswerHead, usize),
-    /// The answer's own, of so many bytes, and what is done with it.
+    /// The answer's own head, of this number of bytes, and the plan for its body.
     Final(AnswerHead, usize, Plan),
-    /// No head that is passed on, whatever follows, for this reason; or memory is wanting.
+    /// No head that is passed on, whatever follows, for this reason; or memory is short.
     Refused(Fault),
 }
 
-/// Looks for the next head of an answer to a request of this method. `O(n)`.
+/// Looks for the next head of an answer to a request with this method. `O(n)`.
 pub fn see_head(alloc: Global, method: &[u8], held: &[u8], count: u64) -> Seen
     ensures { IsSeen method.now count held.now result }
 {
@@ -63,7 +63,8 @@ pub fn see_head(alloc: Global, method: &[u8], held: &[u8], count: u64) -> Seen
 }
 
 impl Passing {
-    /// Looks for a head in what is held, where a line of it ended since the last look, and hands it on. Nothing else changes.
+    /// Looks for a head in the held bytes, where a line has ended since the last look, and hands it
+    /// on. Nothing else changes.
     pub fn read_head(&mut self, alloc: Global) -> Headed
         ensures passes { (h : History) → stages.IsPassing self.old h → stages.IsPassing self.new h }
         ensures refused { result ≡ Headed.Refused → (h : History) → stages.IsPassing self.old h → LacksAnswer self.new.view.method h.server_in }

@@ -4,14 +4,14 @@ ghost use Rattle.std.specs.List.{list_any};
 /// The most bytes of a head.
 pub(crate) const HEAD_BYTES: usize = 16_384;
 
-/// Does a line end in it?
+/// Says whether a line ends in the bytes.
 pub(crate) fn has_feed(bytes: &[u8]) -> bool
     ensures { result ≡ list_any (λ byte. byte == 10) bytes.now }
 {
     bytes.iter().any(|&byte| byte == b'\n')
 }
 
-/// Forgets the first bytes, all of them where there are no more. `O(n)`.
+/// Removes the first bytes, or all where there are fewer. `O(n)`.
 pub fn forget(held: &mut Vec<u8>, count: usize)
     ensures { held.new.items ≡ drop count held.old.items }
 {
@@ -24,7 +24,7 @@ pub fn forget(held: &mut Vec<u8>, count: usize)
     held.truncate(len - count);
 }
 
-/// Is a head to be looked for in what is held, now that this came?
+/// Says whether to look for a head in the held bytes, now that these came.
 pub(crate) fn looks_again(looks: bool, came: &[u8], held: usize) -> bool {
     looks || has_feed(came) || held >= HEAD_BYTES
 }

@@ -29,8 +29,8 @@ ghost use Rattle.exchange_machine.specs.declared.telling.Telling as telling;
 
 use crate::sides::Down;
 
-/// What went out of a way is a front of the head's text and the text of the body that came, whatever more comes of it; and where the body
-/// is whole and nothing waits, it is all of it.
+/// The bytes that were sent in one direction are a front of the head's text and the text of the
+/// body, whatever more of it comes; where the body is whole and nothing waits, they are all of it.
 pub fn what_a_way_sends()
     ensures front { (framing : framings.Framing) (framed : Bool) (c : codings.Coding) (text waiting came went more sent : List ℕ)
         → Hears (start_of framing framed) c text waiting came went → IsSent framing framed (came ++ more) sent → IsFront went (text ++ sent) }
@@ -38,7 +38,8 @@ pub fn what_a_way_sends()
         → Hears (start_of framing framed) c text [] came went → is_done c ≡ true → (body : List ℕ) × IsBody framing framed came body × (went ≡ text ++ body) }
 {}
 
-/// What a side gave is a front of what the message becomes of which these bytes came, by the definitions of whole messages.
+/// The text of a side is a front of what any message becomes that begins with these bytes, by the
+/// definitions of whole messages.
 pub fn what_sides_send()
     ensures up { (adds : additions.Additions) (r : Request) (c : codings.Coding) (held came given more text : List ℕ) → IsUp adds r c held came given
         → IsLongest (PartOfForwarded adds r) (came ++ more) text → IsFront given text }
@@ -53,7 +54,7 @@ pub fn what_sides_send()
         → is_done c ≡ true → (used : List ℕ) × (came ≡ used ++ held) × IsAnswered says method framed used given }
 {}
 
-/// The headline, at each stage: with the calls' clauses, after any interleaving of them.
+/// The main theorem, at each stage: with the calls' clauses, it holds after any interleaving of them.
 pub fn what_holds()
     ensures asking { (a : asking.Asking) (h : History) → IsAsking a h → Sound h }
     ensures waiting { (w : waiting.Waiting) (h : History) → IsWaiting w h → Sound h }

@@ -4,39 +4,41 @@ ghost use Rattle.exchange_machine.specs.Stages as stages;
 
 use crate::way::Way;
 
-/// What is still to be sent to the client before it is left.
+/// The bytes that the client is still to be sent before its connection is closed.
 #[derive(Drop)]
 pub struct Leaving {
     pub(crate) out: Way,
-    /// Whether it is the whole answer of its server.
+    /// They end the whole answer of its server.
     pub(crate) whole: bool,
-    /// Whether its server's connection can be used again.
+    /// Its server's connection can be used again.
     pub(crate) clean: bool,
 }
 
 impl Leaving {
-    /// Is what the client is told the whole answer of its server, and no refusal, nor an answer that broke off?
+    /// Says whether the client is sent the whole answer of its server, and not a refusal or an
+    /// answer that broke off.
     pub fn is_answered(&self) -> bool
         ensures { result ≡ self.now.whole }
     {
         self.whole
     }
 
-    /// Can its server's connection be used again? Both messages were whole, all of the request was sent, and nothing came behind the answer.
+    /// Says whether its server's connection can be used again: both messages were whole, the
+    /// request was sent whole, and nothing came after the answer.
     pub fn is_clean(&self) -> bool
         ensures { result ≡ self.now.clean }
     {
         self.clean
     }
 
-    /// What the client is still to be sent.
+    /// Returns the bytes that the client is still to be sent.
     pub fn to_client(&self) -> &[u8]
         ensures { result.now ≡ self.now.out.out }
     {
         self.out.waiting()
     }
 
-    /// It took so many bytes of it.
+    /// The client took this number of them.
     pub fn client_took(&mut self, count: usize)
         requires { count ≤ length self.old.out.out }
         ensures took { (h : History) → stages.IsLeaving self.old h → stages.IsLeaving self.new (client_got h (take count self.old.out.out)) }

@@ -1,4 +1,5 @@
-//! One request and its answer as a value. It holds no socket: what came goes in, what is to be sent comes out, both ways at once.
+//! One request and its answer as a value. It holds no socket: the bytes that come go in, and the
+//! bytes to send come out, in both directions at once.
 #![tactic(auto)]
 
 mod asking;

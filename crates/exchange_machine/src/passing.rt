@@ -16,52 +16,52 @@ use relay_body::Framing;
 use req_view::View;
 use std::alloc::AllocError;
 
-/// Both sides run at once: the request to the server and the answer to the client.
+/// An exchange with both sides active: the request goes to the server, and the answer to the client.
 pub struct Passing {
     pub(crate) view: View,
     pub(crate) pass: Pass,
     pub(crate) up: Way,
     pub(crate) up_held: Vec<u8>,
-    /// The server takes no more of the request, which goes on unread.
+    /// The server takes no more of the request, whose rest isn't read.
     pub(crate) cut: bool,
     pub(crate) phase: Down,
     pub(crate) down: Way,
     pub(crate) down_held: Vec<u8>,
     pub(crate) reached: bool,
     pub(crate) framing: Framing,
-    /// Whether the server's connection was opened for this request.
+    /// The server's connection was opened for this request.
     pub(crate) fresh: bool,
     /// What was added to the request.
     pub(crate) adds: Additions,
-    /// Whether the proxy would serve its client further.
+    /// The proxy is willing to serve its client further.
     pub(crate) willing: bool,
-    /// What the client is told of its own.
+    /// What the client is told of its own connection.
     pub(crate) says: Persistence,
-    /// Whether the server keeps its connection.
+    /// The server keeps its connection open.
     pub(crate) kept: bool,
-    /// Whether the server's input was read to its end.
+    /// The server's input was read to its end.
     pub(crate) ended: bool,
-    /// Whether it came to its end, and didn't break.
+    /// The end came without an error.
     pub(crate) well: bool,
-    /// Whether a line ended in what is held since a head was looked for in it.
+    /// A line has ended in the held bytes since the last look for a head.
     pub(crate) looks: bool,
-    /// Whether the client took a byte behind the leave.
+    /// The client took a byte behind the `100`.
     pub(crate) begun: bool,
-    /// How many bytes of the leave the client is still to take.
+    /// The number of bytes of the `100` that the client is still to take.
     pub(crate) leave_left: usize,
-    /// Whether a connection is awaited, in place of one that broke.
+    /// A connection is awaited in place of one that broke.
     pub(crate) dialing: bool,
 }
 
 impl Passing {
-    /// Its pass, to be looked at.
+    /// Returns its pass.
     pub fn pass(&self) -> &Pass
         ensures { result.now ≡ self.now.pass }
     {
         &self.pass
     }
 
-    /// What came of the client: how much was taken. No more is taken than there is room for.
+    /// Takes bytes of the client, no more than there is room for, and returns how many.
     pub fn client_bytes(&mut self, input: &[u8]) -> usize
         ensures within { result ≤ length input.now }
         ensures passes { (h : History) → stages.IsPassing self.old h → self.old.up_held.items ≡ []
@@ -74,7 +74,7 @@ impl Passing {
         fed.used
     }
 
-    /// Is anything held that came behind the request's head?
+    /// Says whether no bytes from behind the request's head are held.
     pub fn holds_none(&self) -> bool
         ensures none { IsTrue result → self.now.up_held.items ≡ [] }
         ensures each { self.now.up_held.items ≡ [] → IsTrue result }
@@ -82,7 +82,7 @@ impl Passing {
         self.up_held.is_empty()
     }
 
-    /// What came behind the request's head goes first.
+    /// Uses the bytes from behind the request's head, before any new ones.
     pub fn use_held(&mut self)
         ensures { (h : History) → stages.IsPassing self.old h → stages.IsPassing self.new h }
     {
@@ -90,7 +90,7 @@ impl Passing {
         forget(&mut self.up_held, fed.used);
     }
 
-    /// What came behind the answer's head goes first.
+    /// Uses the bytes from behind the answer's head, before any new ones.
     pub fn use_answer_held(&mut self)
         requires { self.old.phase ≡ Down.Body }
         ensures passes { (h : History) → stages.IsPassing self.old h → stages.IsPassing self.new h }
@@ -100,7 +100,7 @@ impl Passing {
         forget(&mut self.down_held, fed.used);
     }
 
-    /// The server takes no more: nothing more of the request is sent or taken.
+    /// The server takes no more: no more of the request is sent or taken.
     pub fn cut_off(&mut self)
         ensures passes { (h : History) → stages.IsPassing self.old h → stages.IsPassing self.new h }
         ensures cut { self.new.cut ≡ true }
@@ -108,14 +108,14 @@ impl Passing {
         self.cut = true;
     }
 
-    /// Is a connection awaited, in place of one that broke?
+    /// Says whether a connection is awaited in place of one that broke.
     pub fn is_dialing(&self) -> bool
         ensures { result ≡ self.now.dialing }
     {
         self.dialing
     }
 
-    /// The server was reached, on a connection that is new or was used before.
+    /// The server was reached, on a new connection or a used one.
     pub fn connect(&mut self, fresh: bool)
         ensures passes { (h : History) → stages.IsPassing self.old h → stages.IsPassing self.new h }
         ensures there { (self.new.dialing ≡ false) × (self.new.fresh ≡ fresh) }
@@ -124,14 +124,14 @@ impl Passing {
         self.dialing = false;
     }
 
-    /// Does the server take no more?
+    /// Says whether the server takes no more.
     pub fn is_cut(&self) -> bool
         ensures { result ≡ self.now.cut }
     {
         self.cut
     }
 
-    /// The server sends no more, or else its connection can't be read: all that came was taken before.
+    /// The server sends no more, or its connection can't be read: all bytes that came were taken before.
     pub fn server_ended(&mut self, well: bool)
         ensures passes { (h : History) → stages.IsPassing self.old h → HasEnded h.signs → (well ≡ true → Shows h.signs Sign.ServerEnded)
             → stages.IsPassing self.new h }
@@ -141,49 +141,49 @@ impl Passing {
         self.well = well;
     }
 
-    /// Was the server's input read to its end?
+    /// Says whether the server's input was read to its end.
     pub fn has_ended(&self) -> bool
         ensures { result ≡ self.now.ended }
     {
         self.ended
     }
 
-    /// Was the request read to its end?
+    /// Says whether the request was read to its end.
     pub fn is_asked(&self) -> bool
         ensures { result ≡ is_done self.now.up.coding }
     {
         self.up.is_whole()
     }
 
-    /// Is what came of the request's body no front of one?
+    /// Says whether the bytes of the request's body aren't the front of any body.
     pub fn is_asked_badly(&self) -> bool
         ensures { result ≡ is_bad self.now.up.coding }
     {
         self.up.is_broken()
     }
 
-    /// Is what came of the answer's body no front of one?
+    /// Says whether the bytes of the answer's body aren't the front of any body.
     pub fn is_answered_badly(&self) -> bool
         ensures { result ≡ is_bad self.now.down.coding }
     {
         self.down.is_broken()
     }
 
-    /// Did the client take a byte of the answer, or of a head before it?
+    /// Says whether the client took a byte of the answer, or of an interim head.
     pub fn has_begun(&self) -> bool
         ensures { result ≡ self.now.begun }
     {
         self.begun
     }
 
-    /// Does the answer go on to the end of the server's input?
+    /// Says whether the answer goes on to the end of the server's input.
     pub fn goes_to_end(&self) -> bool
         ensures { IsTrue result → (self.now.phase ≡ Down.Body) × (self.now.down.coding ≡ codings.Coding.ToEnd) }
     {
         self.phase == Down::Body && self.down.goes_to_end()
     }
 
-    /// Was the answer's head handed on?
+    /// Says whether the answer's head was handed on.
     pub fn is_at_body(&self) -> bool
         ensures body { IsTrue result → self.now.phase ≡ Down.Body }
         ensures each { self.now.phase ≡ Down.Body → IsTrue result }
@@ -191,7 +191,7 @@ impl Passing {
         self.phase == Down::Body
     }
 
-    /// Was the answer read to its end?
+    /// Says whether the answer was read to its end.
     pub fn is_answered(&self) -> bool
         ensures whole { IsTrue result → (self.now.phase ≡ Down.Body) × (is_done self.now.down.coding ≡ true) }
         ensures each { self.now.phase ≡ Down.Body → is_done self.now.down.coding ≡ true → IsTrue result }
@@ -202,7 +202,7 @@ impl Passing {
         }
     }
 
-    /// Was the answer read whole: to the end that it says, or else to that of the server's input?
+    /// Says whether the answer was read whole: to its marked end, or else to the end of the server's input.
     pub fn has_answered(&self) -> bool
         ensures { result ≡ has_answered self.now }
     {
@@ -212,7 +212,7 @@ impl Passing {
         }
     }
 
-    /// Is nothing held of what came of the server?
+    /// Says whether no bytes from the server are held.
     pub fn holds_no_answer(&self) -> bool
         ensures none { IsTrue result → self.now.down_held.items ≡ [] }
         ensures each { self.now.down_held.items ≡ [] → IsTrue result }
@@ -220,14 +220,14 @@ impl Passing {
         self.down_held.is_empty()
     }
 
-    /// What the server is to be sent.
+    /// Returns the bytes that the server is to be sent.
     pub fn to_server(&self) -> &[u8]
         ensures { result.now ≡ self.now.up.out }
     {
         self.up.waiting()
     }
 
-    /// It took so many bytes of it.
+    /// The server took this number of them.
     pub fn server_took(&mut self, count: usize)
         requires { count ≤ length self.old.up.out }
         ensures { (h : History) → stages.IsPassing self.old h → stages.IsPassing self.new (server_got h (take count self.old.up.out)) }
@@ -236,14 +236,14 @@ impl Passing {
         self.up.went(count);
     }
 
-    /// What the client is to be sent.
+    /// Returns the bytes that the client is to be sent.
     pub fn to_client(&self) -> &[u8]
         ensures { result.now ≡ self.now.down.out }
     {
         self.down.waiting()
     }
 
-    /// It took so many bytes of it.
+    /// The client took this number of them.
     pub fn client_took(&mut self, count: usize)
         requires { count ≤ length self.old.down.out }
         ensures { (h : History) → stages.IsPassing self.old h → stages.IsPassing self.new (client_got h (take count self.old.down.out)) }
@@ -254,7 +254,7 @@ impl Passing {
         self.down.went(count);
     }
 
-    /// What came of the answer's body: how much was taken. It is taken whether or not the request was sent whole.
+    /// Takes bytes of the answer's body, whether or not the request was sent whole, and returns how many.
     pub fn server_bytes(&mut self, input: &[u8]) -> usize
         requires body { self.old.phase ≡ Down.Body }
         requires first { self.old.down_held.items ≡ [] }
@@ -265,7 +265,7 @@ impl Passing {
         fed.used
     }
 
-    /// What came of the heads before the answer's body: how much was taken. 16 KiB at most are held.
+    /// Takes bytes of the heads before the answer's body, and returns how many. At most 16 KiB are held.
     pub fn server_head_bytes(&mut self, input: &[u8]) -> Result<usize, AllocError>
         ensures within { IfOk result (λ used. used ≤ length input.now) }
         ensures passes { IfOk result (λ used. (h : History) → stages.IsPassing self.old h → stages.IsPassing self.new (server_came h (take used input.now))) }
@@ -284,7 +284,7 @@ impl Passing {
     }
 }
 
-// Whether more than the leave was taken, and how many bytes of it weren't, once so many more were.
+// Says whether bytes behind the `100` were taken, and how many bytes of it weren't, once `count` more were.
 fn leave_told(begun: bool, left: usize, count: usize) -> (bool, usize)
     ensures { result.0 ≡ false → (begun ≡ false) × (count ≤ left) × (result.1 ≡ left - count) }
 {

@@ -8,7 +8,8 @@ use crate::asking::{Turn, look_on};
 use crate::way::Way;
 use std::alloc::Global;
 
-/// Both messages were whole. What the client is still told waits, and behind it the next request may stand.
+/// An exchange whose messages were both whole. The last bytes for the client wait, and the next
+/// request may stand after this one.
 #[derive(Drop)]
 pub struct Settling {
     pub(crate) out: Way,
@@ -17,21 +18,22 @@ pub struct Settling {
 }
 
 impl Settling {
-    /// Can its server's connection be used again? All of the request was sent, and nothing came behind the answer.
+    /// Says whether its server's connection can be used again: the request was sent whole, and
+    /// nothing came after the answer.
     pub fn is_clean(&self) -> bool
         ensures { result ≡ self.now.clean }
     {
         self.clean
     }
 
-    /// What the client is still to be sent.
+    /// Returns the bytes that the client is still to be sent.
     pub fn to_client(&self) -> &[u8]
         ensures { result.now ≡ self.now.out.out }
     {
         self.out.waiting()
     }
 
-    /// It took so many bytes of it.
+    /// The client took this number of them.
     pub fn client_took(&mut self, count: usize)
         requires { count ≤ length self.old.out.out }
         ensures took { (h : History) → settling.IsSettling self.old h → settling.IsSettling self.new (client_got h (take count self.old.out.out)) }
@@ -41,7 +43,7 @@ impl Settling {
         self.out.went(count);
     }
 
-    /// All was told: the next request is looked for in what came behind the last one.
+    /// All was sent: looks for the next request in the bytes after the last one.
     pub fn next(self, alloc: Global) -> Turn
         ensures turn { stages.IsTurn result (begun self.behind.items) }
         ensures checked { stages.IsChecked result }

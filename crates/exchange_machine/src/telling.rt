@@ -7,7 +7,7 @@ ghost use Rattle.http_texts.specs.declared.fault.Fault as faults;
 use crate::signs::Sign;
 use http_texts::{Code, Fault};
 
-/// A refusal that goes out where no outbox was made yet: what is still to be told of it.
+/// A refusal that is sent before an outbox was made: the bytes of it that are still to be sent.
 #[derive(Drop)]
 pub struct Telling {
     rest: &'static [u8],
@@ -20,7 +20,7 @@ impl Telling {
         Telling { rest: code.text() }
     }
 
-    /// What came is none that the proxy takes: 400.
+    /// Refuses bytes that the proxy doesn't accept: 400.
     pub fn of_fault(fault: Fault) -> Telling
         requires { fault ≢ Fault.NoMemory }
         ensures { (h : History) → stages.IsUnread fault h → stages.IsTelling result h }
@@ -28,21 +28,21 @@ impl Telling {
         Telling::of(Code::BadRequest)
     }
 
-    /// There is no memory for the request: 503.
+    /// Refuses a request for want of memory: 503.
     pub fn starved() -> Telling
         ensures { (fault : faults.Fault) (h : History) → stages.IsUnread fault h → stages.IsTelling result (signed h Sign.NoMemory) }
     {
         Telling::of(Code::Unavailable)
     }
 
-    /// What the client is still to be sent.
+    /// Returns the bytes that the client is still to be sent.
     pub fn to_client(&self) -> &[u8]
         ensures { result.now ≡ self.now.rest.now }
     {
         self.rest
     }
 
-    /// It took so many bytes of it.
+    /// The client took this number of them.
     pub fn client_took(&mut self, count: usize)
         requires { count ≤ length self.old.rest.now }
         ensures { (h : History) → stages.IsTelling self.old h → stages.IsTelling self.new (client_got h (take count self.old.rest.now)) }

@@ -10,7 +10,7 @@ use http_texts::Code;
 use relay_body::Framing;
 use req_view::View;
 
-/// A request whose head was read, and what came behind it.
+/// A request whose head was read, and the bytes after it.
 #[derive(Drop)]
 pub struct Asked {
     pub(crate) view: View,
@@ -18,21 +18,21 @@ pub struct Asked {
     pub(crate) held: Vec<u8>,
 }
 
-/// It waits for a pass. Nothing more is read but the end of the client's input.
+/// A request that waits for a pass. Nothing more is read but the end of the client's input.
 #[derive(Drop)]
 pub struct Waiting {
     pub(crate) asked: Asked,
 }
 
 impl Waiting {
-    /// Its request.
+    /// Returns its request.
     pub fn view(&self) -> &View
         ensures { result.now ≡ self.now.asked.view }
     {
         &self.asked.view
     }
 
-    /// Its request, and what came behind its head.
+    /// Returns its request, and the bytes after the head.
     pub fn parts(self) -> (View, Vec<u8>)
         ensures view { result.0 ≡ self.asked.view }
         ensures behind { result.1.items ≡ self.asked.held.items }
@@ -41,7 +41,7 @@ impl Waiting {
         (asked.view, asked.held)
     }
 
-    /// A pass came.
+    /// A pass comes.
     pub fn grant(self, pass: Pass) -> Dialing
         ensures dials { (h : History) → stages.IsWaiting self h → stages.IsDialing result (granted h pass) }
         ensures pass { result.pass ≡ pass }

@@ -1,4 +1,4 @@
-//! Which bytes both sides are waited for.
+//! The bytes that the exchange waits for at both sides.
 
 ghost use Rattle.std.specs.Prelude.{◌≡◌};
 ghost use Rattle.exchange_machine.specs.Wants as wants;
@@ -8,11 +8,11 @@ use crate::passing::Passing;
 use crate::sides::Down;
 use body_coder::OUTBOX_BYTES;
 
-/// Where no more bytes wait to be sent, there is room for some more of a body.
+/// There is room for more of a body where no more bytes than this wait to be sent.
 const ROOMY: usize = 16_384;
 
 impl Passing {
-    /// Is more of the request taken now?
+    /// Says whether more of the request is taken now.
     pub fn takes_request(&self) -> bool
         ensures { result ≡ wants.takes_request self.now }
     {
@@ -23,7 +23,7 @@ impl Passing {
             && is_roomy(self.to_server())
     }
 
-    /// Is more of the answer taken now?
+    /// Says whether more of the answer is taken now.
     pub fn takes_answer(&self) -> bool
         ensures { result ≡ wants.takes_answer self.now }
     {
@@ -40,12 +40,12 @@ impl Passing {
         }
     }
 
-    /// About how many bytes more of the request fit.
+    /// Returns about how many more bytes of the request fit.
     pub fn request_room(&self) -> usize {
         OUTBOX_BYTES.saturating_sub(self.to_server().len())
     }
 
-    /// About how many bytes more of the answer fit.
+    /// Returns about how many more bytes of the answer fit.
     pub fn answer_room(&self) -> usize {
         match self.phase {
             Down::Heads(_) => HEAD_BYTES.saturating_sub(self.down_held.len()),
@@ -53,7 +53,7 @@ impl Passing {
         }
     }
 
-    /// Does anything wait for a server that takes it?
+    /// Says whether bytes wait for a server that takes them.
     pub fn sends_request(&self) -> bool
         ensures { result ≡ wants.sends_request self.now }
     {

@@ -9,8 +9,8 @@ use body_coder::{Coding, Fed, OUTBOX_BYTES, Outbox, State};
 use relay_body::Framing;
 use std::alloc::{AllocError, Global};
 
-/// One direction of an exchange: a head's text, and then a body. What comes of the body is taken as far as there is room for what it becomes, and
-/// what is to be sent waits.
+/// One direction of an exchange: a head's text, and then a body. Bytes of the body are taken as
+/// long as there is room for their text, and the text waits to be sent.
 #[derive(Drop)]
 pub struct Way {
     coding: Coding,
@@ -18,7 +18,7 @@ pub struct Way {
 }
 
 impl Way {
-    /// A way that takes nothing and sends nothing yet. It takes 16 KiB, once for its life.
+    /// Makes an empty way. It takes 16 KiB, once for its life.
     pub fn new(alloc: Global) -> Result<Way, AllocError>
         ensures { IfOk result (λ way. way.out ≡ []) }
     {
@@ -29,7 +29,7 @@ impl Way {
         })
     }
 
-    /// Puts text behind what waits: that of a head, or of a refusal.
+    /// Appends a text to what waits: a head, or a refusal.
     pub fn put(&mut self, text: &[u8])
         requires { length self.old.out + length text.now ≤ OUTBOX_BYTES }
         ensures out { self.new.out ≡ self.old.out ++ text.now }
@@ -38,7 +38,7 @@ impl Way {
         self.out.push(text);
     }
 
-    /// Begins a body behind it.
+    /// Begins a body after it.
     pub fn begin(&mut self, framing: Framing, framed: bool)
         ensures coding { self.new.coding ≡ start_of framing framed }
         ensures out { self.new.out ≡ self.old.out }
@@ -47,7 +47,7 @@ impl Way {
         self.coding = Coding::new(framing, framed);
     }
 
-    /// Takes what came of the body, up to its end and as far as there is room. `O(n)`.
+    /// Takes bytes of the body, up to its end and as long as there is room. `O(n)`.
     pub fn take(&mut self, input: &[u8]) -> Fed
         ensures within { result.used ≤ length input.now }
         ensures hears { (start : codings.Coding) (text came went : List ℕ) → Hears start self.old.coding text self.old.out came went
@@ -59,21 +59,21 @@ impl Way {
         self.coding.feed(input, &mut self.out)
     }
 
-    /// Is the body whole?
+    /// Says whether the body is whole.
     pub fn is_whole(&self) -> bool
         ensures { result ≡ is_done self.now.coding }
     {
         self.coding.is_whole()
     }
 
-    /// Is what came no front of a body?
+    /// Says whether the bytes so far aren't the front of any body.
     pub fn is_broken(&self) -> bool
         ensures { result ≡ is_bad self.now.coding }
     {
         self.coding.is_broken()
     }
 
-    /// Was the body read whole, where the input is over or isn't?
+    /// Says whether the body was read whole, where the input is over or not.
     pub fn is_read(&self, over: bool) -> bool
         ensures { result ≡ is_read self.now.coding over }
     {
@@ -83,7 +83,7 @@ impl Way {
         }
     }
 
-    /// Does the body go on to the end of the input?
+    /// Says whether the body goes on to the end of the input.
     pub fn goes_to_end(&self) -> bool
         ensures to_end { IsTrue result → self.now.coding ≡ Coding.ToEnd }
         ensures each { self.now.coding ≡ Coding.ToEnd → IsTrue result }
@@ -91,14 +91,14 @@ impl Way {
         self.coding == Coding::ToEnd
     }
 
-    /// What is to be sent next.
+    /// Returns the bytes to send next.
     pub fn waiting(&self) -> &[u8]
         ensures { result.now ≡ self.now.out }
     {
         self.out.as_slice()
     }
 
-    /// So many bytes of it were sent.
+    /// Removes the first bytes, which were sent.
     pub fn went(&mut self, count: usize)
         requires { count ≤ length self.old.out }
         ensures hears { (start : codings.Coding) (text came went : List ℕ) → Hears start self.old.coding text self.old.out came went
@@ -109,7 +109,7 @@ impl Way {
         self.out.sent(count);
     }
 
-    /// Takes back what stands behind so many bytes of it.
+    /// Keeps the first bytes alone, and removes those after them.
     pub fn keep_front(&mut self, count: usize)
         ensures { self.new.out ≡ take count self.old.out }
     {

@@ -5,12 +5,13 @@ use relay_body::Framing;
 use std::alloc::{AllocError, Global};
 use std::test::Fail;
 
-// chunks (RFC 9112, section 7.1), with an extension, with blanks and a trailer, and what comes behind them
+// chunks (RFC 9112, section 7.1) with an extension, with blanks and a trailer, and bytes after them
 const INPUT: &[u8] = b"5;x=1\r\nhello\r\n00A \t\r\n0123456789\r\n0\r\nA: b\r\n\r\nnext";
 
 const TEXT: &[u8] = b"5\r\nhello\r\na\r\n0123456789\r\n0\r\n\r\n";
 
-// What is given for the input in pieces of this size, how many bytes were taken, and whether the body is whole.
+// Returns the text for the input in pieces of this size, the number of bytes that were taken, and
+// whether the body is whole.
 fn given(
     alloc: Global,
     framed: bool,

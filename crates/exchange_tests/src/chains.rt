@@ -1,4 +1,4 @@
-//! Requests one after another on a client's connection, each cut in many ways.
+//! Tests of requests one after another on a client's connection, each cut in many ways.
 
 use crate::exchanges::{BAD, GET, HI, Row, first_fault};
 use crate::playing::{Move, Stage};
@@ -8,7 +8,7 @@ const OLD: &[u8] = b"GET /a HTTP/1.0\r\nHost: h\r\n\r\n";
 
 const OLD_KEPT: &[u8] = b"GET /a HTTP/1.0\r\nHost: h\r\nConnection: Keep-Alive\r\n\r\n";
 
-// requests that came behind one another, and their answers
+// requests that came one after the other, and their answers
 static CHAINS: [Row; 7] = [
     Row {
         name: "two requests in one piece",
@@ -165,7 +165,7 @@ static CHAINS: [Row; 7] = [
     },
 ];
 
-// exchanges behind which the client may not ask again
+// exchanges after which the client may not ask again
 static LAST: [Row; 8] = [
     Row {
         name: "a client that says close",

@@ -1,4 +1,5 @@
-//! The driver over streams that give and take bytes in random pieces, and in between have nothing or are full: in each order the same texts.
+//! Tests of the driver over streams that give and take bytes in random pieces, and are empty or
+//! full in between: the texts are the same in each order.
 ghost use Rattle.std.specs.Prelude.{◌<◌, ◌≤◌, ◌≡◌, length};
 
 use crate::till::Till;
@@ -32,7 +33,7 @@ impl Chance {
         (self.seed >> 33) as usize % most
     }
 
-    // The size of a piece of so many bytes at most.
+    // Returns the size of a piece, at most this number of bytes.
     fn piece(&mut self, most: usize) -> usize {
         self.below(most.max(1)).saturating_add(1)
     }
@@ -42,12 +43,12 @@ impl Chance {
     }
 }
 
-/// What both streams of a side count.
+/// The counts of both streams of a side.
 #[derive(Drop)]
 struct Counts {
     given: Cell<usize>,
     taken: Cell<usize>,
-    /// So often there was nothing, or no room.
+    /// The number of times that there was nothing to read or no room to write.
     blocks: Cell<usize>,
 }
 
@@ -60,7 +61,7 @@ impl Counts {
         }
     }
 
-    // How many bytes went over both streams.
+    // Returns the number of bytes that went over both streams.
     fn moved(&self) -> usize {
         self.given.get().wrapping_add(self.taken.get())
     }
@@ -71,18 +72,18 @@ impl Counts {
     }
 }
 
-/// What a side sends.
+/// The bytes that a side sends.
 #[derive(Drop)]
 struct Script {
     bytes: Vec<u8>,
-    /// The last byte comes once the side took so many.
+    /// The last byte comes once the side took this number of bytes.
     last_behind: usize,
     ends: bool,
-    /// A piece has so many bytes at most.
+    /// A piece has at most this number of bytes.
     piece: usize,
 }
 
-/// A side's bytes, in pieces.
+/// The source of a side's bytes, in pieces.
 #[derive(Drop)]
 struct Source {
     script: Script,
@@ -90,7 +91,7 @@ struct Source {
     chance: Chance,
 }
 
-/// What a side takes, in pieces.
+/// The sink of a side's bytes, in pieces.
 #[derive(Drop)]
 struct Sink {
     piece: usize,
@@ -100,7 +101,7 @@ struct Sink {
 }
 
 impl Source {
-    // So many bytes are there now.
+    // Returns the number of bytes that are there now.
     fn there(&self) -> usize {
         let rest = self
             .script
@@ -131,7 +132,7 @@ impl Read for Source {
     }
 }
 
-// Copies what stands at a place, as far as there is room and so many bytes at most.
+// Copies the bytes at a place, as long as there is room and at most this number.
 fn copy_from(bytes: &[u8], place: usize, most: usize, buf: &mut [u8]) -> usize
     ensures within { result ≤ length buf.new }
     ensures length { length buf.new ≡ length buf.old }
@@ -185,13 +186,13 @@ fn line(
     Ok(Line::new(alloc, Duplex::new(source, sink)))
 }
 
-/// What both sides send, in pieces of so many bytes at most, and what each is to get.
+/// The bytes that both sides send, in pieces of at most this size, and the bytes that each must get.
 #[derive(Clone, Copy)]
 struct Row<'a> {
     piece: usize,
     client: &'a [u8],
     server: &'a [u8],
-    /// The server's input ends behind its bytes.
+    /// The server's input ends after its bytes.
     ends: bool,
     sent: &'a [u8],
     told: &'a [u8],
@@ -207,7 +208,8 @@ impl Row<'_> {
         })
     }
 
-    // Its last byte comes once it was sent all of the request: else an answer that is whole ends what is sent.
+    // Its last byte comes once it was sent all of the request: otherwise a whole answer would end
+    // the request early.
     fn of_server(&self, alloc: Global) -> Result<Script, AllocError> {
         Ok(Script {
             bytes: Vec::from_slice(alloc, self.server)?,
@@ -227,10 +229,10 @@ const TERMS: Terms = Terms {
     fresh: true,
 };
 
-/// So often an exchange is driven, at most.
+/// The most times that an exchange is driven.
 const MOST: u32 = 1 << 20;
 
-/// With what an exchange is served, and its board, once it has a pass.
+/// What an exchange is served with, and its board once it has a pass.
 #[derive(Drop)]
 struct Desk {
     settings: Settings,
@@ -238,7 +240,7 @@ struct Desk {
 }
 
 impl Desk {
-    // Who waits gets a pass, and who has one is connected.
+    // Gives a pass to an exchange that waits, and connects one that has a pass.
     fn serve(&mut self, rt: &impl Abort, exchange: Exchange) -> Exchange {
         match &exchange {
             Exchange::Waiting(_) => {
@@ -277,7 +279,7 @@ impl Desk {
         }
     }
 
-    // A pass that it still has goes back.
+    // Posts a pass that the exchange still has.
     fn end(&mut self, rt: &impl Abort, exchange: Exchange) {
         match exchange {
             Exchange::Dialing(dialing) => {
@@ -318,7 +320,7 @@ fn is_told(moved: Option<Moved>) -> bool {
     }
 }
 
-/// Both sides of an exchange, and what they count.
+/// Both sides of an exchange, and their counts.
 #[derive(Drop)]
 struct Sides {
     client: Line<Duplex<Source, Sink>>,
@@ -341,7 +343,7 @@ impl Sides {
         })
     }
 
-    // Drives it once, after a poll that told of some of both. What it says of bytes that moved is true.
+    // Drives it once, after a poll that reported some of both sides. What it says of moved bytes is checked.
     fn drive(&mut self, rt: &impl Abort, desk: &mut Desk, exchange: Exchange) -> Exchange {
         self.client.wake(self.chance.flips(), self.chance.flips());
         self.server.wake(self.chance.flips(), self.chance.flips());
@@ -372,7 +374,7 @@ impl Sides {
         exchange
     }
 
-    // Whether each side got its text, after some waiting.
+    // Says whether each side got its text, after some waiting.
     fn have(self, row: &Row<'_>) -> bool {
         let waited = self.near.blocks.get() > 0 && self.far.blocks.get() > 0;
         let Sides { client, server, .. } = self;
@@ -387,7 +389,7 @@ fn has(line: Line<Duplex<Source, Sink>>, bytes: &[u8]) -> bool {
     }
 }
 
-// Whether each side gets its text in this order.
+// Says whether each side gets its text in this order.
 fn holds(rt: &impl Abort, alloc: Global, row: &Row<'_>, seed: u64) -> Result<bool, AllocError> {
     let mut sides = Sides::new(alloc, row, seed)?;
     let mut desk = Desk {
@@ -410,7 +412,7 @@ fn holds(rt: &impl Abort, alloc: Global, row: &Row<'_>, seed: u64) -> Result<boo
     Ok(sides.have(row))
 }
 
-// The first order of so many in which a row fails.
+// Returns the first of this number of orders in which a row fails.
 fn first_fault(
     rt: &impl Abort,
     alloc: Global,
@@ -459,7 +461,7 @@ fn small_messages(rt: HostRuntime) -> Result<(), Fail> {
     Ok(())
 }
 
-/// More than waits at once for a side that takes nothing.
+/// More bytes than can wait for a side that takes nothing.
 const LARGE: usize = 50_000;
 
 fn message(alloc: Global, head: &[u8], end: &[u8]) -> Result<Vec<u8>, AllocError> {

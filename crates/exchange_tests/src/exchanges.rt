@@ -1,4 +1,4 @@
-//! Exchanges, each cut in many ways on both ways in and out, with the sides in many orders.
+//! Tests of exchanges, each cut in many ways in both directions, with the sides in many orders.
 
 use crate::playing::{Cut, Move, Stage, Table};
 use mixed_exchange::Clock;
@@ -6,8 +6,8 @@ use std::alloc::Global;
 use std::process::Abort;
 use std::test::Fail;
 
-/// What happens, and what both sides got of it, how often the pass came back as done and as failed, how often the request went out anew, and where the
-/// exchange is at the end.
+/// The moves, the bytes that both sides got, the number of passes posted as done and as failed and
+/// of repeated requests, and the stage at the end.
 pub(crate) struct Row {
     pub(crate) name: &'static str,
     pub(crate) moves: &'static [Move],
@@ -164,7 +164,7 @@ static ANSWERS: [Row; 8] = [
     },
 ];
 
-// what breaks
+// connections and messages that break
 static FAULTS: [Row; 9] = [
     Row {
         name: "no answer",
@@ -294,7 +294,7 @@ static FAULTS: [Row; 9] = [
     },
 ];
 
-// no server, no request
+// without a server, without a request
 static REFUSALS: [Row; 4] = [
     Row {
         name: "no server",
@@ -339,7 +339,7 @@ static REFUSALS: [Row; 4] = [
     },
 ];
 
-// what is refused although something came
+// refusals although something came
 static BROKEN: [Row; 6] = [
     Row {
         name: "bad chunks of a request, of which a byte went on",
@@ -506,7 +506,7 @@ fn fault_of(rt: &impl Abort, alloc: Global, row: &Row) -> Option<Cut> {
     None
 }
 
-// Pieces of some sizes, each cut into two up to 70 bytes, and random ones.
+// Pieces of some sizes, each cut in two up to byte 70, and random ones.
 fn cut_of(number: usize) -> Cut {
     match number {
         0 => Cut::Pieces(1),
@@ -564,7 +564,7 @@ fn requests_that_go_out_anew(rt: HostRuntime) -> Result<(), Fail> {
     Ok(())
 }
 
-// They are refused before a pass is asked for where they came with the head, and else once they come.
+// They are refused before a pass is asked for where they came with the head, and otherwise as soon as they come.
 #[test]
 fn bad_chunks_of_a_request_are_refused(rt: HostRuntime) -> Result<(), Fail> {
     let moves = [

@@ -1,4 +1,5 @@
-//! Tests of bodies and exchanges in all pieces: a crate of their own, so that what they test isn't proved once more with them.
+//! Tests of bodies and exchanges in all pieces. They are a crate of their own, so that the crates
+//! under test aren't proved a second time with them.
 #![tactic(auto)]
 
 #[cfg(test)]

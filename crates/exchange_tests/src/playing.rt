@@ -1,4 +1,4 @@
-//! What becomes of an exchange over events, with all bytes cut and in some order.
+//! An exchange over a list of events, with all bytes cut and in some order.
 ghost use Rattle.std.specs.Prelude.{◌<◌};
 
 use crate::till::Till;
@@ -11,7 +11,7 @@ use std::net::{IpAddr, Ipv4Addr};
 use std::process::Abort;
 use verdict::Ending;
 
-/// What happens.
+/// A move of the script.
 #[derive(Clone, Copy)]
 pub(crate) enum Move {
     /// The client sends these bytes.
@@ -20,7 +20,7 @@ pub(crate) enum Move {
     Server(&'static [u8]),
     Grant,
     Unserved,
-    /// The server was reached, on a connection that is new or was used before.
+    /// The server is reached, on a new connection or a used one.
     Connected(bool),
     /// The same on a new connection, and the server is told that the client has this address.
     Named([u8; 4]),
@@ -31,17 +31,17 @@ pub(crate) enum Move {
     ServerFailed,
     ServerDeaf,
     Over(Clock),
-    /// The client asks again, and it may.
+    /// The client asks again, and may.
     Again,
     /// It may not ask again.
     Barred,
-    /// Whether what it is told is the whole answer of its server.
+    /// The client is sent the whole answer of its server.
     Answered(bool),
-    /// Whether nothing came of it yet.
+    /// No byte has come from it yet.
     Silent(bool),
-    /// Whether its server's connection can be used again.
+    /// Its server's connection can be used again.
     Clean(bool),
-    /// Whether its request may go out on a connection that was used before.
+    /// Its request may go out on a used connection.
     Used(bool),
     /// The client takes no more bytes.
     Stall,
@@ -58,7 +58,7 @@ pub(crate) enum Move {
 pub(crate) enum Cut {
     /// In pieces of this size.
     Pieces(usize),
-    /// What comes first of a side in two, at this byte.
+    /// The first bytes of a side in two pieces, cut at this byte.
     Two(usize),
     /// At random, and in a random order.
     Random(u64),
@@ -67,7 +67,7 @@ pub(crate) enum Cut {
 const ALL: usize = 4096;
 
 impl Cut {
-    // The size of the next piece.
+    // Returns the size of the next piece.
     fn next(&mut self) -> usize {
         match *self {
             Cut::Pieces(size) => size,
@@ -85,7 +85,7 @@ impl Cut {
         }
     }
 
-    // Whether the other side moves first.
+    // Says whether the other side moves first.
     fn flips(&mut self) -> bool {
         match *self {
             Cut::Pieces(_) | Cut::Two(_) => true,
@@ -94,7 +94,7 @@ impl Cut {
     }
 }
 
-// Terms of a connection that both sides would keep.
+// The terms of a connection that both sides would keep.
 fn terms(fresh: bool, client: Option<IpAddr>) -> Terms {
     Terms {
         adds: Additions {
@@ -106,7 +106,7 @@ fn terms(fresh: bool, client: Option<IpAddr>) -> Terms {
     }
 }
 
-/// How far an exchange is.
+/// The stage of an exchange.
 #[derive(Clone, Copy, Debug, PartialEq, Eq)]
 pub(crate) enum Stage {
     Asking,
@@ -119,7 +119,7 @@ pub(crate) enum Stage {
     Over,
 }
 
-/// What both sides got, and how often a pass came back as done and as failed, and a request went out anew.
+/// The bytes that both sides got, and the number of passes posted as done and as failed, and of repeated requests.
 #[derive(Drop)]
 pub(crate) struct Wire {
     pub(crate) sent: Vec<u8>,
@@ -129,7 +129,7 @@ pub(crate) struct Wire {
     pub(crate) retries: u64,
 }
 
-// Bytes that a side sends, and how many of them were taken.
+// The bytes that a side sends, and how many of them were taken.
 #[derive(Drop)]
 struct Queue {
     bytes: Vec<u8>,
@@ -137,14 +137,14 @@ struct Queue {
 }
 
 impl Queue {
-    // At most so many of those that come next.
+    // Returns at most this number of the next bytes.
     fn piece(&self, most: usize) -> &[u8] {
         let rest = self.bytes.as_slice().get(self.taken..).unwrap_or(b"");
         &rest[..most.min(rest.len())]
     }
 }
 
-// Is the exchange as the move says?
+// Says whether the exchange is as the move says.
 fn is_so(exchange: &Exchange, each: Move) -> bool {
     match each {
         Move::Answered(whole) => exchange.is_answered() == whole,
@@ -198,7 +198,7 @@ impl Table {
         }
     }
 
-    /// All that happens, and after each move what follows of it: where the exchange is at the end.
+    /// Plays all moves, and after each one what follows from it. Returns the stage at the end.
     pub(crate) fn play(&mut self, rt: &impl Abort, moves: &[Move]) -> Stage {
         let mut exchange = Exchange::new(self.alloc);
         for each in moves {
@@ -279,7 +279,7 @@ impl Table {
         pass
     }
 
-    // Tells it one thing: how it goes on, and how many bytes it took.
+    // Reports one event to the exchange. Returns the exchange, and how many bytes it took.
     fn tell(&mut self, rt: &impl Abort, exchange: Exchange, event: Event) -> (Exchange, usize) {
         let Step {
             next,
@@ -313,7 +313,7 @@ impl Table {
         }
     }
 
-    // Both sides take what is for them.
+    // Both sides take the bytes that are for them.
     fn flush(&mut self, rt: &impl Abort, mut exchange: Exchange) -> Exchange {
         for _ in 0..10_000u64 {
             let wants = exchange.wants();
@@ -352,7 +352,7 @@ impl Table {
         self.tell(rt, exchange, Event::ServerTook(count)).0
     }
 
-    // What both sides sent comes, as far as it is taken.
+    // Delivers the bytes that both sides sent, as long as they are taken.
     fn deliver(&mut self, rt: &impl Abort, mut exchange: Exchange) -> Exchange {
         for _ in 0..10_000u64 {
             let (next, used) = self.both(rt, exchange);
@@ -364,7 +364,7 @@ impl Table {
         exchange
     }
 
-    // A piece of each side, one after the other, and how many bytes were taken.
+    // Delivers a piece of each side, one after the other, and returns how many bytes were taken.
     fn both(&mut self, rt: &impl Abort, exchange: Exchange) -> (Exchange, usize) {
         if self.server_cut.flips() {
             let (next, used) = self.of_server(rt, exchange);
@@ -400,7 +400,7 @@ impl Table {
         (next, used)
     }
 
-    // Where it is; a pass that it still has goes back.
+    // Returns its stage, and posts a pass that it still has.
     fn end(&mut self, rt: &impl Abort, exchange: Exchange) -> Stage {
         match exchange {
             Exchange::Asking(_) => Stage::Asking,

@@ -1,19 +1,19 @@
-//! Calls that a signal ends.
+//! Tests of calls that a signal interrupts.
 
 use exchange_driver::{Duplex, Heard, Said, Socket};
 use std::alloc::Global;
 use std::io;
 use std::io::{Read, Write};
 
-/// Gives two bytes, and then the end.
+/// A source that returns two bytes, and then the end.
 #[derive(Drop)]
 struct Giver {
-    /// So many calls are ended by a signal first.
+    /// This number of calls are interrupted by a signal first.
     signals: u32,
     given: bool,
 }
 
-/// Takes bytes, and keeps them.
+/// A sink that keeps its bytes.
 #[derive(Drop)]
 struct Taker {
     signals: u32,

@@ -8,7 +8,7 @@ use std::alloc::Global;
 use std::process::Abort;
 use verdict::{Ending, Verdict};
 
-/// The board and the seat to which the pass goes back.
+/// The board and the seat for the pass's return.
 #[derive(Drop)]
 pub(crate) struct Till {
     board: Board,
@@ -19,7 +19,7 @@ pub(crate) struct Till {
 }
 
 impl Till {
-    /// A pass, and where it goes back to.
+    /// Makes a pass, and the till for its return.
     pub(crate) fn open(rt: &impl Abort, alloc: Global) -> (Till, Pass) {
         let Ok((board, mut keeper, mut seat)) = Board::open(alloc, 1, &[1]) else {
             panic!(rt; "no memory for a board")
@@ -35,7 +35,7 @@ impl Till {
         }
     }
 
-    /// The pass goes back, once.
+    /// Posts the pass, once.
     pub(crate) fn post(&mut self, rt: &impl Abort, pass: Pass, ending: Ending) {
         assert!(rt; self.held && is_first(&pass));
         self.held = false;

@@ -1,10 +1,10 @@
-//! Addresses to listen at.
+//! Addresses that the proxy listens at.
 
 use std::io::{Error, ErrorKind};
 use std::net::SocketAddrV4;
 
-/// Says on standard error what the system said of an address that was to be listened at, and below that what is to be done where
-/// that is known.
+/// Prints to standard error what the system says of an address that can't be listened at, and below
+/// that the advice where there is one.
 pub fn say_address_reason(rt: &impl Eprint, address: SocketAddrV4, error: Error) {
     let _ = eprintln!(rt; "{address}: {error}");
     if let Some(remedy) = address_remedy(error.kind()) {
@@ -12,7 +12,7 @@ pub fn say_address_reason(rt: &impl Eprint, address: SocketAddrV4, error: Error)
     }
 }
 
-/// What is to be done about a failure of this kind at an address.
+/// Returns the advice for a failure of this kind at an address.
 pub fn address_remedy(kind: ErrorKind) -> Option<&'static str> {
     match kind {
         ErrorKind::AddrInUse => Some(

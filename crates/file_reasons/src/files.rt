@@ -1,8 +1,8 @@
-//! Files.
+//! Files that the proxy reads or writes.
 
 use std::io::{Error, ErrorKind};
 
-/// Says on standard error what the system said of a file, and below that what is to be done where that is known.
+/// Prints to standard error what the system says of a file, and below that the advice where there is one.
 pub fn say_reason(rt: &impl Eprint, name: &str, error: Error) {
     let _ = eprintln!(rt; "{name}: {error}");
     if let Some(remedy) = remedy(error.kind()) {
@@ -10,7 +10,7 @@ pub fn say_reason(rt: &impl Eprint, name: &str, error: Error) {
     }
 }
 
-/// What is to be done about a failure of this kind at a file.
+/// Returns the advice for a failure of this kind at a file.
 pub fn remedy(kind: ErrorKind) -> Option<&'static str> {
     match kind {
         ErrorKind::NotFound => Some(

@@ -1,5 +1,5 @@
-//! Why a file couldn't be read or written, or an address couldn't be listened at, in the system's words, and what is to be done
-//! about it.
+//! Why a file can't be read or written, or an address can't be listened at, in the system's words,
+//! and advice for it.
 #![tactic(auto)]
 
 mod addresses;

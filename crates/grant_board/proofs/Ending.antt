@@ -140,7 +140,7 @@ closes_at k s o j r left me first settled is =
       left_over = is;
     }
 
--- the last state of the board, of whose words so many aren't empty
+-- the last state of the board, of whose words this many aren't empty
 pub closes : (t : Terms) (s : BoardState) (o : Orderly t s) (j : ℕ) (k : KeeperPart) (r : RelayView) (left : ℕ)
     → get_elem? s.views j ≡ some (view (k ∷ []) (r ∷ [])) → r.first ≡ true → r.split ≡ r.joined
     → left ≡ along (standing (λ _. 1)) 0 o.cells → IsClosed k.view r left

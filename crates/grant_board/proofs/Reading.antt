@@ -39,7 +39,7 @@ said words g c is has = ⊎_elim
     (λ (e : c ≡ Taken g.ticket g.verdict). inr (inl (is ∙ ap encode_of e)))
     (λ (x : (e : Ending) × (c ≡ Posted g.ticket g.verdict e)). inr (inr (x.0, is ∙ ap encode_of x.1))) rest) has
 
--- where a word with a grant has a number, and its server is one of so many, so it is of the grant
+-- where a word with a grant has an encoding and its server is one of this many, the same holds of the grant
 has_word : (g : Grant) (c : Word) → Has g c → IsWord c → IsWord (Offered g.ticket g.verdict)
 has_word g c has word = ⊎_elim
     (λ (e : c ≡ Offered g.ticket g.verdict). subst IsWord e word)

@@ -1,4 +1,4 @@
--- What a relay's seat keeps of its counts.
+-- The counts that a relay's seat keeps.
 use Rattle.std.specs.Prelude.{◌≡◌, ℕ, ◌<◌, ◌≤◌, Bool, length, slice_index}
 use Rattle.std.specs.List.{AllByRecursion}
 use Rattle.grant_board.specs.declared.laws.Word.TheVariants.{Taken}
@@ -7,11 +7,11 @@ use Rattle.grant_board.specs.BoardWords.{IsWord}
 use Rattle.grant_board.specs.Views.{Grant, count_of}
 use Rattle.grant_board.specs.RelayCalls.{Relay}
 
--- a pass whose place is one of so many words
+-- a pass whose place is one of this many words
 abbrev pub IsPassOf : ℕ → Grant → Type 0
 IsPassOf words g = (g.place < words) × IsWord (Taken g.ticket g.verdict)
 
--- the counts are those of the passes, which are the board's
+-- the counts are those of the seat's passes, and its terms are the board's
 pub record IsCounted (r : Relay) (first : Bool) (tally : Tally) : Type 0 where
   pub is_first : first ≡ r.view.first
   pub few_places : r.view.terms.places ≤ 4096

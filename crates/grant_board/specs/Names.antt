@@ -1,4 +1,4 @@
--- What names a board that there isn't.
+-- The name of a board that doesn't exist.
 use Rattle.std.specs.Prelude.{[]}
 use Rattle.atomic_table.specs.Seated.{TableId}
 use Rattle.grant_board.specs.Views.{Terms}

@@ -1,4 +1,4 @@
--- What the rule of the board says, place by place.
+-- The rule of the board, place by place.
 use Rattle.std.specs.Prelude.{◌≡◌, ℕ, ◌+◌, ◌<◌, ◌≤◌, ◌↔◌, ◌⊎◌, List, [], ◌∷◌, length, slice_index, Contains}
 use mathlib.Core.Option.{some}
 use lib.ListN.{get_elem?}
@@ -18,7 +18,7 @@ HasKeeper s k = (j : ℕ) × (relays : List RelayView) × (get_elem? s.views j �
 abbrev pub HasRelay : BoardState → ℕ → ℕ → RelayView → Type 0
 HasRelay s j i r = (v : View) × (get_elem? s.views j ≡ some v) × (get_elem? v.relays i ≡ some r)
 
--- the word of the grant's place has its ticket and verdict
+-- the word of the grant's place has the grant's ticket and verdict
 abbrev pub HasItsWord : List ℕ → Grant → Type 0
 HasItsWord words g =
     (slice_index words g.place ≡ encode_of (Offered g.ticket g.verdict)) ⊎ ((slice_index words g.place ≡ encode_of (Taken g.ticket g.verdict))
@@ -28,9 +28,9 @@ pub record ByPlaces (terms : Terms) (s : BoardState) (k : KeeperView) : Type 0 w
   -- a place's word is empty exactly where the place isn't out, else it has the grant's ticket and verdict
   pub empty : (place : ℕ) → place < terms.places → (slice_index s.words place ≡ 0) ↔ (count_at place k.out ≡ 0)
   pub out : (g : Grant) → Contains k.out g → HasItsWord s.words g
-  -- what is out is of the board: its place, its server, and a ticket that a word can have
+  -- a grant that is out belongs to the board: its place, its server, and a ticket that a word can have
   pub on_board : (g : Grant) → Contains k.out g → (g.place < terms.places) × IsWord (Offered g.ticket g.verdict) × IsAmong (length terms.limits) g.verdict
-  -- it is taken exactly where a seat has the pass, with that ticket and verdict
+  -- the word is taken exactly where a seat has the pass with that ticket and verdict
   pub taken : (g : Grant) → g.place < terms.places → IsWord (Taken g.ticket g.verdict) → slice_index s.words g.place ≡ encode_of (Taken g.ticket g.verdict)
       → (j : ℕ) × (i : ℕ) × (r : RelayView) × HasRelay s j i r × Contains r.passes g
   pub pass : (j i : ℕ) (r : RelayView) (g : Grant) → HasRelay s j i r → Contains r.passes g → slice_index s.words g.place ≡ encode_of (Taken g.ticket g.verdict)
@@ -38,12 +38,12 @@ pub record ByPlaces (terms : Terms) (s : BoardState) (k : KeeperView) : Type 0 w
   pub once : (j i : ℕ) (r : RelayView) (place : ℕ) → HasRelay s j i r → count_at place r.passes ≤ 1
   pub apart : (j i : ℕ) (r : RelayView) (m n : ℕ) (q : RelayView) (place : ℕ) → HasRelay s j i r → HasRelay s m n q → ¬ ((m ≡ j) × (n ≡ i))
       → count_at place r.passes + count_at place q.passes ≤ 1
-  -- behind the places' words each server's word is its mark, as the keeper knows it
+  -- after the places' words each server's word is its mark, as the keeper knows it
   pub bounds : (server : ℕ) → server < length terms.limits → slice_index s.words (terms.places + server) ≡ slice_index k.bounds server
   pub servers : length k.bounds ≡ length terms.limits
-  -- fewer places serve at a server than its mark, where it has one
+  -- no more places serve at a server than its bound, where it has one
   pub bounded : (server : ℕ) → 0 < slice_index k.bounds server → count_of server k.out < slice_index k.bounds server
 
--- the rule says all this of each state
+-- the rule implies all this of each state
 abbrev pub RuleByPlaces : Type 0
 RuleByPlaces = (terms : Terms) (s : BoardState) (k : KeeperPart) → Orderly terms s → HasKeeper s k → ByPlaces terms s k.view

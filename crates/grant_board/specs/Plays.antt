@@ -1,5 +1,6 @@
--- What each step of the table tells: of the step, its seat before, the number found (at a store, the number stored) and the seat after.
--- And how views are cut in two and made one. The public contracts read none of this.
+-- What each step of the table tells: the step, its seat before, the number found (for a store, the
+-- number stored) and the seat after; and how views are split and joined. The public contracts use
+-- none of this.
 use Rattle.std.specs.Prelude.{◌≡◌, ◌≢◌, ℕ, ◌+◌, ◌<◌, ◌≤◌, true, false, List, [], ◌∷◌, ◌++◌, length, Contains}
 use Rattle.verdict.specs.declared.Verdict.{Verdict}
 use Rattle.verdict.specs.declared.Ending.{Ending}
@@ -21,7 +22,7 @@ Seated = Me Slot View
 abbrev pub Telling : Type 1
 Telling = Step Slot → Seated → ℕ → Seated → Type 0
 
--- the view of a seat that was joined into another
+-- the view of a seat that was joined into another one
 abbrev pub blank : View
 blank = view [] []
 
@@ -39,7 +40,7 @@ relay_seat r = seated [] (r ∷ [])
 abbrev pub opened : Terms → View
 opened terms = view (record { view = new_keeper terms; sight = [] } ∷ []) (new_relay terms true ∷ [])
 
--- the parts of a seat. A seat of the wrong kind has these
+-- the keeper's part and the relay's part of a seat; a default for a seat of the wrong kind
 abbrev pub keeper_of : List KeeperPart → KeeperPart
 keeper_of [] = at_rest (new_keeper no_terms)
 keeper_of (k ∷ keepers) = k
@@ -52,7 +53,7 @@ abbrev pub later : List RelayView → List RelayView
 later [] = []
 later (r ∷ relays) = relays
 
--- and the rule holds once the step is made
+-- the telling of a step after which the rule holds
 abbrev pub ruled : Telling → Telling
 ruled told st m r n = told st m r n × MeetsRule n.0
 
@@ -63,7 +64,7 @@ offers st m r n =
     (ticket : ℕ) (verdict : Verdict) → IsWord (Offered ticket verdict) → st.first ≡ encode_of (Offered ticket verdict)
     → n ≡ keeper_seat (record k { view = offer_after k.view (grant st.word ticket verdict) })
 
--- the keeper loads a place's word, and has in sight what it finds posted
+-- the keeper loads a place's word, and remembers what it finds posted
 abbrev pub sees : Telling
 sees st m r n =
     let k = keeper_looked (keeper_of m.0.keepers).view st.word r in
@@ -71,7 +72,7 @@ sees st m r n =
     → n ≡ keeper_seat (record { view = k; sight = record { pass = grant st.word ticket verdict; ending = ending } ∷ [] }))
     × (IsUnposted r → n ≡ keeper_seat (at_rest k))
 
--- the keeper empties the place of what it has in sight
+-- the keeper empties the place of what it remembers
 abbrev pub clears : Telling
 clears st m r n =
     let k = (keeper_of m.0.keepers).view in
@@ -88,7 +89,7 @@ limits st m r n =
     (server : ℕ) → server < length k.view.terms.limits → st.word ≡ k.view.terms.places + server
     → n ≡ keeper_seat (record k { view = limit_after k.view server st.first })
 
--- the keeper loads a word beside a relay's part: the relay's passes are out
+-- the keeper loads a word together with a relay's part: the relay's passes are out
 abbrev pub vouches : Telling
 vouches st m r n =
     let k = keeper_of m.0.keepers in
@@ -100,7 +101,7 @@ vouches st m r n =
 abbrev pub glances : Telling
 glances st m r n = n ≡ relay_seat (relay_looked (relay_of m.0.relays) st.word r)
 
--- a relay takes what stands offered by one exchange, or looks
+-- a relay takes an offer by one exchange, or only looks
 abbrev pub takes : Telling
 takes st m r n =
     let q = relay_of m.0.relays in
@@ -120,13 +121,14 @@ posts st m r n =
     → (n ≡ relay_seat (post_after q g ending))
     × ((weight : Grant → ℕ) → total weight (without st.word q.passes) + weight g ≡ total weight q.passes)
 
--- the passes of two seats are of different places, fewer of them are of the server than its mark, where it has one, and no more in all than places
+-- two seats' passes are of different places; they are fewer of this server than its mark, where it
+-- has one; and in all no more than there are places
 pub record AreApart (places server bound : ℕ) (xs ys : List Grant) : Type 0 where
   pub different : (place : ℕ) → count_at place xs + count_at place ys ≤ 1
   pub bounded : 0 < bound → count_of server xs + count_of server ys < bound
   pub room : length xs + length ys ≤ places
 
--- a relay loads a server's word beside another's part
+-- a relay loads a server's word together with another relay's part
 abbrev pub meets : Telling
 meets st m r n =
     let q = relay_of m.0.relays in
@@ -134,11 +136,11 @@ meets st m r n =
     (server : ℕ) → server < length q.terms.limits → st.word ≡ q.terms.places + server
     → (n ≡ seated [] (relay_looked q st.word r ∷ other ∷ [])) × AreApart q.terms.places server r q.passes other.passes × MeetsRuleWith n.0 server r
 
--- a load within a join, which is no look
+-- a load within a join, which doesn't count as a look
 abbrev pub counts : Telling
 counts st m r n = let q = relay_of m.0.relays in (n ≡ relay_seat q) × (length q.passes ≤ q.terms.places)
 
--- two seats as one, part beside part
+-- two seats as one, with both their parts
 abbrev pub beside : View → View → View
 beside v w = view (v.keepers ++ w.keepers) (v.relays ++ w.relays)
 
@@ -153,20 +155,20 @@ last_alone [] = []
 last_alone (r ∷ []) = r ∷ []
 last_alone (r ∷ q ∷ relays) = last_alone (q ∷ relays)
 
--- a seat with its last relay's part cut off, and that part
+-- a seat without its last relay's part, and that part
 abbrev pub aside : View → View
 aside v = view v.keepers (but_last v.relays)
 
 abbrev pub cut_off : View → View
 cut_off v = view [] (last_alone v.relays)
 
--- the first seat, once it split a new one off, and the new one
+-- the first seat after it split a new one off, and the new one
 abbrev pub parent : View → View
 parent v = view [] (split_after (relay_of v.relays) ∷ [])
 
 abbrev pub child : View → View
 child v = view [] (new_relay (relay_of v.relays).terms false ∷ [])
 
--- the first seat with another's lists
+-- the first seat with another seat's lists after its own
 abbrev pub gathered : View → View → View
 gathered v w = view [] (join_after (relay_of v.relays) (relay_of w.relays) ∷ [])

@@ -1,4 +1,5 @@
--- The calls of relays' seats, for the layer that holds them: what `try_take`, `post`, `meet`, `split` and `join` tell and change.
+-- The calls of relays' seats, for the layer that holds them: what `try_take`, `post`, `meet`,
+-- `split` and `join` learn and change.
 use Rattle.std.specs.Prelude.{◌≡◌, ◌≢◌, ℕ, ◌+◌, ◌⊎◌, Bool, [], ◌∷◌, ◌++◌, length}
 use Rattle.verdict.specs.declared.Verdict.{Verdict}
 use Rattle.verdict.specs.declared.Ending.{Ending}
@@ -9,24 +10,25 @@ use Rattle.grant_board.specs.declared.pass.Taking.TheVariants.{Taken, NotYet}
 use Rattle.grant_board.specs.BoardWords.{encode_of, IsWord, IsAmong, OffersNot}
 use Rattle.grant_board.specs.Views.{Grant, Terms, look, RelayView, return_of, without}
 
--- a relay's seat: its board, and what it knows
+-- a relay's seat: its board and its view
 pub record Relay : Type 0 where
   pub board : TableId
   pub view : RelayView
 
--- one that has done nothing
+-- the view of a relay that has done nothing
 abbrev pub new_relay : Terms → Bool → RelayView
 new_relay terms first = record { terms = terms; passes = []; takes = []; posts = []; looks = []; first = first; split = 0; joined = 0 }
 
--- a look more, which is all that `meet` changes
+-- the view after one more look, which is all that `meet` changes
 abbrev pub relay_looked : RelayView → ℕ → ℕ → RelayView
 relay_looked r place word = record r { looks = r.looks ++ look place word ∷ [] }
 
--- try_take: the seat has the pass, which is the last that it took
+-- try_take: the seat has the pass, which is the last one that it took
 abbrev pub take_after : RelayView → Grant → RelayView
 take_after r g = record r { passes = r.passes ++ g ∷ []; takes = r.takes ++ g ∷ [] }
 
--- The seat looked at the place, found this ticket offered with the verdict of the pass, and has the pass. Its server, if it has one, is the board's
+-- The seat looked at the place, found this ticket offered with the verdict of the pass, and took
+-- the pass. Its server, if it names one, is one of the board's.
 pub record Takes (r r' : RelayView) (place ticket : ℕ) (pass : Grant) : Type 0 where
   pub at : pass.place ≡ place
   pub of : pass.ticket ≡ ticket
@@ -48,19 +50,19 @@ pub record IsTooLate (r r' : RelayView) (place ticket : ℕ) : Type 0 where
   pub valid : IsWord (Offered ticket verdict)
   pub other : word ≢ encode_of (Offered ticket verdict)
 
--- what a seat is told of a ticket that it asked for
+-- the answer to a seat that asked for a ticket
 abbrev pub Answers : RelayView → RelayView → ℕ → ℕ → Taking → Type 0
 Answers r r' place ticket (Taken pass) = Takes r r' place ticket pass
 Answers r r' place ticket NotYet = FindsNoOffer r r' place ticket ⊎ IsTooLate r r' place ticket
 
--- post: the seat hasn't the pass any more, and its return is the last that it posted
+-- post: the seat no longer has the pass, and its return is the last one that it posted
 abbrev pub post_after : RelayView → Grant → Ending → RelayView
 post_after r g ending = record r { passes = without g.place r.passes; posts = r.posts ++ return_of g ending ∷ [] }
 
--- split: one seat more is split off
+-- split: one more seat is split off
 abbrev pub split_after : RelayView → RelayView
 split_after r = record r { split = r.split + 1 }
 
--- join: the first seat has the other's lists behind its own
+-- join: the first seat has the other's lists after its own
 abbrev pub join_after : RelayView → RelayView → RelayView
 join_after r q = record r { passes = r.passes ++ q.passes; takes = r.takes ++ q.takes; posts = r.posts ++ q.posts; joined = r.joined + 1 }

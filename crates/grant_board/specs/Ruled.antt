@@ -1,4 +1,4 @@
--- That the rule of the board holds of a state in which seats know this.
+-- That the rule of the board holds in a state with a seat of this view.
 use Rattle.std.specs.Prelude.{◌≡◌, ℕ, List, [], ◌∷◌, slice_index}
 use mathlib.Core.Option.{some}
 use lib.ListN.{get_elem?}
@@ -9,11 +9,11 @@ use Rattle.grant_board.specs.Rule.{BoardState, Orderly}
 abbrev pub view : List KeeperPart → List RelayView → View
 view keepers relays = record { keepers = keepers; relays = relays }
 
--- the keeper between two calls
+-- the keeper's part between two calls
 abbrev pub at_rest : KeeperView → KeeperPart
 at_rest k = record { view = k; sight = [] }
 
--- the rule holds of a state of the board, in which one seat has this view
+-- the rule holds in some state of the board in which a seat has this view
 pub record MeetsRule (v : View) : Type 0 where
   pub terms : Terms
   pub state : BoardState
@@ -21,22 +21,22 @@ pub record MeetsRule (v : View) : Type 0 where
   pub seat : ℕ
   pub seen : get_elem? state.views seat ≡ some v
 
--- and the server's bound is this
+-- the same, where the server has this bound
 abbrev pub MeetsRuleWith : View → ℕ → ℕ → Type 0
 MeetsRuleWith v server bound = (meets : MeetsRule v) × (slice_index meets.rule.bounds server ≡ bound)
 
--- a state in which the keeper has this view
+-- the rule holds in some state in which the keeper has this view
 abbrev pub KeeperRuled : KeeperView → Type 0
 KeeperRuled k = MeetsRule (view (at_rest k ∷ []) [])
 
--- in which a relay's seat has this view
+-- the same, where a relay's seat has this view
 abbrev pub RelayRuled : RelayView → Type 0
 RelayRuled r = MeetsRule (view [] (r ∷ []))
 
--- in which the keeper and a relay's seat have these
+-- the same, where the keeper and a relay's seat have these views
 abbrev pub VouchRuled : KeeperView → RelayView → Type 0
 VouchRuled k r = MeetsRule (view (at_rest k ∷ []) (r ∷ []))
 
--- in which two relays' seats have these, and the server has this bound
+-- the same, where two relays' seats have these views and the server has this bound
 abbrev pub MeetRuled : RelayView → RelayView → ℕ → ℕ → Type 0
 MeetRuled r q server bound = MeetsRuleWith (view [] (r ∷ q ∷ [])) server bound

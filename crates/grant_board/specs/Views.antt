@@ -1,4 +1,4 @@
--- What seats know.
+-- The views of seats: what each seat knows.
 use Rattle.std.specs.Prelude.{ℕ, ◌+◌, Option, None, Some, Bool, List, [], ◌∷◌, ◌==◌, if◌then◌else◌}
 use Rattle.verdict.specs.declared.Verdict.{Verdict}
 use Rattle.verdict.specs.declared.Verdict.TheVariants.{Serve, Told}
@@ -15,7 +15,7 @@ pub record Grant : Type 0 where
 abbrev pub grant : ℕ → ℕ → Verdict → Grant
 grant place ticket verdict = record { place = place; ticket = ticket; verdict = verdict }
 
--- what a board was opened with: the number of its places, and each server's limit, of which 0 is none
+-- the terms that a board was opened with: its number of places, and each server's limit, where 0 is without limit
 pub record Terms : Type 0 where
   pub places : ℕ
   pub limits : List ℕ
@@ -23,7 +23,7 @@ pub record Terms : Type 0 where
 abbrev pub terms : ℕ → List ℕ → Terms
 terms places limits = record { places = places; limits = limits }
 
--- the number that a load or a failed exchange found in a word: a place's, or behind these a server's
+-- the number that a load or a failed exchange found in a word: a place's, or after these a server's
 pub record Look : Type 0 where
   pub place : ℕ
   pub word : ℕ
@@ -36,12 +36,12 @@ abbrev pub mark_of : Option ℕ → ℕ
 mark_of None = 0
 mark_of (Some bound) = bound + 1
 
--- the mark of a limit, of which 0 is none
+-- the mark of a limit, where 0 is without limit
 abbrev pub first_mark : ℕ → ℕ
 first_mark limit = if limit == 0 then 0 else limit + 1
 
--- What the keeper knows: each server's mark, the grants that are out, all that it offered, all that came back, and its looks.
--- Each list is in the order of its steps
+-- The keeper's view: each server's mark, the grants that are out, all grants that it offered, all
+-- returns, and its looks. Each list is in the order of the steps.
 pub record KeeperView : Type 0 where
   pub terms : Terms
   pub bounds : List ℕ
@@ -50,8 +50,8 @@ pub record KeeperView : Type 0 where
   pub returns : List Return
   pub looks : List Look
 
--- What a relay seat knows: the passes that it has, all that it took, all that it posted, and its looks.
--- The first seat also counts the seats that it split off and those that it joined
+-- A relay seat's view: the passes that it has, all that it took, all that it posted, and its looks.
+-- The first seat also counts the seats that it split off and those that it joined.
 pub record RelayView : Type 0 where
   pub terms : Terms
   pub passes : List Grant
@@ -67,33 +67,33 @@ pub record Sighting : Type 0 where
   pub pass : Grant
   pub ending : Ending
 
--- the keeper within a collect: what its load found posted, and it has still to clear
+-- the keeper within a collect: it remembers what its load found posted, and still has to clear that
 pub record KeeperPart : Type 0 where
   pub view : KeeperView
   pub sight : List Sighting
 
--- what comes back of a pass
+-- the return of a pass
 abbrev pub return_of : Grant → Ending → Return
 return_of pass ending = record { place = pass.place; ticket = pass.ticket; ending = ending }
 
--- 1 at the grants of this place
+-- 1 for a grant of this place
 abbrev pub at_place : ℕ → Grant → ℕ
 at_place place g = if g.place == place then 1 else 0
 
--- 1 at the grants that serve at this server
+-- 1 for a grant that serves at this server
 abbrev pub serves_at : ℕ → Verdict → ℕ
 serves_at server (Serve s) = if s == server then 1 else 0
 serves_at server (Told cause) = 0
 
--- how many grants are of this place
+-- the number of grants of this place
 abbrev pub count_at : ℕ → List Grant → ℕ
 count_at place grants = total (at_place place) grants
 
--- how many grants serve at this server
+-- the number of grants that serve at this server
 abbrev pub count_of : ℕ → List Grant → ℕ
 count_of server grants = total (λ g. serves_at server g.verdict) grants
 
--- the grants of the other places
+-- the grants of all other places
 abbrev pub without : ℕ → List Grant → List Grant
 without place [] = []
 without place (g ∷ grants) = if g.place == place then without place grants else (g ∷ without place grants)

@@ -4,8 +4,8 @@ use atomic_table::Table;
 use std::alloc::Global;
 use std::marker::{Brand, Model};
 
-/// A word for each place, and behind them one for each server, which threads share. Contracts see the name that no other
-/// board has.
+/// A table of words that threads share: one for each place, and after them one for each server.
+/// Contracts see the board's unique name.
 #[derive(Drop)]
 pub struct Board {
     pub(crate) table: Table<(), View, Plan, Order, Global>,
@@ -22,8 +22,9 @@ impl Model for Board {
     ghost invariant = { λ b. b.table.shared.table_id.slots ≡ 0 };
 }
 
-/// Names one board and what it was opened with, for generic types that hold its seats. It has no functions: who opens a
-/// board calls a function that is generic in the name, and the name stands for that board in the call's proof.
+/// The name of one board and its terms, for generic types that hold its seats. It has no functions:
+/// whoever opens a board calls a function that is generic in the name, and the name stands for that
+/// board in the proof of the call.
 pub trait BoardName {
     ghost use Rattle.atomic_table.specs.Seated.{TableId};
     ghost use Rattle.grant_board.specs.Views.{Terms};

@@ -14,8 +14,8 @@ use atomic_table::Seat;
 use std::marker::Model;
 use verdict::Verdict;
 
-/// The seat of the one thread at a time that offers verdicts, collects endings and sets bounds. Contracts see its board,
-/// and what it knows.
+/// The seat of the one thread at a time that offers verdicts, collects endings and sets bounds.
+/// Contracts see its board and its view.
 #[derive(Drop)]
 pub struct KeeperSeat {
     pub(crate) seat: Seat<(), View>,
@@ -35,7 +35,7 @@ impl Model for KeeperSeat {
 }
 
 impl KeeperSeat {
-    /// Offers a verdict to the thread that asks for the ticket. One step, and no memory.
+    /// Offers a verdict to the thread that asks for the ticket. One step, without allocating.
     pub fn offer(&mut self, board: &Board, place: usize, ticket: u64, verdict: Verdict)
         requires same_board { self.old.board ≡ board.now }
         requires in_range { place < self.old.view.terms.places }
@@ -50,8 +50,8 @@ impl KeeperSeat {
         board.table.shared.store::<Offer>(seat, place, word);
     }
 
-    /// What came back from the place, which is then empty; `None` where nothing is posted there. One load, then one store
-    /// where it found something, and no memory.
+    /// Collects what was posted at the place, which is empty afterwards; `None` where nothing is
+    /// posted there. One load, and one store where it found something, without allocating.
     pub fn collect(&mut self, board: &Board, place: usize) -> Option<Return>
         requires same_board { self.old.board ≡ board.now }
         requires in_range { place < self.old.view.terms.places }
@@ -74,7 +74,7 @@ impl KeeperSeat {
         })
     }
 
-    /// Sets a server's mark: one more than its bound, or 0 where it has none. One step, and no memory.
+    /// Sets a server's mark: one more than its bound, or 0 where it has none. One step, without allocating.
     pub fn limit(&mut self, board: &Board, server: usize, bound: u64)
         requires same_board { self.old.board ≡ board.now }
         requires may_limit { MayLimit self.old.view server bound }
@@ -86,7 +86,8 @@ impl KeeperSeat {
         board.table.shared.store::<Limit>(seat, word, bound);
     }
 
-    /// The relay's seat as it was, and how many passes it has, each of which is out. Three steps, and no memory.
+    /// Returns the relay's seat unchanged, and the number of its passes, each of which is out.
+    /// Three steps, without allocating.
     pub fn vouch(&mut self, board: &Board, relay: RelaySeat) -> (RelaySeat, u64)
         requires same_board { self.old.board ≡ board.now }
         requires relay_board { relay.board ≡ board.now }
@@ -110,7 +111,7 @@ impl KeeperSeat {
         (relay, u64::from(tally.all))
     }
 
-    // The relay's seat as it was: its passes are out.
+    // Returns the relay's part unchanged: its passes are out.
     fn vouch_for(&mut self, board: &Board, relaying: Relaying) -> Relaying
         requires same_board { self.old.board ≡ board.now }
         requires relay_board { relaying.board ≡ board.now }

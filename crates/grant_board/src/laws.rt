@@ -1,4 +1,4 @@
-//! The words of the board's places, and their numbers.
+//! The words of the board's places, and their encodings.
 ghost use Rattle.std.specs.Prelude.{◌≡◌, ◌≢◌, ◌<◌, Some, IfSome, IfNone};
 ghost use Rattle.grant_board.specs.declared.laws.Word.TheVariants.{Offered, Posted};
 ghost use Rattle.grant_board.specs.BoardWords.{code_of, encode_of, IsWord, IsVerdict, IsUnposted, OffersNot};
@@ -6,20 +6,20 @@ ghost use Rattle.grant_board.specs.Places.{RuleByPlaces};
 
 use verdict::{Cause, Ending, Verdict};
 
-/// What a place's word says.
+/// The word of a place.
 #[derive(Clone, Copy, Debug, PartialEq, Eq)]
 pub enum Word {
     /// Nothing is out at the place.
     Empty,
-    /// This ticket's verdict waits for a thread that takes it.
+    /// This ticket's verdict waits for the thread that takes it.
     Offered(u64, Verdict),
     /// A seat has the pass.
     Taken(u64, Verdict),
-    /// The pass was spent, and its ending waits for the keeper.
+    /// The pass was posted, and its ending waits for the keeper.
     Posted(u64, Verdict, Ending),
 }
 
-// The first bit of the verdict, of a failed ending and of the ticket. Bits 0 and 1 are the kind.
+// The first bits of the verdict, of a failed ending and of the ticket. Bits 0 and 1 are the kind.
 const VERDICT: u64 = 1 << 2;
 
 const FAILED: u64 = 1 << 9;
@@ -32,7 +32,7 @@ const TAKEN: u64 = 2;
 
 const POSTED: u64 = 3;
 
-// The numbers of the causes, after those of the 64 servers.
+// The codes of the causes, after those of the 64 servers.
 const ABORTED: u64 = 64;
 
 const TIMEOUT: u64 = 65;
@@ -69,7 +69,7 @@ fn verdict_of(code: u64) -> Option<Verdict>
     }
 }
 
-/// The number of a word.
+/// Returns the encoding of a word.
 pub fn encode(word: Word) -> u64
     requires { IsWord word }
     ensures { result ≡ encode_of word }
@@ -87,7 +87,7 @@ pub fn encode(word: Word) -> u64
     }
 }
 
-/// The word of a number, and `None` exactly where no word has it.
+/// Returns the word of an encoding; `None` exactly where no word has it.
 pub fn decode(number: u64) -> Option<Word>
     ensures some { IfSome result (λ word. IsWord word × (encode_of word ≡ number)) }
     ensures none { IfNone result ((word : _) → IsWord word → encode_of word ≢ number) }
@@ -110,12 +110,12 @@ pub fn decode(number: u64) -> Option<Word>
     }
 }
 
-// What is posted in the word of this number.
+// Returns what is posted in the word with this encoding.
 pub(crate) fn posted_in(number: u64) -> Option<(u64, Verdict, Ending)>
     ensures some { IfSome result (λ p. IsWord (Posted p.0 p.1 p.2) × (number ≡ encode_of (Posted p.0 p.1 p.2))) }
     ensures none { IfNone result (IsUnposted number) }
 {
-    // Whoever looks for what came back finds the other kinds nearly always.
+    // Most looks for returns find a word of another kind.
     if number % VERDICT != POSTED {
         return None;
     }
@@ -125,7 +125,7 @@ pub(crate) fn posted_in(number: u64) -> Option<(u64, Verdict, Ending)>
     }
 }
 
-// The verdict with which the word of this number offers the ticket.
+// Returns the verdict with which the word of this encoding offers the ticket.
 pub(crate) fn offered_in(number: u64, wanted: u64) -> Option<Verdict>
     ensures some { IfSome result (λ verdict. IsWord (Offered wanted verdict) × (number ≡ encode_of (Offered wanted verdict))) }
     ensures none { IfNone result (OffersNot wanted number) }
@@ -136,7 +136,7 @@ pub(crate) fn offered_in(number: u64, wanted: u64) -> Option<Verdict>
     }
 }
 
-/// A word is the one of its number.
+/// The law of encodings: decoding the encoding of a word gives the word.
 pub fn decode_encode(word: Word) -> Option<Word>
     requires { IsWord word }
     ensures { result ≡ Some word }
@@ -144,7 +144,7 @@ pub fn decode_encode(word: Word) -> Option<Word>
     decode(encode(word))
 }
 
-/// What the rule of the board says of each of its states, place by place.
+/// The law of the rule: what it implies of each of its states, place by place.
 pub fn rule_by_places()
     ensures { RuleByPlaces }
 {}

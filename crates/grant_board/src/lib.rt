@@ -1,10 +1,11 @@
-//! The grant board: how verdicts reach the threads that act on them, and how endings come back.
+//! The grant board: it brings verdicts to the threads that act on them, and endings back.
 //!
-//! Each request has a place, and a board has a word for each. The keeper's seat offers a verdict for a ticket at its
-//! place. One of the relays' seats takes it, which gives a `Pass`, and posts how its exchange ended. The keeper collects
-//! that, and the place is empty again. Each of these is one atomic step on the place's word, or two, so that no thread waits
-//! for another, and only `Board::open` takes memory. Behind the places' words each server has one that holds its bound: no
-//! more of its passes are out than that.
+//! Each request has a place, and the board has a word for each place. The keeper's seat offers a
+//! verdict for a ticket at its place. One of the relays' seats takes it, which gives a `Pass`, and
+//! posts how its exchange ended. The keeper collects that, and the place is empty again. Each of
+//! these is one or two atomic steps on the place's word, so no thread waits for another, and only
+//! `Board::open` allocates. After the places' words each server has a word with its bound: no more
+//! of its passes are out than that.
 #![tactic(auto)]
 
 mod board;

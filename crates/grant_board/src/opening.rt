@@ -1,4 +1,4 @@
-// How a board begins and ends.
+// The opening and the closing of a board.
 ghost use Rattle.std.specs.Prelude.{◌≡◌, ◌<◌, ◌≤◌, ◌++◌, true, length, map, take, replicate, IfOk};
 ghost use Rattle.std.specs.Mem.Slots.{slots_items, slots_len, IsFull};
 ghost use Rattle.list_facts.specs.Weights.{total};
@@ -18,16 +18,17 @@ use crate::view::Plan;
 use atomic_table::{Closed, Table};
 use std::alloc::{AllocError, Global};
 
-/// What a board held at its end.
+/// What a board held when it was closed.
 #[derive(Clone, Copy, Debug, PartialEq, Eq)]
 pub struct Closing {
-    /// The places whose words weren't empty; servers' words don't count.
+    /// The number of places whose words weren't empty.
     pub left: u64,
 }
 
 impl Board {
-    /// A board whose places are empty, with the seat of its keeper and the first relay's. The limits are those of the servers,
-    /// by number, and their first bounds; a limit of 0 is none. It takes a word for each place and each server.
+    /// Opens a board whose places are empty, with the keeper's seat and the first relay's. The
+    /// limits are the servers' first bounds, by number; 0 is without limit. It allocates a word for
+    /// each place and each server.
     pub fn open(
         alloc: Global,
         places: usize,
@@ -53,7 +54,7 @@ impl Board {
         Ok((Board { table }, KeeperSeat { seat, places }, relay))
     }
 
-    /// Ends the board, once all its seats are joined, and gives its memory back.
+    /// Closes the board, once all its seats are joined, and frees its memory.
     pub fn close(self, keeper: KeeperSeat, relay: RelaySeat) -> Closing
         requires keeper_board { keeper.board ≡ self }
         requires relay_board { relay.board ≡ self }
@@ -80,7 +81,7 @@ impl Board {
     }
 }
 
-// An empty word for each place, and behind them the servers' marks.
+// Returns an empty word for each place, and after them the servers' marks.
 fn first_words(alloc: Global, places: usize, limits: &[u32]) -> Result<Vec<u64>, AllocError>
     requires places_fit { places ≤ 4096 }
     requires servers_fit { length limits.now ≤ 64 }
@@ -94,14 +95,14 @@ fn first_words(alloc: Global, places: usize, limits: &[u32]) -> Result<Vec<u64>,
     Ok(words)
 }
 
-// The first mark of a server of this limit.
+// Returns the first mark of a server with this limit.
 fn first_mark(limit: u32) -> u64
     ensures { result ≡ first_mark limit }
 {
     if limit == 0 { 0 } else { u64::from(limit) + 1 }
 }
 
-// What the table is told of the limits.
+// Returns what the table is told of the limits.
 fn plan(places: usize, limits: &[u32]) -> Plan
     requires { length limits.now ≤ 64 }
     ensures { terms_of result ≡ terms places limits.now }
@@ -116,7 +117,7 @@ fn plan(places: usize, limits: &[u32]) -> Plan
     }
 }
 
-// The places' words that aren't empty.
+// Returns the number of places whose words aren't empty.
 fn left_over(closed: &Closed<(), Global>, places: usize) -> u64
     requires full { IsFull closed.now.words }
     requires places_fit { places ≤ slots_len closed.now.words }

@@ -3,8 +3,8 @@ ghost use Rattle.std.specs.Prelude.{◌≡◌};
 use std::marker::Model;
 use verdict::Verdict;
 
-/// The right to act on one verdict. It has no `Drop`: a pass that was taken is posted. Contracts see its place, ticket
-/// and verdict.
+/// The right to act on one verdict. It has no `Drop`: a pass that was taken has to be posted.
+/// Contracts see its place, ticket and verdict.
 pub struct Pass {
     pub(crate) place: usize,
     pub(crate) ticket: u64,
@@ -39,10 +39,10 @@ impl Pass {
     }
 }
 
-/// What a seat that asked for a ticket was told.
+/// The answer to a seat that asked for a ticket.
 pub enum Taking {
     /// The seat has the pass.
     Taken(Pass),
-    /// The ticket wasn't found offered, or another seat was faster.
+    /// The ticket isn't offered, or another seat was faster.
     NotYet,
 }

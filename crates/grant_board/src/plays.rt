@@ -74,7 +74,7 @@ impl Play<(), View> for Count {
     ghost then = { ruled counts };
 }
 
-// Two seats' parts side by side, and the last relay's part taken off again.
+// Joins two seats' parts, and separates the last relay's part again.
 pub struct Beside;
 
 impl Join<View> for Beside {
@@ -89,7 +89,7 @@ impl Split<View> for Beside {
     ghost right = { cut_off };
 }
 
-// A seat that the first one splits off, and joins in.
+// A seat that the first one splits off and joins again.
 pub struct Branch;
 
 impl Join<View> for Branch {

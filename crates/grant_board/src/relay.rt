@@ -13,7 +13,7 @@ use crate::tally::Tally;
 use std::marker::Model;
 use verdict::Ending;
 
-/// A seat of a thread that takes passes and posts their endings. Contracts see its board, and what it knows.
+/// A thread's seat, which takes passes and posts their endings. Contracts see its board and its view.
 #[derive(Drop)]
 pub struct RelaySeat {
     pub(crate) relaying: Relaying,
@@ -32,25 +32,26 @@ impl Model for RelaySeat {
     ghost invariant = { λ s. IsCounted s.relaying s.first s.tally };
 }
 
-/// What two seats that met were told of a server.
+/// What two seats that meet learn of a server.
 #[derive(Clone, Copy, Debug, PartialEq, Eq)]
 pub struct Met {
-    /// How many passes of the server the two have together.
+    /// The number of the server's passes that the two have together.
     pub passes: u64,
-    /// One more than the server's bound; 0: it has none.
+    /// One more than the server's bound; 0 where it has none.
     pub bound: u64,
 }
 
 impl RelaySeat {
-    /// Whether it is the seat that `Board::open` gave, which alone splits off and joins others.
+    /// Says whether it is the seat that `Board::open` returned, which alone splits off and joins others.
     pub fn first(&self) -> bool
         ensures { result ≡ self.now.view.first }
     {
         self.first
     }
 
-    /// Takes the pass of the ticket, if it is found offered at the place. One load, and one exchange where the load found
-    /// it; the exchange fails where another thread's step came between. No memory.
+    /// Takes the pass of the ticket, where it is offered at the place. One load, and one exchange
+    /// where the load found the offer; the exchange fails where another thread's step came between.
+    /// Allocates nothing.
     pub fn try_take(&mut self, board: &Board, place: usize, ticket: u64) -> Taking
         requires same_board { self.old.board ≡ board.now }
         requires in_range { place < self.old.view.terms.places }
@@ -73,7 +74,7 @@ impl RelaySeat {
         })
     }
 
-    /// Spends the pass: says how its exchange ended. One step, and no memory.
+    /// Posts the pass, with how its exchange ended. One step, without allocating.
     pub fn post(&mut self, board: &Board, pass: Pass, ending: Ending)
         requires same_board { self.old.board ≡ board.now }
         requires held { Contains self.old.view.passes pass }
@@ -91,8 +92,8 @@ impl RelaySeat {
         self.tally.remove(verdict);
     }
 
-    /// The other seat as it was, how many passes of the server the two have together, and the server's bound at that step.
-    /// Three steps, and no memory.
+    /// Returns the other seat unchanged, the number of the server's passes that the two have
+    /// together, and the server's bound at that step. Three steps, without allocating.
     pub fn meet(&mut self, board: &Board, other: RelaySeat, server: usize) -> (RelaySeat, Met)
         requires same_board { self.old.board ≡ board.now }
         requires other_board { other.board ≡ board.now }
@@ -121,7 +122,7 @@ impl RelaySeat {
         (other, Met { passes, bound })
     }
 
-    /// A seat for another thread. No memory.
+    /// Splits off a seat for another thread. Allocates nothing.
     pub fn split(&mut self, board: &Board) -> RelaySeat
         requires same_board { self.old.board ≡ board.now }
         requires first { self.old.view.first ≡ true }
@@ -136,7 +137,7 @@ impl RelaySeat {
         }
     }
 
-    /// Takes another seat in, with its passes and what it took and posted. No memory.
+    /// Joins another seat, with its passes and all that it took and posted. Allocates nothing.
     pub fn join(&mut self, board: &Board, other: RelaySeat)
         requires same_board { self.old.board ≡ board.now }
         requires other_board { other.board ≡ board.now }

@@ -35,7 +35,7 @@ impl Model for Relaying {
 }
 
 impl Relaying {
-    // The word of a place.
+    // Returns the word of a place.
     pub fn glance(&mut self, board: &Board, place: usize) -> u64
         requires same_board { self.old.board ≡ board.now }
         requires in_range { place < self.old.view.terms.places }
@@ -46,7 +46,7 @@ impl Relaying {
         board.table.shared.load::<Glance>(&mut self.seat, place)
     }
 
-    // Whether the word was the offered one, and is the taken one now.
+    // Exchanges the offered word for the taken one. Says whether that succeeded.
     pub fn take(&mut self, board: &Board, place: usize, ticket: u64, verdict: Verdict) -> bool
         requires same_board { self.old.board ≡ board.now }
         requires in_range { place < self.old.view.terms.places }
@@ -89,8 +89,8 @@ impl Relaying {
             .store::<Post>(&mut self.seat, place, posted);
     }
 
-    // Both seats as they were, but for a look of this one at the server's bound, and that bound, beside what their passes
-    // are together.
+    // Returns the other seat unchanged and the server's bound; this seat adds the look at it, and
+    // the two seats' passes together respect the bound.
     pub fn meet(&mut self, board: &Board, other: Relaying, server: usize) -> (Relaying, u64)
         requires same_board { self.old.board ≡ board.now }
         requires other_board { other.board ≡ board.now }
@@ -119,7 +119,7 @@ impl Relaying {
         Relaying { seat, places }
     }
 
-    // The load tells that both seats' passes fit on the board.
+    // The load shows that both seats' passes fit on the board.
     pub fn join(&mut self, board: &Board, other: Relaying)
         requires same_board { self.old.board ≡ board.now }
         requires other_board { other.board ≡ board.now }

@@ -1,6 +1,6 @@
 use verdict::Ending;
 
-/// What came back from a place: the ticket whose pass was spent, and how its exchange ended.
+/// A return from a place: the ticket whose pass was posted, and how its exchange ended.
 #[derive(Clone, Copy, Debug, PartialEq, Eq)]
 pub struct Return {
     pub place: usize,

@@ -1,4 +1,4 @@
-// How many passes a seat has, in all and of each server.
+// The number of a seat's passes, in all and of each server.
 ghost use Rattle.std.specs.Prelude.{◌≡◌, ◌+◌, ◌<◌, ◌≤◌, ◌^◌, slice_index, replicate};
 ghost use Rattle.grant_board.specs.BoardWords.{IsVerdict};
 ghost use Rattle.grant_board.specs.Views.{serves_at};

@@ -1,11 +1,12 @@
-// What the rule of the board is about: the views of seats, and the terms that the board was opened with.
+// The subject of the board's rule: the views of seats, and the terms that the board was opened with.
 ghost use Rattle.std.specs.Prelude.{List};
 ghost use Rattle.std.specs.Borrow.{ftrue};
 ghost use Rattle.grant_board.specs.Views.{KeeperPart, RelayView};
 
 use std::marker::Model;
 
-// What a seat of the table knows: at most one keeper's part and some relays' parts. No value of it is made.
+// The view of a seat of the table: at most one keeper's part and some relays' parts. No value of it
+// exists at run time.
 pub struct View {
     pub ghost keepers: { List KeeperPart },
     pub ghost relays: { List RelayView },

@@ -1,8 +1,9 @@
--- What a thread leaves as it is in the seat that is lent to it.
+-- What a thread doesn't change of the seat that is lent to it.
 use Rattle.std.specs.Prelude.{◌≡◌}
 use Rattle.grant_board.specs.RelayCalls.{Relay}
 
--- the seat of the same board and terms, which is the first or isn't, and has split off and joined as many others
+-- a seat of the same board and terms, which is the first one or not, as before, and has split off
+-- and joined as many others
 pub record IsSameSeat (old new : Relay) : Type 0 where
   pub board : new.board ≡ old.board
   pub terms : new.view.terms ≡ old.view.terms

@@ -35,26 +35,30 @@ use reporting_core::{ServerLine, Window};
 use std::alloc::{AllocError, Global};
 use std::sync::{Mutex, MutexGuard, Wait};
 
-/// The queues that a desk's dispatcher keeps.
+/// The queues of a desk's dispatcher.
 pub type Queues = BinomQueue<Key, usize>;
 
 /// A dispatcher that threads share: its book behind a lock, and the board that N names, which no lock guards.
 ///
-/// Each call waits for the lock and is the book's call of that name. No clause can say what the lock held before and after it; what is said is that the
-/// reply is the book's for some state which the lock may have held. The places that a call offered at are added to the caller's set while the
-/// lock is held, for it to wake whoever waits there once the lock is free.
+/// Each call waits for the lock and makes the book's call of the same name. No clause can say what
+/// the lock held before and after the call; the clauses say that the reply is the book's for some
+/// state that the lock may have held. The places where a call offered verdicts are added to the
+/// caller's set while the lock is held, so that the caller can wake whoever waits there once the
+/// lock is free.
 #[derive(Drop)]
 pub struct Desk<N: BoardName> {
     book: Mutex<Book<Queues, N>>,
     board: Board,
-    /// What waits to be read of the log, where that is wanted. Who has both locks took this one first.
+    /// The part of the log that waits to be read, where a reader follows it. A thread that takes
+    /// both locks takes this one first.
     tail: Mutex<Option<Tail>>,
     ghost named: { board ≡ N.board },
 }
 
 impl<N: BoardName> Desk<N> {
-    /// A desk of a dispatcher and a keeper's seat that have done nothing, where the board was opened for the dispatcher's places and limits, and a
-    /// running worst for the dispatcher's servers that was told nothing.
+    /// Makes a desk of a fresh dispatcher and a fresh keeper's seat, where the board was opened for
+    /// the dispatcher's places and limits, and of an empty running worst for the dispatcher's
+    /// servers.
     pub fn new(core: Core<Queues>, board: Board, seat: KeeperSeat, running: Running) -> Desk<N>
         requires first { core ≡ first_window core.setup [] }
         requires board { (board ≡ N.board) × (seat.board ≡ N.board) }
@@ -69,14 +73,14 @@ impl<N: BoardName> Desk<N> {
         }
     }
 
-    /// The board, for the seats of threads.
+    /// Returns the board, for the seats of threads.
     pub fn board(&self) -> &Board
         ensures { result.now ≡ N.board }
     {
         &self.board
     }
 
-    /// A request arrives. Refused as the dispatcher's `arrive`.
+    /// A request arrives. Refused as the dispatcher's `arrive` is.
     pub fn arrive<R: Wait>(
         &self,
         rt: &R,
@@ -94,7 +98,8 @@ impl<N: BoardName> Desk<N> {
             .arrive(alloc, &self.board, moment, wanted, woken)
     }
 
-    /// A request that waited elsewhere arrives: its due date stays, or is the earliest that an arrival at this moment may have. Refused as `arrive`.
+    /// A request that waited elsewhere arrives: it keeps its due date, or gets the earliest one
+    /// that an arrival at this moment may have. Refused as `arrive` is.
     pub fn arrive_due<R: Wait>(
         &self,
         rt: &R,
@@ -112,7 +117,7 @@ impl<N: BoardName> Desk<N> {
             .arrive_due(alloc, &self.board, moment, deferred, woken)
     }
 
-    /// A request that waits is given up. Refused as the dispatcher's `abort`.
+    /// A request that waits is given up. Refused as the dispatcher's `abort` is.
     pub fn abort<R: Wait>(
         &self,
         rt: &R,
@@ -127,7 +132,7 @@ impl<N: BoardName> Desk<N> {
         self.enter(rt).abort(&self.board, moment, ticket, woken)
     }
 
-    /// Each request that has waited as long as it may is told so. Refused as the dispatcher's `tick`.
+    /// Each request that has waited as long as it may is told so. Refused as the dispatcher's `tick` is.
     pub fn tick<R: Wait>(&self, rt: &R, moment: Moment, woken: &mut PlaceSet) -> Result<(), Refusal>
         ensures ok { OnOk result (SomeStep N.terms (λ old new. AddsEvent old.history new.history (Tick (effective old.history moment)) × CarriesOut old new woken.old woken.new)) }
         ensures err { IfErr result (λ refusal. SomeHeld N.terms (λ held. refuses_tick held.history ≡ Some refusal)) }
@@ -136,7 +141,7 @@ impl<N: BoardName> Desk<N> {
         self.enter(rt).tick(&self.board, moment, woken)
     }
 
-    /// A check of a server ended. Refused as the dispatcher's `check`.
+    /// A check of a server ended. Refused as the dispatcher's `check` is.
     pub fn check<R: Wait>(
         &self,
         rt: &R,
@@ -152,7 +157,8 @@ impl<N: BoardName> Desk<N> {
         self.enter(rt).check(&self.board, moment, server, ok, woken)
     }
 
-    /// A server's limit is set: the event, then the server's mark at the board, then the offers. Refused as the dispatcher's `limit`.
+    /// Sets a server's limit: the event, then the server's mark at the board, then the offers.
+    /// Refused as the dispatcher's `limit` is.
     pub fn limit<R: Wait>(
         &self,
         rt: &R,
@@ -169,8 +175,8 @@ impl<N: BoardName> Desk<N> {
             .limit(&self.board, moment, server, limit, woken)
     }
 
-    /// What came back from a place becomes the dispatcher's event. `None` where nothing is posted there. Refused where the log is full:
-    /// the return then stays on the board.
+    /// Collects what was posted at a place, which becomes the dispatcher's event. `None` where
+    /// nothing is posted there. Refused where the log is full: the return then stays on the board.
     pub fn collect_at<R: Wait>(
         &self,
         rt: &R,
@@ -187,9 +193,10 @@ impl<N: BoardName> Desk<N> {
         self.enter(rt).collect_at(&self.board, moment, place, woken)
     }
 
-    /// Looks at each place that is out, by rising number, and takes what came back there; then a tick, where a request has waited too long.
-    /// Refused where the log is full, also where no place is out: what was taken until then stays taken, and its places are in the set. `O(1)` for each place that is
-    /// out, beside the events.
+    /// Looks at each place that is out, by rising number, and collects what was posted there; then
+    /// makes a tick, where a request has waited too long. Refused where the log is full, even if no
+    /// place is out: the returns that were collected before are kept, and their places are in the
+    /// set. `O(1)` for each place that is out, beside the events.
     pub fn turn<R: Wait>(&self, rt: &R, moment: Moment, woken: &mut PlaceSet) -> Result<(), Refusal>
         ensures ok { OnOk result (SomeStep N.terms (λ old new. Turns moment old woken.old new woken.new)) }
         ensures err { IfErr result (λ refusal. (refusal ≡ LogFull) × SomeHeld N.terms (λ held. refuses_tick held.history ≡ Some LogFull)) }
@@ -197,12 +204,13 @@ impl<N: BoardName> Desk<N> {
     {
         let mut book = self.enter(rt);
         let turned = book.turn(&self.board, moment, woken);
-        // Says what the book keeps after it, too.
+        // This call states the book's invariant after it, too.
         book.places();
         turned
     }
 
-    /// Begins the next window of the log, and hands out what is told of the one that ended. Where memory is refused nothing changes.
+    /// Begins the next window of the log, and returns what is told of the one that ended. Where
+    /// memory is refused nothing changes.
     pub fn roll<R: Wait>(&self, rt: &R, alloc: Global) -> Result<Window, AllocError>
         ensures { IfOk result (λ window. SomeStep N.terms (λ old new. IsCertified old.history window.reports × AreLines old.history window.servers.items × (new ≡ record old { history = next_window old.history }))) }
     {
@@ -216,7 +224,8 @@ impl<N: BoardName> Desk<N> {
         Ok(Window { reports, servers })
     }
 
-    /// From now on what comes to the log is kept to be read, so many entries at most: `read_new` hands them out. Fails only where memory is refused.
+    /// Keeps new entries of the log for `read_new` from now on, at most this number at a time.
+    /// Fails only where memory is refused.
     pub fn follow<R: Wait>(&self, rt: &R, alloc: Global, room: usize) -> Result<(), AllocError>
         requires { room < 2 ^ 32 }
     {
@@ -226,8 +235,9 @@ impl<N: BoardName> Desk<N> {
         Ok(())
     }
 
-    /// What came to the log since it was last read, window after window, in place of what the batch has; nothing, where none is kept, or the batch has less room than was
-    /// asked for. `O(n)` in the new entries while the lock is held, no memory.
+    /// Replaces the batch by the entries since the last read, window after window; by nothing,
+    /// where none are kept, or where the batch has less room than `follow` was given. `O(n)` in the
+    /// new entries while the lock is held, without allocating.
     pub fn read_new<R: Wait>(&self, rt: &R, batch: &mut Batch) {
         batch.clear();
         let mut tail = self.tail.lock(rt);
@@ -240,21 +250,21 @@ impl<N: BoardName> Desk<N> {
         }
     }
 
-    /// The reports of the present window. Fails only where memory is refused.
+    /// Returns the reports of the present window. Fails only where memory is refused.
     pub fn report<R: Wait>(&self, rt: &R, alloc: Global) -> Result<Reports, AllocError>
         ensures { IfOk result (λ reports. SomeHeld N.terms (λ held. IsCertified held.history reports)) }
     {
         self.enter(rt).report(alloc)
     }
 
-    /// A line for each server in file order, of the present window. Fails only where memory is refused.
+    /// Returns a line for each server in file order, of the present window. Fails only where memory is refused.
     pub fn servers<R: Wait>(&self, rt: &R, alloc: Global) -> Result<Vec<ServerLine>, AllocError>
         ensures { IfOk result (λ lines. SomeHeld N.terms (λ held. AreLines held.history lines.items)) }
     {
         self.enter(rt).servers(alloc)
     }
 
-    /// The entries of the present window after the first so many. Fails only where memory is refused.
+    /// Returns the entries of the present window after the first `count`. Fails only where memory is refused.
     pub fn entries_after<R: Wait>(
         &self,
         rt: &R,
@@ -266,15 +276,16 @@ impl<N: BoardName> Desk<N> {
         self.enter(rt).entries_after(alloc, count)
     }
 
-    /// The greatest lateness of a queue and class in the present window, in milliseconds; `None` only where none of them was granted a slot.
+    /// Returns the greatest lateness of a queue and class in the present window, in milliseconds;
+    /// `None` only where none of its requests was granted a slot.
     pub fn worst<R: Wait>(&self, rt: &R, queue: Queue, class: Class) -> Option<i64>
         ensures { SomeHeld N.terms (λ held. IsWorstIn (window_in held.history) queue class result) }
     {
         self.enter(rt).worst(queue, class)
     }
 
-    /// Begins the next window where the log has no room for an event, and hands out what is told of the one that ended; `None` where it has
-    /// room. Where memory is refused nothing changes.
+    /// Begins the next window where the log has no room for an event, and returns what is told of
+    /// the one that ended; `None` where it has room. Where memory is refused nothing changes.
     pub fn make_room<R: Wait>(&self, rt: &R, alloc: Global) -> Result<Option<Window>, AllocError>
         ensures none { IfOk result (λ found. IfNone found (SomeHeld N.terms (λ held. HasEntryRoom held.history))) }
         ensures some { IfOk result (λ found. IfSome found (λ window. SomeStep N.terms (λ old new. (HasEntryRoom old.history → ⊥) × IsCertified old.history window.reports × AreLines old.history window.servers.items × (new ≡ record old { history = next_window old.history })))) }
@@ -289,7 +300,7 @@ impl<N: BoardName> Desk<N> {
         made
     }
 
-    /// The relay's seat as it was, and how many passes it has, each of which is outstanding.
+    /// Returns the relay's seat unchanged, and the number of its passes, each of which is outstanding.
     pub fn vouch<R: Wait>(&self, rt: &R, relay: RelaySeat) -> (RelaySeat, u64)
         requires named { relay.board ≡ N.board }
         ensures back { result.0 ≡ relay }
@@ -299,35 +310,36 @@ impl<N: BoardName> Desk<N> {
         self.enter(rt).vouch(&self.board, relay)
     }
 
-    /// How many requests a server serves. `O(1)`.
+    /// Returns the number of requests that a server serves. `O(1)`.
     pub fn served<R: Wait>(&self, rt: &R, server: usize) -> usize
         ensures { SomeHeld N.terms (λ held. result ≡ served server (state_of held.history).rows) }
     {
         self.enter(rt).served(server)
     }
 
-    /// How many requests wait in a queue. `O(1)`.
+    /// Returns the number of requests that wait in a queue. `O(1)`.
     pub fn queued<R: Wait>(&self, rt: &R, queue: Queue) -> usize
         ensures { SomeHeld N.terms (λ held. result ≡ queued queue (state_of held.history).rows) }
     {
         self.enter(rt).queued(queue)
     }
 
-    /// Whether a server is up. `O(1)`.
+    /// Says whether a server is up. `O(1)`.
     pub fn up<R: Wait>(&self, rt: &R, server: usize) -> bool
         ensures { SomeHeld N.terms (λ held. result ≡ is_up (scene_of held.history) server) }
     {
         self.enter(rt).up(server)
     }
 
-    /// Whether a tick at this moment would tell a timeout. `O(1)`.
+    /// Says whether a tick at this moment would tell a timeout. `O(1)`.
     pub fn expired<R: Wait>(&self, rt: &R, moment: Moment) -> bool
         ensures { SomeHeld N.terms (λ held. IsTrue result ↔ SomeExpires held.history moment) }
     {
         self.enter(rt).expired(moment)
     }
 
-    /// Ends the board, once all its seats are joined. What the seats took and posted is what the book offered and collected, beside what is left.
+    /// Closes the board, once all its seats are joined. What the seats took and posted is what the
+    /// book offered and collected, except for what is left.
     pub fn close(self, relay: RelaySeat) -> Closing
         requires named { relay.board ≡ N.board }
         requires first { relay.view.first ≡ true }
@@ -340,7 +352,7 @@ impl<N: BoardName> Desk<N> {
             tail: _,
         } = self;
         let book = book.into_inner();
-        // Says what the book keeps.
+        // This call states the book's invariant.
         book.places();
         board.close(book.into_seat(), relay)
     }
@@ -350,20 +362,20 @@ impl<N: BoardName> Desk<N> {
         ensures { IsHeld N.terms (mutex_guard_value result) }
     {
         let book = self.book.lock(rt);
-        // Says what the book keeps.
+        // This call states the book's invariant.
         book.places();
         book
     }
 }
 
-// What the present window has is kept to be read.
+// Keeps the entries of the present window to be read.
 fn catch_up(tail: &mut Option<Tail>, entries: &[Entry]) {
     if let Some(tail) = tail {
         tail.catch_up(entries);
     }
 }
 
-// That it ended is, too.
+// Keeps the fact that the window ended.
 fn turn(tail: &mut Option<Tail>) {
     if let Some(tail) = tail {
         tail.turn();

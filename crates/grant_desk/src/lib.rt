@@ -1,5 +1,6 @@
-//! The dispatcher behind a lock, with its board beside it: what threads share. A call of a `Desk` waits for the lock and is the book's call of that
-//! name; passes are taken and posted at the board, which no lock guards.
+//! The dispatcher behind a lock, with its board beside it: the state that threads share. A call of
+//! a `Desk` waits for the lock and makes the book's call of the same name; passes are taken and
+//! posted at the board, which no lock guards.
 #![tactic(auto)]
 
 mod desk;

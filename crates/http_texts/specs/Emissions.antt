@@ -1,16 +1,16 @@
--- Texts that a pipe puts on their way, and what is held for later.
+-- Texts that a pipe puts on their way, and bytes that it holds for later.
 use Rattle.std.specs.Prelude.{◌≡◌, ℕ, List, ◌++◌}
 use Rattle.counted_io.specs.Streams.{Stream}
 use Rattle.relay_body.specs.Texts.{Emits, Stops}
 use Rattle.relay_body.specs.declared.fault.Fault.{Fault}
 use Rattle.body_pipe.specs.declared.pipe.Pipe.{Pipe}
 
--- the text was put behind what waited, and nothing was read
+-- the text was put after what waited, and nothing was read
 pub record Puts (p0 p : Pipe) (w0 w : Stream) (text : List ℕ) : Type 0 where
   pub emits : Emits w0 w p0.turns p.turns p0.outbox p.outbox text
   pub inbox : p.inbox ≡ p0.inbox
 
--- of what waited and of the text a front was written, and a fault was met
+-- a front of what waited and of the text was written, and a fault was met
 pub record Halts (p0 p : Pipe) (w0 w : Stream) (text : List ℕ) (fault : Fault) : Type 0 where
   pub stops : Stops w0 w p0.turns p.turns (p0.outbox ++ text) fault
   pub inbox : p.inbox ≡ p0.inbox

@@ -1,4 +1,4 @@
--- Faults of messages, by those of their heads and bodies.
+-- Faults of messages, in terms of those of their heads and bodies.
 use Rattle.relay_body.specs.declared.fault.Fault as Body
 use Rattle.relay_body.specs.declared.fault.Fault.TheVariants as OfBody
 use Rattle.http_texts.specs.declared.fault.Fault.{Fault}

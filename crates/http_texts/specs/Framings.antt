@@ -1,4 +1,4 @@
--- How far the body of a message goes, by its head (RFC 9112, section 6.3).
+-- The length of a message's body, by its head (RFC 9112, section 6.3).
 use Rattle.std.specs.Prelude.{ℕ, Bool, ◌==◌, ◌&&◌, ◌||◌, nat_lt, true, List, [], ◌∷◌, if◌then◌else◌, Option, Some, None, option_map, codes}
 use Rattle.std.specs.List.{list_all}
 use Rattle.std.specs.Str.{bytes_eq, str_eq_ignore_ascii_case}
@@ -24,33 +24,34 @@ common (part ∷ more) = if is_numeral 18 part && list_all (is_number (value_of 
 abbrev pub is_chunked : List ℕ → Bool
 is_chunked coding = str_eq_ignore_ascii_case coding (codes "chunked")
 
--- By the values of Transfer-Encoding and the parts of Content-Length: one of them at most. A length is one number, however
--- often it stands there; the only coding is `chunked`, of version 1.1. `unstated` is the framing of a message without both.
+-- The framing by the values of Transfer-Encoding and the parts of Content-Length: at most one of
+-- the two fields may stand there. A length is one number, however often it stands there; the only
+-- coding is `chunked`, in version 1.1. `unstated` is the framing of a message without either field.
 abbrev pub by_fields : Version → Framing → List (List ℕ) → List (List ℕ) → Option Framing
 by_fields version unstated [] [] = Some unstated
 by_fields version unstated [] (part ∷ more) = option_map Length (common (part ∷ more))
 by_fields Http11 unstated (coding ∷ []) [] = if is_chunked coding then Some Chunked else None
 by_fields version unstated codings lengths = None
 
--- the framing of a request; none is bad framing
+-- the framing of a request; none where it is unsound
 abbrev pub request_framing : Request → Option Framing
 request_framing r =
     by_fields r.version Empty (values_of (codes "Transfer-Encoding") r.fields) (parts_of (codes "Content-Length") r.fields)
 
--- no body, and no framing
+-- no body, and no framing in the head
 abbrev pub bare : Plan
 bare = record { body = Empty; stated = Empty }
 
--- a length that is stated without a body
+-- a length in the head of an answer without a body
 abbrev pub stating : List (List ℕ) → Option Plan
 stating [] = Some bare
 stating (part ∷ more) = option_map (λ count. record { body = Empty; stated = Length count }) (common (part ∷ more))
 
--- the head alone, before the answer
+-- an interim answer: a head alone, before the answer
 abbrev pub is_interim : ℕ → Bool
 is_interim status = nat_lt 99 status && nat_lt status 200
 
--- by the status, where no rule stands against the head as a whole
+-- the plan by the status, where no rule forbids the head as a whole
 abbrev pub by_status : ℕ → Bool → Version → List (List ℕ) → List (List ℕ) → Option Plan
 by_status status to_head version codings lengths =
     if is_interim status then Some bare
@@ -58,12 +59,12 @@ by_status status to_head version codings lengths =
     else if to_head || (status == 304) then stating lengths
     else option_map (λ framing. record { body = framing; stated = framing }) (by_fields version ToEnd codings lengths)
 
--- a coding in an answer of version 1.0 is bad framing, and so is a change of protocols
+-- a transfer coding in an answer of version 1.0 is unsound, and so is a change of protocol
 abbrev pub is_refused : ℕ → Version → List (List ℕ) → Bool
 is_refused status Http10 (coding ∷ codings) = true
 is_refused status version codings = status == 101
 
--- the plan of an answer to a request of this method; none is bad framing
+-- the plan for an answer to a request with this method; none where the framing is unsound
 abbrev pub answer_plan : List ℕ → Answer → Option Plan
 answer_plan method a =
     let codings = values_of (codes "Transfer-Encoding") a.fields in

@@ -1,4 +1,4 @@
--- Heads at the front of what is read.
+-- Heads at the front of the input.
 use Rattle.std.specs.Prelude.{◌≡◌, List, ℕ, [], ◌++◌, None}
 use Rattle.httparse.specs.Grammar.{RequestHead, ResponseHead, print_request, print_response}
 use Rattle.http_texts.specs.Framings.{request_framing}
@@ -8,15 +8,15 @@ use Rattle.req_view.specs.AnswerHeads.{HasAnswer, HasNoAnswer, NeverHasAnswer}
 use Rattle.req_view.specs.Heads.{HasHead, HasNoHead, NeverHasHead}
 use Rattle.req_view.specs.Request.{request_of}
 
--- a request's head that the proxy takes
+-- a request's head that the proxy accepts
 abbrev pub IsRequest : RequestHead → Type 0
 IsRequest h = HasHead (print_request h) h []
 
--- an answer's head that it takes
+-- an answer's head that it accepts
 abbrev pub IsAnswer : ResponseHead → Type 0
 IsAnswer h = HasAnswer (print_response h) h []
 
--- what is wrong with an input that doesn't begin with a request's head
+-- the fault of an input that doesn't begin with a request's head
 abbrev pub NoRequest : Fault → List ℕ → Type 0
 NoRequest Read input = HasNoHead input
 NoRequest Head input = NeverHasHead input
@@ -26,7 +26,7 @@ NoRequest Write input = ⊥
 NoRequest Turns input = ⊥
 NoRequest Closed input = ⊥
 
--- or with a request whose head it is, where that frames its body badly
+-- or of one that begins with a request's head whose framing is unsound
 pub record FramedBadly (input : List ℕ) : Type 0 where
   pub head : RequestHead
   pub rest : List ℕ
@@ -43,7 +43,7 @@ LacksRequest Write input = ⊥
 LacksRequest Turns input = ⊥
 LacksRequest Closed input = ⊥
 
--- or with an answer's
+-- or of one that doesn't begin with an answer's head
 abbrev pub NoAnswer : Fault → List ℕ → Type 0
 NoAnswer Read input = HasNoAnswer input
 NoAnswer Head input = NeverHasAnswer input

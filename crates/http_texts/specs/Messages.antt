@@ -26,13 +26,14 @@ pub record IsForwarded (adds : Additions) (r : Request) (used text : List ℕ) :
   pub passes : IsBody framing true used body
   pub text_is : text ≡ request_text adds r framing ++ body
 
--- `used` is a part of its body, and `text` is what the head and it become; of a request that is framed badly, nothing
+-- `used` is a part of its body, and `text` is what the head and that part become; a request with an
+-- unsound framing becomes nothing
 pub data PartOfForwarded (adds : Additions) (r : Request) : List ℕ → List ℕ → Type 0 where
   nothing : PartOfForwarded adds r [] []
   head_and_body : (framing : Framed.Framing) (used body : List ℕ) → request_framing r ≡ Some framing → PartOfBody framing true used body
       → PartOfForwarded adds r used (request_text adds r framing ++ body)
 
--- what is wrong with the bytes of a body
+-- the fault of the bytes of a body
 abbrev pub NoBody : Framed.Framing → Fault → List ℕ → Type 0
 NoBody framing Read input = LacksBody framing input
 NoBody framing Framing input = (more : List ℕ) → LacksBody framing (input ++ more)
@@ -42,30 +43,31 @@ NoBody framing Write input = ⊥
 NoBody framing Turns input = ⊥
 NoBody framing Closed input = ⊥
 
--- or with a request whose head was read
+-- the fault of a request whose head was read
 pub data LacksForwarded (r : Request) (fault : Fault) (input : List ℕ) : Type 0 where
   no_framing : fault ≡ Framing → request_framing r ≡ None → LacksForwarded r fault input
   no_body : (framing : Framed.Framing) → request_framing r ≡ Some framing → NoBody framing fault input → LacksForwarded r fault input
 
--- a head before the answer to a request of this method
+-- an interim head before the answer to a request with this method
 pub record IsInterim (method : List ℕ) (h : ResponseHead) : Type 0 where
   pub head : IsAnswer h
   pub planned : IsSome (answer_plan method (answer_of h))
   pub interim : is_interim (answer_of h).status ≡ true
 
--- the answer's own, and what is done with it
+-- the answer's own head, and the plan for its body
 pub record IsFinal (method : List ℕ) (h : ResponseHead) (plan : Plan) : Type 0 where
   pub head : IsAnswer h
   pub planned : answer_plan method (answer_of h) ≡ Some plan
   pub final : is_interim (answer_of h).status ≡ false
 
--- what a head behind so many others is to the answer: its own, one before it, or one that is framed badly or the ninth
+-- the role of a head after this number of interim heads: the answer's own, an interim one, or one
+-- whose framing is unsound or that is the ninth
 abbrev pub HasRole : List ℕ → Answer → ℕ → Role → Type 0
 HasRole method a n (Final plan) = (answer_plan method a ≡ Some plan) × (is_interim a.status ≡ false)
 HasRole method a n Interim = IsSome (answer_plan method a) × (is_interim a.status ≡ true) × (n < 8)
 HasRole method a n Refused = (answer_plan method a ≡ None) ⊎ (IsSome (answer_plan method a) × (is_interim a.status ≡ true) × (8 ≤ n))
 
--- at most eight heads come before the answer
+-- at most eight interim heads come before the answer
 pub record AreInterims (method : List ℕ) (hs : List ResponseHead) : Type 0 where
   pub each : AllByRecursion (IsInterim method) hs
   pub few : length hs ≤ 8
@@ -76,7 +78,7 @@ print_heads hs = flat_map print_response hs
 abbrev pub interims_text : Bool → List ResponseHead → List ℕ
 interims_text framed hs = flat_map (λ h. interim_text framed (answer_of h)) hs
 
--- `used` is the answer to a request of this method, with the heads before it, and `text` is what they become
+-- `used` is the answer to a request with this method, with its interim heads, and `text` is what they become
 pub record IsAnswered (says : Persistence) (method : List ℕ) (framed : Bool) (used text : List ℕ) : Type 0 where
   pub interims : List ResponseHead
   pub are : AreInterims method interims
@@ -97,19 +99,20 @@ pub data PartOfAnswered (says : Persistence) (method : List ℕ) (framed : Bool)
       → PartOfAnswered says method framed (print_heads hs ++ (print_response h ++ used)) (interims_text framed hs ++ (answer_text says framed
       (answer_of h) plan ++ passed))
 
--- behind so many heads the input ends too early
+-- after these interim heads the input ends too early
 pub data EndsEarly (method : List ℕ) : List ℕ → Type 0 where
   no_head : (rest : List ℕ) → HasNoAnswer rest → EndsEarly method rest
   no_body : (h : ResponseHead) (plan : Plan) (rest : List ℕ) → IsFinal method h plan → LacksBody plan.body rest → EndsEarly method (print_response h ++ rest)
 
--- or there stands a head that frames its body badly, a ninth, or one behind which its body never stands
+-- or there stands a head with an unsound framing, a ninth interim head, or a head after which its
+-- body can't stand
 pub data BadlyFramed (method : List ℕ) : ℕ → List ℕ → Type 0 where
   no_plan : (n : ℕ) (h : ResponseHead) (rest : List ℕ) → IsAnswer h → answer_plan method (answer_of h) ≡ None → BadlyFramed method n (print_response h ++ rest)
   ninth : (h : ResponseHead) (rest : List ℕ) → IsInterim method h → BadlyFramed method 8 (print_response h ++ rest)
   bad_body : (n : ℕ) (h : ResponseHead) (plan : Plan) (rest : List ℕ) → IsFinal method h plan → ((more : List ℕ) → LacksBody plan.body (rest ++ more))
       → BadlyFramed method n (print_response h ++ rest)
 
--- the input begins with heads before an answer, and then comes what `Then` says for their number
+-- the input begins with interim heads, and then comes what `Then` says for their number
 pub record Behind (method : List ℕ) (Then : ℕ → List ℕ → Type 0) (input : List ℕ) : Type 0 where
   pub interims : List ResponseHead
   pub are : AreInterims method interims
@@ -117,7 +120,7 @@ pub record Behind (method : List ℕ) (Then : ℕ → List ℕ → Type 0) (inpu
   pub input_is : input ≡ print_heads interims ++ rest
   pub then : Then (length interims) rest
 
--- what is wrong with an answer
+-- the fault of an answer
 abbrev pub LacksAnswer : List ℕ → Fault → List ℕ → Type 0
 LacksAnswer method Read input = Behind method (λ n rest. EndsEarly method rest) input
 LacksAnswer method Head input = Behind method (λ n rest. NeverHasAnswer rest) input

@@ -1,4 +1,4 @@
--- What becomes of a connection behind a message (RFC 9112, section 9.3).
+-- What follows for a connection after a message (RFC 9112, section 9.3).
 use Rattle.std.specs.Prelude.{ℕ, Bool, true, false, ◌&&◌, not, List, if◌then◌else◌, codes}
 use Rattle.relay_body.specs.declared.framing.Framing.{Framing}
 use Rattle.relay_body.specs.declared.framing.Framing.TheVariants.{Empty, Length, Chunked, ToEnd}
@@ -16,27 +16,28 @@ use Rattle.req_view.specs.declared.version.Version.TheVariants.{Http10, Http11}
 abbrev pub has_option : List ℕ → List NamedValue → Bool
 has_option name fields = is_among (parts_of (codes "Connection") fields) name
 
--- by the version, and whether it is asked to be kept
+-- the connection's fate by the version, and by whether it is to be kept open
 abbrev pub kept_by : Version → Bool → Persistence
 kept_by Http11 asked = Persist
 kept_by Http10 asked = if asked then KeepAlive else Close
 
--- what the client is told, if nothing stands against it
+-- what the client is told, if nothing forbids it
 abbrev pub wished : Request → Persistence
 wished r = if has_option (codes "close") r.fields then Close else kept_by r.version (has_option (codes "keep-alive") r.fields)
 
--- the end of a body shows: of one to the end of the input it doesn't, nor, to an old client, of one in chunks
+-- the end of a body is marked: that of a body to the end of the input isn't, nor, for an HTTP/1.0
+-- client, that of a chunked body
 abbrev pub is_delimited : Bool → Framing → Bool
 is_delimited framed Empty = true
 is_delimited framed (Length count) = true
 is_delimited framed Chunked = framed
 is_delimited framed ToEnd = false
 
--- what an answer says; `willing` is the proxy's own will
+-- what an answer says; `willing` says whether the proxy wants to keep the connection
 abbrev pub answer_says : Bool → Request → Plan → Persistence
 answer_says willing r plan = if willing && is_delimited (framed_for r.version) plan.body then wished r else Close
 
--- the server keeps its connection behind this answer
+-- the server keeps its connection open after this answer
 abbrev pub server_keeps : Version → Bool → Bool → Bool
 server_keeps Http11 delimited closes = delimited && not closes
 server_keeps Http10 delimited closes = false

@@ -1,4 +1,4 @@
--- What the framing fields of a head say, in short.
+-- The framing fields of a head, summarized.
 use Rattle.std.specs.Prelude.{ℕ, Bool, true, ◌==◌, ◌||◌, List, [], ◌∷◌, if◌then◌else◌, Option, Some, None, option_map}
 use Rattle.relay_body.specs.declared.framing.Framing.{Framing}
 use Rattle.relay_body.specs.declared.framing.Framing.TheVariants as Framed
@@ -11,7 +11,7 @@ use Rattle.http_texts.specs.declared.plans.Plan.{Plan}
 use Rattle.req_view.specs.declared.version.Version.{Version}
 use Rattle.req_view.specs.declared.version.Version.TheVariants.{Http10, Http11}
 
--- the values of Transfer-Encoding
+-- the values of Transfer-Encoding, summarized
 abbrev pub coding_of : List (List ℕ) → Coding
 coding_of [] = Coded.Absent
 coding_of (coding ∷ []) = if is_chunked coding then Coded.Chunked else Coded.Other
@@ -21,19 +21,19 @@ abbrev pub count_or_fault : Option ℕ → Stated
 count_or_fault None = Faulty
 count_or_fault (Some count) = Count count
 
--- the parts of Content-Length
+-- the parts of Content-Length, summarized
 abbrev pub stated_of : List (List ℕ) → Stated
 stated_of [] = Absent
 stated_of (part ∷ more) = count_or_fault (common (part ∷ more))
 
--- both together
+-- the framing by both
 abbrev pub framing_of : Version → Framing → Coding → Stated → Option Framing
 framing_of version unstated Coded.Absent Absent = Some unstated
 framing_of version unstated Coded.Absent (Count count) = Some (Framed.Length count)
 framing_of Http11 unstated Coded.Chunked Absent = Some Framed.Chunked
 framing_of version unstated coding stated = None
 
--- a length without a body
+-- a length in an answer without a body
 abbrev pub stating : Stated → Option Plan
 stating Absent = Some bare
 stating (Count count) = Some (record { body = Framed.Empty; stated = Framed.Length count })
@@ -50,7 +50,7 @@ plan_of status to_head version coding stated =
     else if to_head || (status == 304) then stating stated
     else option_map same_plan (framing_of version Framed.ToEnd coding stated)
 
--- a head that isn't taken
+-- a head that the proxy refuses
 abbrev pub is_refused : ℕ → Version → Coding → Bool
 is_refused status Http10 Coded.Chunked = true
 is_refused status Http10 Coded.Other = true

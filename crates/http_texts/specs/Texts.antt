@@ -30,13 +30,13 @@ framing_text (Length count) = codes "Content-Length: " ++ (decimal count ++ crlf
 framing_text Chunked = codes "Transfer-Encoding: chunked\r\n"
 framing_text ToEnd = []
 
--- the connection's last line, if there is one, and the empty one
+-- the Connection line, if there is one, and the empty line
 abbrev pub connection_text : Persistence → List ℕ
 connection_text Close = codes "Connection: close\r\n\r\n"
 connection_text Persist = crlf_bytes
 connection_text KeepAlive = codes "Connection: keep-alive\r\n\r\n"
 
--- an empty Host line, where no such field is left
+-- an empty Host line, where no Host field is handed on
 abbrev pub host_text : List NamedValue → List ℕ
 host_text fields = if list_any (is_named (codes "Host")) fields then [] else codes "Host:\r\n"
 
@@ -48,12 +48,12 @@ request_line r = r.method ++ (space ∷ (r.target ++ codes " HTTP/1.1\r\n"))
 abbrev pub end_text : Persistence → Framing → List ℕ
 end_text says framing = framing_text framing ++ connection_text says
 
--- the line that says whose request it is, where the server is told
+-- the X-Forwarded-For line, where the server is told the client's address
 abbrev pub client_text : Option IpAddr → List ℕ
 client_text None = []
 client_text (Some address) = codes "X-Forwarded-For: " ++ (ip_text address ++ crlf_bytes)
 
--- where it isn't
+-- the additions without a client's address
 abbrev pub unnamed : Persistence → Additions
 unnamed asks = record { asks = asks; client = None }
 
@@ -75,12 +75,12 @@ status_line a = codes "HTTP/1.1 " ++ (status_text a.status ++ (space ∷ (a.reas
 abbrev pub answer_lines : Answer → List ℕ
 answer_lines a = status_line a ++ fields_text (kept of_connection a.fields)
 
--- the framing that is stated: to an old client chunks are no framing
+-- the framing that is written: for an HTTP/1.0 client chunks are no framing
 abbrev pub stated : Bool → Framing → Framing
 stated framed Chunked = if framed then Chunked else Empty
 stated framed framing = framing
 
--- whether a client of this version is told how a body in chunks is framed
+-- a client of this version is told the framing of a chunked body
 abbrev pub framed_for : Version → Bool
 framed_for Http10 = false
 framed_for Http11 = true
@@ -89,6 +89,6 @@ framed_for Http11 = true
 abbrev pub answer_text : Persistence → Bool → Answer → Plan → List ℕ
 answer_text says framed a plan = answer_lines a ++ end_text says (stated framed plan.stated)
 
--- a head before the answer: a client of version 1.0 gets none, and nobody gets a 100
+-- an interim head: a client of version 1.0 gets none, and no client gets a 100
 abbrev pub interim_text : Bool → Answer → List ℕ
 interim_text framed a = if framed && not (a.status == 100) then answer_lines a ++ crlf_bytes else []

@@ -8,14 +8,14 @@ use thiserror::Error;
 /// Why a message wasn't handed on whole.
 #[derive(Clone, Copy, Debug, PartialEq, Eq, Error)]
 pub enum Fault {
-    /// A growth found no memory.
+    /// The system refused memory.
     #[error("no memory")]
     NoMemory,
-    /// The bytes are no head that the proxy takes, whatever follows them.
+    /// The bytes are no head that the proxy accepts, whatever follows them.
     #[error("not a head")]
     Head,
-    /// The head frames its body badly, or the bytes behind it are no such body, whatever follows them; or too many
-    /// heads came before the answer.
+    /// The head's framing is unsound, or the bytes after it can't be its body, whatever follows
+    /// them; or too many interim heads came before the answer.
     #[error("bad framing")]
     Framing,
     /// A read failed, or the input ended too early.
@@ -24,7 +24,7 @@ pub enum Fault {
     /// A write failed or took no byte.
     #[error("write fault")]
     Write,
-    /// As many reads and writes were made as there were turns.
+    /// All turns were spent on reads and writes.
     #[error("turns spent")]
     Turns,
     /// A fault was met before.
@@ -48,7 +48,7 @@ impl From<BodyFault> for Fault {
     }
 }
 
-/// Why a head isn't taken.
+/// Returns the fault of a head that is refused.
 pub fn fault_of(refusal: HeadRefusal) -> Fault
     ensures { result ≡ of_refusal refusal }
 {

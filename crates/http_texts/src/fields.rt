@@ -7,21 +7,21 @@ ghost use Rattle.req_view.specs.Request.{is_named};
 use proxy_words::Parts;
 use req_view::{Section, Values};
 
-/// Where a message goes.
+/// The direction of a message.
 #[derive(Clone, Copy)]
 pub(crate) enum Way {
     ToServer,
     ToClient,
 }
 
-/// Whether a field of this name is handed on. `O(n)` in Connection's values.
+/// Says whether a field with this name is handed on. `O(n)` in Connection's values.
 pub(crate) fn is_kept(section: &Section, way: Way, name: &[u8]) -> bool
     ensures { result ≡ fields.is_kept (fields.dropped way) section.now.fields name.now }
 {
     !(is_of_this_connection(section, name) || is_dropped(way, name))
 }
 
-/// Whether a Host field is handed on to the server.
+/// Says whether a Host field is handed on to the server.
 pub(crate) fn keeps_host(section: &Section) -> bool
     ensures { result ≡ list_any (is_named (codes "Host")) (fields.kept fields.of_request section.now.fields) }
 {
@@ -43,7 +43,7 @@ fn is_kept_host(section: &Section, position: usize) -> bool
     is_kept(section, Way::ToServer, field.name) && field.name.eq_ignore_ascii_case(b"Host")
 }
 
-/// Whether a Connection field names it.
+/// Says whether a Connection field names it.
 pub(crate) fn is_of_this_connection(section: &Section, name: &[u8]) -> bool
     ensures { result ≡ fields.is_among (fields.parts_of (codes "Connection") section.now.fields) name.now }
 {

@@ -9,7 +9,7 @@ use proxy_words::{Parts, long_number};
 use relay_body::Framing;
 use req_view::{Values, Version, View};
 
-/// What the values of Transfer-Encoding say.
+/// The values of Transfer-Encoding, summarized.
 #[derive(Clone, Copy)]
 pub(crate) enum Coding {
     Absent,
@@ -17,7 +17,7 @@ pub(crate) enum Coding {
     Other,
 }
 
-/// What the parts of Content-Length say.
+/// The parts of Content-Length, summarized.
 #[derive(Clone, Copy)]
 pub(crate) enum Stated {
     Absent,
@@ -25,7 +25,8 @@ pub(crate) enum Stated {
     Faulty,
 }
 
-/// How far a request's body goes; none where its head frames it badly. `O(n)` in the framing fields' values.
+/// Returns the framing of a request's body; `None` where the head's framing is unsound. `O(n)` in
+/// the framing fields' values.
 pub fn request_framing(view: &View) -> Option<Framing>
     ensures { result ≡ framings.request_framing view.now }
 {
@@ -97,7 +98,7 @@ pub(crate) fn coding_of(mut values: Values<'_>) -> Coding
     }
 }
 
-// The number that the first part of a text is.
+// Returns the number that is the first part of a text.
 fn first_number(value: &[u8]) -> Option<u64>
     ensures some { IfSome result (λ count. (part : List ℕ) × (more : List (List ℕ)) × (parts value.now ≡ part ∷ more) × (numeral 18 part ≡ Some count)) }
     ensures none { IfNone result ((parts value.now ≡ []) ⊎ ((part : List ℕ) × (more : List (List ℕ)) × (parts value.now ≡ part ∷ more) × (numeral 18 part ≡ None))) }

@@ -14,14 +14,14 @@ use std::alloc::{AllocError, Global};
 use std::io;
 use std::net::IpAddr;
 
-/// A text in memory. Its only fault is that there is no more.
+/// A text in memory. Its only fault is want of memory.
 #[derive(Drop)]
 struct Text {
     bytes: Vec<u8>,
 }
 
 impl Page for Text {
-    // no turns, and so nothing of it is ever written
+    // It has no turns, so none of it is ever written to a sink.
     ghost pipe = { λ t. record { inbox = []; outbox = t.bytes.items; turns = 0 } };
 
     fn put<K: Sink>(&mut self, _sink: &mut K, bytes: &[u8]) -> Result<(), Fault> {
@@ -32,7 +32,7 @@ impl Page for Text {
     }
 }
 
-/// The head of a request that is handed on to a server.
+/// Returns the head of a request as it is handed on to a server.
 pub fn request_head(
     alloc: Global,
     view: &View,
@@ -57,7 +57,7 @@ pub fn request_head(
     }
 }
 
-/// Leave to send a body, where a client waits for it.
+/// Returns the `100` answer, where a client waits for it before it sends a body.
 pub fn given_leave(view: &View) -> &'static [u8]
     ensures { result.now ≡ replies.leave_text view.now }
 {
@@ -68,7 +68,7 @@ pub fn given_leave(view: &View) -> &'static [u8]
     }
 }
 
-/// The head of an answer that is handed on to a client.
+/// Returns the head of an answer as it is handed on to a client.
 pub fn answer_head_text(
     alloc: Global,
     head: &AnswerHead,
@@ -87,7 +87,7 @@ pub fn answer_head_text(
     }
 }
 
-/// A head that comes before the answer, where the client is to have it.
+/// Returns an interim head as it is handed on, where the client is to have it.
 pub fn interim_head(alloc: Global, head: &AnswerHead, framed: bool) -> Result<Vec<u8>, AllocError>
     ensures { IfOk result (λ text. text.items ≡ texts.interim_text framed head.now) }
 {
@@ -102,7 +102,7 @@ pub fn interim_head(alloc: Global, head: &AnswerHead, framed: bool) -> Result<Ve
     }
 }
 
-// The line that says whose request it is, where the server is told.
+// Returns the X-Forwarded-For line, where the server is told the client's address.
 fn client_line(alloc: Global, client: Option<IpAddr>) -> Result<Vec<u8>, AllocError>
     ensures { IfOk result (λ line. line.items ≡ texts.client_text client) }
 {

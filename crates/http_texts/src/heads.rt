@@ -12,16 +12,16 @@ use counted_io::Sink;
 use relay_body::{Fault, Framing};
 use req_view::{AnswerHead, View};
 
-/// What is added to a request's head, written out.
+/// The additions to a request's head, as text.
 #[derive(Clone, Copy)]
 pub struct Added<'a> {
     /// What the server is told of its connection.
     pub asks: Persistence,
-    /// The line that says whose request it is, or nothing.
+    /// The X-Forwarded-For line, or nothing.
     pub client: &'a [u8],
 }
 
-/// How an answer is told to its client.
+/// The form in which an answer is written to its client.
 #[derive(Clone, Copy, Debug, PartialEq, Eq)]
 pub struct Wording {
     pub plan: Plan,
@@ -31,7 +31,7 @@ pub struct Wording {
     pub says: Persistence,
 }
 
-/// Puts the head of a request that is handed on to a server.
+/// Writes the head of a request that is handed on to a server.
 pub fn put_request<P: Page, K: Sink>(
     page: &mut P,
     sink: &mut K,
@@ -65,7 +65,7 @@ fn put_request_line<P: Page, K: Sink>(page: &mut P, sink: &mut K, view: &View) -
     Ok(())
 }
 
-/// Puts the head of an answer that is handed on to a client.
+/// Writes the head of an answer that is handed on to a client.
 pub fn put_answer<P: Page, K: Sink>(
     page: &mut P,
     sink: &mut K,
@@ -82,7 +82,7 @@ pub fn put_answer<P: Page, K: Sink>(
     Ok(())
 }
 
-// The framing that is stated: to an old client chunks are no framing.
+// Returns the framing that is written: for an HTTP/1.0 client chunks are no framing.
 fn stated(framed: bool, framing: Framing) -> Framing
     ensures { result ≡ texts.stated framed framing }
 {
@@ -92,7 +92,7 @@ fn stated(framed: bool, framing: Framing) -> Framing
     }
 }
 
-/// Puts a head that comes before the answer, where the client is to have it.
+/// Writes an interim head, where the client is to have it.
 pub fn put_interim<P: Page, K: Sink>(
     page: &mut P,
     sink: &mut K,
@@ -144,7 +144,7 @@ fn put_status_line<P: Page, K: Sink>(
     Ok(())
 }
 
-// A status in three digits.
+// Returns a status in three digits.
 fn status_digits(status: u16) -> [u8; 3]
     requires { status < 1000 }
     ensures { result ≡ texts.status_text status }

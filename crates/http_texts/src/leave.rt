@@ -6,7 +6,7 @@ use crate::roles::is_framed;
 use relay_body::Framing;
 use req_view::{Values, View};
 
-/// Whether the client waits for leave to send a body (RFC 9110, section 10.1.1).
+/// Says whether the client waits for a `100` before it sends a body (RFC 9110, section 10.1.1).
 pub(crate) fn waits_for_leave(view: &View) -> bool
     ensures { result ≡ replies.waits_for_leave view.now }
 {

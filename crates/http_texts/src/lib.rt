@@ -1,4 +1,4 @@
-//! Messages as texts: what their heads say, what is handed on of them, and what the proxy says itself.
+//! Messages as texts: the meaning of their heads, what is handed on of them, and the proxy's own answers.
 #![tactic(auto)]
 
 mod additions;

@@ -13,7 +13,7 @@ use itoa::Buffer;
 use relay_body::{Fault, Framing};
 use req_view::Section;
 
-/// Puts the text behind what waits.
+/// Appends the text after what waits.
 pub(crate) fn put<P: Page, K: Sink>(page: &mut P, sink: &mut K, text: &[u8]) -> Result<(), Fault>
     requires { (K.stream sink.old).calls + (P.pipe page.old).turns < 2 ^ 64 }
     ensures ok { OnOk result (Puts (P.pipe page.old) (P.pipe page.new) (K.stream sink.old) (K.stream sink.new) (text.now)) }
@@ -23,7 +23,7 @@ pub(crate) fn put<P: Page, K: Sink>(page: &mut P, sink: &mut K, text: &[u8]) -> 
     Ok(())
 }
 
-/// Puts three texts, one behind the other.
+/// Appends three texts, one after the other.
 pub(crate) fn put_three<P: Page, K: Sink>(
     page: &mut P,
     sink: &mut K,
@@ -56,7 +56,7 @@ fn put_field<P: Page, K: Sink>(
     Ok(())
 }
 
-// Puts the line of the field at a position, if it is handed on.
+// Appends the line of the field at a position, if it is handed on.
 fn put_kept<P: Page, K: Sink>(
     page: &mut P,
     sink: &mut K,
@@ -80,7 +80,7 @@ fn put_kept<P: Page, K: Sink>(
     Ok(())
 }
 
-/// Puts the lines of the fields that are handed on. `O(n)` in the fields, times Connection's values.
+/// Appends the lines of the fields that are handed on. `O(n)` in the fields, times Connection's values.
 pub(crate) fn put_fields<P: Page, K: Sink>(
     page: &mut P,
     sink: &mut K,
@@ -97,7 +97,7 @@ pub(crate) fn put_fields<P: Page, K: Sink>(
     Ok(())
 }
 
-/// Puts an empty Host line, unless such a field is handed on.
+/// Appends an empty Host line, unless a Host field is handed on.
 pub(crate) fn put_host<P: Page, K: Sink>(
     page: &mut P,
     sink: &mut K,
@@ -145,7 +145,7 @@ fn put_length<P: Page, K: Sink>(page: &mut P, sink: &mut K, count: u64) -> Resul
     Ok(())
 }
 
-/// Puts the end of a head: its framing, and what becomes of the connection.
+/// Appends the end of a head: its framing, and the Connection line.
 pub(crate) fn put_end<P: Page, K: Sink>(
     page: &mut P,
     sink: &mut K,

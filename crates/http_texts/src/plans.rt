@@ -6,15 +6,15 @@ use crate::framings::{Coding, Stated, coding_of, framing_of, stated_of};
 use relay_body::Framing;
 use req_view::{AnswerHead, Version};
 
-/// What is done with an answer: how its body is read, and which framing its head states.
+/// The plan for an answer: how its body is read, and the framing that its head states.
 #[derive(Clone, Copy, Debug, PartialEq, Eq)]
 pub struct Plan {
     pub body: Framing,
     pub stated: Framing,
 }
 
-/// What is done with the answer to a request of this method; none where its head frames it badly, or changes the
-/// protocol. `O(n)` in the framing fields' values.
+/// Returns the plan for the answer to a request with this method; `None` where the framing is
+/// unsound, or the head changes the protocol. `O(n)` in the framing fields' values.
 pub fn answer_plan(method: &[u8], head: &AnswerHead) -> Option<Plan>
     ensures { result ≡ framings.answer_plan method.now head.now }
 {

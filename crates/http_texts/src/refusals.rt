@@ -1,19 +1,19 @@
 ghost use Rattle.std.specs.Prelude.{◌≡◌};
 ghost use Rattle.http_texts.specs.Replies.{refusal_text};
 
-/// What a client is told in place of an answer.
+/// The status of a refusal.
 #[derive(Clone, Copy, Debug, PartialEq, Eq)]
 pub enum Code {
-    /// 400: the request is no message that the proxy takes.
+    /// 400: the proxy doesn't accept the request.
     BadRequest,
-    /// 502: the server gave no answer that the proxy takes.
+    /// 502: the server gave no answer that the proxy accepts.
     BadGateway,
     /// 503: no server is free.
     Unavailable,
 }
 
 impl Code {
-    /// What the client is told.
+    /// Returns the text of the refusal.
     pub fn text(self) -> &'static [u8]
         ensures { result.now ≡ refusal_text self }
     {

@@ -5,21 +5,21 @@ ghost use Rattle.http_texts.specs.Texts.{framed_for};
 use crate::plans::{Plan, answer_plan, is_interim};
 use req_view::{AnswerHead, Version};
 
-/// The most heads that come before an answer (RFC 9110, section 15.2, sets no bound).
+/// The most interim heads before an answer (RFC 9110, section 15.2, sets no bound).
 pub const MOST_INTERIMS: usize = 8;
 
-/// What a head is to the answer that is waited for.
+/// The role of a head for the answer that is awaited.
 #[derive(Clone, Copy)]
 pub enum Role {
-    /// The answer's own, with which this is done.
+    /// The answer's own head, with this plan.
     Final(Plan),
-    /// One before it.
+    /// An interim head before it.
     Interim,
-    /// One with a bad framing, or one too many.
+    /// A head with an unsound framing, or one too many.
     Refused,
 }
 
-/// What a head behind so many others is to the answer.
+/// Returns the role of a head after this number of interim heads.
 pub fn role_of(method: &[u8], head: &AnswerHead, count: u64) -> Role
     ensures { messages.HasRole method.now head.now count result }
 {
@@ -35,7 +35,7 @@ pub fn role_of(method: &[u8], head: &AnswerHead, count: u64) -> Role
     Role::Interim
 }
 
-/// Whether a client of this version is told how a body in chunks is framed.
+/// Says whether a client of this version is told the framing of a chunked body.
 pub fn is_framed(version: Version) -> bool
     ensures { result ≡ framed_for version }
 {

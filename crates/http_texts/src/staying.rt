@@ -52,7 +52,8 @@ fn wished(view: &View) -> Persistence
     }
 }
 
-/// What an answer says of its client's connection; `willing` is the proxy's own will. `O(n)` in Connection's values.
+/// Returns what an answer says of its client's connection; `willing` says whether the proxy wants
+/// to keep it. `O(n)` in Connection's values.
 pub fn answer_says(willing: bool, view: &View, plan: Plan) -> Persistence
     ensures { result ≡ persistences.answer_says willing view.now plan }
 {
@@ -63,7 +64,7 @@ pub fn answer_says(willing: bool, view: &View, plan: Plan) -> Persistence
     }
 }
 
-/// Whether the server keeps its connection behind this answer. `O(n)` in Connection's values.
+/// Says whether the server keeps its connection open after this answer. `O(n)` in Connection's values.
 pub fn is_kept_by_server(head: &AnswerHead, plan: Plan) -> bool
     ensures { result ≡ persistences.is_kept_by_server head.now plan }
 {

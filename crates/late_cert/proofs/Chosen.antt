@@ -1,7 +1,7 @@
 -- Chosen reports are sound on logs that keep the order of their queues.
 use Rattle.std.proofs.Common.{◌≡◌, ℕ, zero, ◌<◌, ◌≤◌, nat_lt, Bool, true, false, cond, ℤ, ◌≤ℤ◌, ◌<ℤ◌, int_lt, List}
 use Rattle.std.proofs.Common.{[], ◌∷◌, ◌++◌, length, refl, ap, sym, ◌∙◌, subst, arith, length-append, ◌⊎◌, inl, inr}
-use Rattle.std.specs.List.{AllByRecursion, Contains, filter, fold}
+use Rattle.std.specs.List.{AllByRecursion, Contains, filter}
 use Rattle.std.proofs.lemmas.Bool.Decides.{nat_tests}
 use Rattle.std.proofs.lemmas.Int.{ints}
 use Rattle.std.proofs.lemmas.List.Elements.{Contains-append_right}
@@ -11,15 +11,12 @@ use Rattle.readable_log.specs.Grants.{stays}
 use Rattle.readable_log.specs.declared.grant.Stay.{Stay}
 use Rattle.late_cert.specs.Lateness.{own_lateness}
 use Rattle.readable_log.specs.Ordered.{AllKeepOrder, HaveArrived}
-use Rattle.late_cert.specs.Reports.{is_within, last_cut, IsCritical, IsSoundReport, IsChosenReport}
+use Rattle.late_cert.specs.Reports.{is_within, IsCritical, IsSoundReport, IsChosenReport}
 use Rattle.late_cert.specs.declared.report.Report.{Report}
+use Rattle.late_cert.proofs.Cuts.{cut_from, last_cut-walk}
 use Rattle.late_cert.proofs.Fair.{AreFair, RisesFrom, rises_lower, fair_after, rises_after}
 use Rattle.list_facts.proofs.Members.{all_weaker, all_append}
 use Rattle.readable_log.specs.Windows.{Window}
-
--- the cut, from a first one on
-abbrev cut_from : ℤ → ℕ → List Stay → ℕ
-cut_from due acc ss = fold (λ cut s. cond (int_lt due s.due) s.slot cut) acc ss
 
 rises_front : (n : ℕ) (xs ys : List Stay) → RisesFrom n (xs ++ ys) → RisesFrom n xs
 rises_front n [] ys rises = tt
@@ -150,10 +147,11 @@ chosen_sound setup start log r arrived keep chosen =
     let rises : RisesFrom 0 ss = rises_after log.base r.queue r.class [] log.entries in
     let fair_parts : AreFair (w.earlier ++ w.stay ∷ w.later) = subst AreFair w.parts fair in
     let rises_parts : RisesFrom 0 (w.earlier ++ w.stay ∷ w.later) = subst (RisesFrom 0) w.parts rises in
-    let urgent : AllByRecursion (IsUrgent r.due (last_cut r.due w.earlier))
-    (filter (is_within (last_cut r.due w.earlier) w.stay.slot) (w.earlier ++ w.stay ∷ w.later)) =
+    let urgent : AllByRecursion (IsUrgent r.due (cut_from r.due 0 w.earlier))
+    (filter (is_within (cut_from r.due 0 w.earlier) w.stay.slot) (w.earlier ++ w.stay ∷ w.later)) =
     tight r.due 0 w.earlier w.stay w.later (sym w.due) rises_parts fair_parts (after_none r.due (w.earlier ++ w.stay ∷ w.later)) in
-    let low : last_cut r.due w.earlier < w.stay.slot = cut_below r.due 0 w.earlier w.stay w.later rises_parts in
+    let cut : r.after ≡ cut_from r.due 0 w.earlier = w.after ∙ last_cut-walk r.due w.earlier in
+    let low : cut_from r.due 0 w.earlier < w.stay.slot = cut_below r.due 0 w.earlier w.stay w.later rises_parts in
     let more : 0 < length (w.earlier ++ w.stay ∷ w.later) = omega (arith, length-append w.earlier (w.stay ∷ w.later)) in
     record {
       granted = chosen.granted;
@@ -169,15 +167,15 @@ chosen_sound setup start log r arrived keep chosen =
         due = sym w.due;
         late = w.late;
       };
-      before = subst (λ n. n < r.to) (sym w.after) (subst (λ n. last_cut r.due w.earlier < n) (sym w.slot) low);
+      before = subst (λ n. n < r.to) (sym cut) (subst (λ n. cut_from r.due 0 w.earlier < n) (sym w.slot) low);
       listed = chosen.critical;
       critical = subst (AllByRecursion (IsCritical r)) (sym chosen.critical)
           (subst (λ l. AllByRecursion (IsCritical r) (filter (is_within r.after r.to) l)) (sym w.parts)
           (subst (λ n. AllByRecursion (IsCritical r) (filter (is_within r.after n) (w.earlier ++ w.stay ∷ w.later))) (sym w.slot)
-          (subst (λ n. AllByRecursion (IsCritical r) (filter (is_within n w.stay.slot) (w.earlier ++ w.stay ∷ w.later))) (sym w.after)
-          (all_weaker (IsUrgent r.due (last_cut r.due w.earlier)) (IsCritical r)
-          (λ s u. record { due = u.due_by; joined = subst (λ n. 0 < n → n < s.joined) (sym w.after) u.joined })
-          (filter (is_within (last_cut r.due w.earlier) w.stay.slot) (w.earlier ++ w.stay ∷ w.later)) urgent))));
+          (subst (λ n. AllByRecursion (IsCritical r) (filter (is_within n w.stay.slot) (w.earlier ++ w.stay ∷ w.later))) (sym cut)
+          (all_weaker (IsUrgent r.due (cut_from r.due 0 w.earlier)) (IsCritical r)
+          (λ s u. record { due = u.due_by; joined = subst (λ n. 0 < n → n < s.joined) (sym cut) u.joined })
+          (filter (is_within (cut_from r.due 0 w.earlier) w.stay.slot) (w.earlier ++ w.stay ∷ w.later)) urgent))));
     }
   where
     at_most : (a b : ℤ) → a ≡ b → a ≤ℤ b

@@ -1,7 +1,7 @@
 -- The reports of grants in order, group by group.
 use Rattle.std.proofs.Common.{◌≡◌, ℕ, zero, suc, ◌+◌, ◌<◌, ◌≤◌, ◌||◌, Bool, true, false, cond, ℤ, pos, ◌<ℤ◌, ◌≤ℤ◌, int_lt, List, []}
 use Rattle.std.proofs.Common.{◌∷◌, ◌++◌, map, take, drop, length, Option, None, Some, slice_get, get_or, IsTrue, refl, ap, sym, ◌∙◌, subst, arith}
-use Rattle.std.specs.List.{AllByRecursion, filter, prefix_len, fold}
+use Rattle.std.specs.List.{AllByRecursion, filter, prefix_len}
 use Rattle.std.specs.List.Sorted.{IsPermutation, IsSortedBy, IsStableBy}
 use Rattle.std.proofs.lemmas.Bool.{false≢true}
 use Rattle.std.proofs.lemmas.Int.{ints}
@@ -14,11 +14,10 @@ use Rattle.readable_log.specs.Grants.{is_of, grants}
 use Rattle.readable_log.specs.Readable.{IsReadable}
 use Rattle.readable_log.specs.Timely.{IsTimely}
 use Rattle.readable_log.specs.declared.grant.SlotGrant.{SlotGrant}
-use Rattle.readable_log.specs.declared.grant.Stay.{Stay}
 use Rattle.readable_log.proofs.Timely.{timely}
 use Rattle.late_cert.specs.Groups.{is_before, is_later, IsReportOf, AreGroups}
 use Rattle.late_cert.specs.Lateness.{own_lateness}
-use Rattle.late_cert.specs.Reports.{is_within, IsChosenFor, IsChosenReport, comes_before, AreAscending, is_covered, AreReports}
+use Rattle.late_cert.specs.Reports.{is_within, last_cut, IsChosenFor, IsChosenReport, comes_before, AreAscending, is_covered, AreReports}
 use Rattle.late_cert.specs.Tests.{is_about, late_by}
 use Rattle.late_cert.specs.declared.report.Report.{Report}
 use Rattle.list_facts.proofs.Members.{all_weaker, all_both, all_map, all_append, all_take, all_drop, all_filter, filter_none, one_of}
@@ -178,8 +177,7 @@ chosen_group log gs r timely it = record {
         (all_both (IsTimely log) (λ g. late_by g ≤ℤ r.worst) gs timely bounded));
     slot = it.to;
     due = it.due;
-    after = ap (λ z. z) it.after ∙ ap (λ (d : ℤ). fold (λ cut (s : Stay). cond (int_lt d s.due) s.slot cut) 0 (map (λ (g : SlotGrant). g.stay) (take it.at gs)))
-        (sym it.due);
+    after = it.after ∙ ap (λ (d : ℤ). last_cut d (map (λ (g : SlotGrant). g.stay) (take it.at gs))) (sym it.due);
   };
   critical = it.critical ∙ sym (filter_map r.after r.to gs);
 }

@@ -1,6 +1,7 @@
 pub mod Exchange
 pub mod Least
 pub mod Sound
+pub mod ClassRows
 pub mod Tables
 pub mod Rooms
 pub mod Worst
@@ -8,6 +9,7 @@ pub mod Order
 pub mod Sorted
 pub mod Grouped
 pub mod Fair
+pub mod Cuts
 pub mod Chosen
 pub mod Legal
 pub mod OneReport

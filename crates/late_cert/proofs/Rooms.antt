@@ -17,7 +17,7 @@ no_row zero at = refl
 no_row (suc n) zero = refl
 no_row (suc n) (suc at) = no_row n at
 
--- a table of so many places without a row
+-- a table of this many cells without a row
 module _ (table : List (Option Worsts)) (n : ℕ) (is : table ≡ replicate n None) where
   none_there : (at : ℕ) → row_at table at ≡ None
   none_there at = ap (λ (l : List (Option Worsts)). row_at l at) is ∙ no_row n at
@@ -34,6 +34,10 @@ module _ (table : List (Option Worsts)) (n : ℕ) (is : table ≡ replicate n No
 -- what a read at a place tells of its row
 row_read : (table : List (Option Worsts)) (at : ℕ) (read : Option Worsts) → at < length table → read ≡ get_or table at read → row_at table at ≡ read
 row_read table at read there is = ap (λ (o : Option (Option Worsts)). unwrap_or o None) (slice_get_read table (length table) at read refl there is)
+
+pub row_in : (servers : ℕ) (table : List (Option Worsts)) (at : ℕ) (read : Option Worsts) → IsTable servers table → at < 4095 → read ≡ get_or table at read
+    → row_at table at ≡ read
+row_in servers table at read is within value = row_read table at read (let long = is.long in omega arith) value
 
 missing : (row : Option Worsts) (test : Bool) → is_some row ≡ not test → test ≡ true → row ≡ None
 missing None test told is = refl
@@ -57,20 +61,25 @@ module _ (servers : ℕ) (table : List (Option Worsts)) (at : ℕ) (read : Optio
   row_found place same full =
       ap (λ (k : ℕ). is_some (row_at table k)) (sym same) ∙ ap is_some (row_read table at read there value) ∙ found read test told full
 
+-- a table stays one with another row of so many servers at a place
+pub table_with : (servers : ℕ) (table : List (Option Worsts)) (at : ℕ) (fresh : Worsts) → at < length table → IsTable servers table
+    → length fresh.servers.items ≡ servers → IsTable servers (set table at (Some fresh))
+table_with servers table at fresh there is long = record {
+  long = length-set table at (Some fresh) ∙ is.long;
+  rows = λ place row stands. go place row (place == at) (sym (got_set table at (Some fresh) None there place) ∙ stands);
+}
+  where
+    go : (place : ℕ) (row : Worsts) (here : Bool) → cond here (Some fresh) (row_at table place) ≡ Some row → length row.servers.items ≡ servers
+    go place row true e = ap (λ (r : Worsts). length r.servers.items) (sym (same_Some fresh row e)) ∙ long
+    go place row false e = is.rows place row e
+
 -- a row is put at a place without one
 module _ (table : List (Option Worsts)) (at : ℕ) (fresh : Worsts) (there : at < length table) (none : row_at table at ≡ None) where
   put_here : (place : ℕ) → row_at (set table at (Some fresh)) place ≡ cond (place == at) (Some fresh) (row_at table place)
   put_here = got_set table at (Some fresh) None there
 
   pub table_kept : (servers : ℕ) → IsTable servers table → length fresh.servers.items ≡ servers → IsTable servers (set table at (Some fresh))
-  table_kept servers is long = record {
-    long = length-set table at (Some fresh) ∙ is.long;
-    rows = λ place row stands. go place row (place == at) (sym (put_here place) ∙ stands);
-  }
-    where
-      go : (place : ℕ) (row : Worsts) (here : Bool) → cond here (Some fresh) (row_at table place) ≡ Some row → length row.servers.items ≡ servers
-      go place row true e = ap (λ (r : Worsts). length r.servers.items) (sym (same_Some fresh row e)) ∙ long
-      go place row false e = is.rows place row e
+  table_kept servers is long = table_with servers table at fresh there is long
 
   pub room_made : (place : ℕ) → at ≡ place → IsTrue (is_some (row_at (set table at (Some fresh)) place))
   room_made place same =

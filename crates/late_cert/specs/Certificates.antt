@@ -8,9 +8,10 @@ use Rattle.late_cert.specs.Reports.{AreReports, IsSoundReport, IsLeast}
 use Rattle.late_cert.specs.declared.report.Report.{Report}
 use Rattle.readable_log.specs.Windows.{window_in}
 
--- the log is legal, so no server serves more than its limit, each request stands in one place, and no free slot faces a
--- request that may take it; of each queue and class that has a grant there is the chosen report, in order; and each report is
--- sound: its worst is the least greatest lateness that any assignment of the same slots has
+-- the log is legal, so no server serves more than its limit, each request is in exactly one place,
+-- and no server has a free slot while a request that may take it waits; the reports are the chosen
+-- ones of each queue and class with a grant, in order; and each report is sound: its worst is the
+-- smallest greatest lateness that any assignment of the same slots has
 pub record IsCertified (history : History) (reports : List Report) : Type 0 where
   pub legal : IsLegal history
   pub dispatched : IsDispatched history

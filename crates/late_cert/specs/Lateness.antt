@@ -1,4 +1,4 @@
--- How late slots are, and how else they could have been given.
+-- The lateness of slots, and the other ways to assign them.
 use Rattle.std.specs.Prelude.{ℕ, ◌<◌, ℤ, pos, ◌-ℤ◌, List, [], ◌∷◌, map}
 use Rattle.std.specs.Int.{int_max}
 use Rattle.std.specs.List.Sorted.{IsPermutation}
@@ -6,11 +6,11 @@ use Rattle.readable_log.specs.Windows.{Window}
 use Rattle.readable_log.specs.Grants.{moment_at}
 use Rattle.readable_log.specs.declared.grant.Stay.{Stay}
 
--- how late a stay is whose slot is the one at a position: the moment there minus its due date
+-- the lateness of a stay that gets the slot at a position: the moment there minus the due date
 abbrev pub lateness : Window → ℕ → Stay → ℤ
 lateness window slot stay = pos (moment_at window.entries slot) -ℤ stay.due
 
--- how late a stay is with the slot that it got
+-- the lateness of a stay with its own slot
 abbrev pub own_lateness : Window → Stay → ℤ
 own_lateness window stay = lateness window stay.slot stay
 
@@ -18,23 +18,23 @@ own_lateness window stay = lateness window stay.slot stay
 abbrev pub own_slots : List Stay → List ℕ
 own_slots stays = map (λ stay. stay.slot) stays
 
--- one slot to each stay, and each after that stay's joining
+-- one slot for each stay, and each after that stay joined
 abbrev pub AreAfterJoining : List Stay → List ℕ → Type 0
 AreAfterJoining [] [] = Unit {0}
 AreAfterJoining (stay ∷ stays) (slot ∷ slots) = (stay.joined < slot) × AreAfterJoining stays slots
 AreAfterJoining stays slots = ⊥
 
--- an assignment of slots to stays: their own slots in any order, one to a stay, each after that stay's joining
+-- an assignment of slots to stays: their own slots in any order, one for each stay, each after that stay joined
 pub record IsAssignment (stays : List Stay) (slots : List ℕ) : Type 0 where
   pub rearranged : IsPermutation (own_slots stays) slots
   pub after_joining : AreAfterJoining stays slots
 
--- how late each stay is with the slot that it is assigned
+-- the lateness of each stay with the slot that it is assigned
 abbrev pub latenesses : Window → List Stay → List ℕ → List ℤ
 latenesses window (stay ∷ stays) (slot ∷ slots) = lateness window slot stay ∷ latenesses window stays slots
 latenesses window stays slots = []
 
--- the greatest of some numbers; 0 of none
+-- the greatest of these numbers; 0 where there are none
 abbrev pub greatest : List ℤ → ℤ
 greatest [] = pos 0
 greatest (number ∷ []) = number

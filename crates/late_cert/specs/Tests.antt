@@ -1,4 +1,4 @@
--- A sound report, by tests of one grant after the other.
+-- A sound report, by tests on one grant after the other.
 use Rattle.std.specs.Prelude.{◌≡◌, ◌<◌, ◌==◌, nat_lt, ◌&&◌, not, Bool, true, ℤ, pos, ◌-ℤ◌, int_lt, List, count_by, map, ◌||◌}
 use Rattle.std.specs.List.{filter, list_all, list_any}
 use Rattle.std.specs.Ordering.{int_eq}
@@ -8,31 +8,31 @@ use Rattle.readable_log.specs.declared.grant.Stay.{Stay}
 use Rattle.late_cert.specs.Reports.{is_within}
 use Rattle.late_cert.specs.declared.report.Report.{Report}
 
--- whether a report is about a grant
+-- a report is about a grant
 abbrev pub is_about : Report → SlotGrant → Bool
 is_about report grant = is_of report.queue report.class grant
 
--- how late a grant's slot is
+-- the lateness of a grant's slot
 abbrev pub late_by : SlotGrant → ℤ
 late_by grant = pos grant.moment -ℤ grant.stay.due
 
--- whether a grant is no later than the worst, where the report is about it
+-- a grant is no later than the worst, where the report is about it
 abbrev pub keeps_worst : Report → SlotGrant → Bool
 keeps_worst report grant = not (is_about report grant && int_lt report.worst (late_by grant))
 
--- whether a grant is the worst one
+-- a grant is the worst one
 abbrev pub is_worst : Report → SlotGrant → Bool
 is_worst report grant = is_about report grant && (grant.stay.slot == report.to) && int_eq grant.stay.due report.due && int_eq (late_by grant) report.worst
 
--- whether a grant's stay is to be listed as critical
+-- a grant's stay belongs on the list of critical stays
 abbrev pub is_listed : Report → SlotGrant → Bool
 is_listed report grant = is_about report grant && is_within report.after report.to grant.stay
 
--- the stays to be listed
+-- the critical stays
 abbrev pub listed_of : Report → List SlotGrant → List Stay
 listed_of report grants = map (λ grant. grant.stay) (filter (is_listed report) grants)
 
--- whether a stay is due no later than the worst one and needs a slot after the cut
+-- a stay is due no later than the worst one, and could use only slots after the cut
 abbrev pub is_urgent : Report → Stay → Bool
 is_urgent report stay = not (int_lt report.due stay.due) && ((report.after == 0) || nat_lt report.after stay.joined)
 

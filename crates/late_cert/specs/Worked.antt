@@ -1,4 +1,4 @@
--- A worked log and reports on it.
+-- Worked examples: a log and reports on it.
 use Rattle.std.specs.Prelude.{ℕ, ℤ, pos, negsuc, List, [], ◌∷◌, None, Some}
 use Rattle.dispatch_log.specs.declared.entry.Arrival.{Arrival}
 use Rattle.dispatch_log.specs.declared.entry.Entry.{Entry}
@@ -36,19 +36,19 @@ report worst after to critical = record { queue = Backend; class = pos 0; grante
 abbrev pub chosen : Report
 chosen = report (pos 19) 0 14 (stay_3 ∷ stay_2 ∷ [])
 
--- not all the stays with slots after the cut are listed
+-- one of the stays with slots after the cut is missing
 abbrev pub one_is_missing : Report
 one_is_missing = report (pos 19) 0 14 (stay_3 ∷ [])
 
--- the one that is listed joined before the cut
+-- the stay in the list joined before the cut
 abbrev pub joined_before_the_cut : Report
 joined_before_the_cut = report (pos 19) 10 14 (stay_2 ∷ [])
 
--- one stay is later
+-- one stay is later than the worst
 abbrev pub worst_is_too_small : Report
 worst_is_too_small = report (pos 18) 0 14 (stay_3 ∷ stay_2 ∷ [])
 
--- the same where tickets 2 and 3 wait since the window before: both stays joined at 0
+-- the same log in a second window, where tickets 2 and 3 wait since the first one: both stays joined at 0
 abbrev pub waited_before : Window
 waited_before = record {
   base = record { ticket = 1; class = pos 0; due = pos 0; queue = None }
@@ -67,7 +67,7 @@ chosen_before = report (pos 19) 0 8 (record { ticket = 3; joined = 0; slot = 4; 
   due = pos 1;
 } ∷ [])
 
--- a report that says that they joined in the window before, where they stood in its entries
+-- a report that says that they joined at positions of the window before
 abbrev pub joined_in_the_window_before : Report
 joined_in_the_window_before = report (pos 19) 0 8
     (record { ticket = 3; joined = 6; slot = 4; due = negsuc 2 } ∷ record { ticket = 2; joined = 4; slot = 8; due = pos 1 } ∷ [])

@@ -7,11 +7,11 @@ ghost use Rattle.late_cert.specs.Tests.{is_about, late_by, keeps_worst, is_worst
 use crate::report::Report;
 use readable_log::{Log, SlotGrant, Stay};
 
-/// Whether a report is sound, whoever made it: it counts the stays of its queue and class, none of
-/// them is later than its worst, one of them is just so late with its slot and due date, and its
-/// critical stays are those with slots after its cut up to there, each due no later and joined
-/// after the cut, where it isn't 0. Then no assignment of the slots has a smaller greatest lateness. Linear in the
-/// log's grants, and takes no memory.
+/// Says whether a report is sound, whoever made it: it counts the stays of its queue and class,
+/// none of them is later than its worst, one of them has exactly that lateness, slot and due date,
+/// and its critical stays are those with slots after its cut up to there, each due no later and,
+/// where the cut isn't 0, joined after the cut. Then no assignment of the slots has a smaller
+/// greatest lateness. Linear in the log's grants; allocates nothing.
 pub fn audit(log: &Log, report: &Report) -> bool
     ensures exact { IsTrue result ↔ IsSoundReport (window_of log.now) report.now }
     ensures least { IsTrue result → IsLeast (window_of log.now) report.now }
@@ -35,7 +35,7 @@ fn passes(grants: &[SlotGrant], report: &Report) -> bool
         && are_urgent(report.critical.as_slice(), report)
 }
 
-/// How many grants the report is about.
+/// Returns the number of grants that the report is about.
 fn count(grants: &[SlotGrant], report: &Report) -> usize
     ensures { result ≡ count_by (is_about report.now) grants.now }
 {
@@ -57,7 +57,7 @@ fn has_worst(grants: &[SlotGrant], report: &Report) -> bool
     grants.iter().any(|grant| is_worst(grant, report))
 }
 
-/// Whether these are the stays that the report has to list.
+/// Says whether these are the stays that the report has to list.
 fn lists(grants: &[SlotGrant], stays: &[Stay], report: &Report) -> bool
     ensures { IsTrue result ↔ (stays.now ≡ listed_of report.now grants.now) }
 {
@@ -102,7 +102,7 @@ fn is_listed(grant: &SlotGrant, report: &Report) -> bool
     is_about(grant, report) && report.after < grant.stay.slot && grant.stay.slot <= report.to
 }
 
-/// By how many milliseconds a grant's slot is late.
+/// Returns the lateness of a grant's slot in milliseconds.
 pub(crate) fn lateness(grant: &SlotGrant) -> i64
     ensures { result ≡ late_by grant.now }
 {

@@ -13,10 +13,10 @@ use due_key::{Class, Due};
 use readable_log::{Log, SlotGrant, Stay};
 use std::alloc::{AllocError, Global};
 
-/// The reports of a log: one for each queue and class that has a grant, the backend's queue first,
-/// then the servers' in order, and in a queue by rising class. Of the latest stays each names the
-/// first, and of the cuts the last one. `O(n log n)` in the log's grants; fails only where memory
-/// is refused.
+/// Makes the reports of a log: one for each queue and class with a grant, the backend's queue
+/// first, then the servers' in order, and in a queue by rising class. Each names the first of the
+/// latest stays, and the last of the cuts. `O(n log n)` in the log's grants; fails only where
+/// memory is refused.
 pub fn certify(alloc: Global, log: &Log) -> Result<Reports, AllocError>
     ensures { IfOk result (AreReports (window_of log.now)) }
 {
@@ -24,7 +24,7 @@ pub fn certify(alloc: Global, log: &Log) -> Result<Reports, AllocError>
     Ok(Reports::from_vec(reports_of(alloc, sorted.as_slice())?))
 }
 
-/// The grants queue by queue and class by class, else in their order.
+/// Sorts the grants by queue and class, and keeps their order within each.
 fn sorted_grants(alloc: Global, grants: &[SlotGrant]) -> Result<Vec<SlotGrant>, AllocError>
     ensures permutation { IfOk result (λ sorted. IsPermutation grants.now sorted.items) }
     ensures sorted { IfOk result (λ sorted. IsSortedBy is_before sorted.items) }
@@ -35,7 +35,7 @@ fn sorted_grants(alloc: Global, grants: &[SlotGrant]) -> Result<Vec<SlotGrant>, 
     Ok(sorted)
 }
 
-/// A report for each group of grants of one queue and class.
+/// Makes a report for each group of grants of one queue and class.
 fn reports_of(alloc: Global, grants: &[SlotGrant]) -> Result<Vec<Report>, AllocError>
     ensures { IfOk result (λ reports. AreGroups grants.now reports.items) }
 {
@@ -49,7 +49,7 @@ fn reports_of(alloc: Global, grants: &[SlotGrant]) -> Result<Vec<Report>, AllocE
     Ok(reports)
 }
 
-/// How many of the grants at the front are from a queue and of a class.
+/// Returns the number of grants at the front that are of this queue and class.
 fn group_len(grants: &[SlotGrant], queue: Queue, class: Class) -> usize
     ensures { result ≡ prefix_len (is_of queue class) grants.now }
 {
@@ -59,7 +59,7 @@ fn group_len(grants: &[SlotGrant], queue: Queue, class: Class) -> usize
         .count()
 }
 
-/// The report on all of some grants.
+/// Makes the report on all of these grants.
 fn report_of(
     alloc: Global,
     queue: Queue,
@@ -90,7 +90,7 @@ fn report_of(
     })
 }
 
-/// Where the first of the latest grants stands.
+/// Returns the position of the first of the latest grants.
 fn first_latest(group: &[SlotGrant]) -> usize
     requires { 0 < length group.now }
     ensures { IsFirstBest is_later group.now (length group.now) result }
@@ -110,17 +110,20 @@ fn is_later(grant: &SlotGrant, other: &SlotGrant) -> bool
     lateness(grant) > lateness(other)
 }
 
-/// The slot of the last grant that is due after a date; 0 where none is.
+/// Returns the slot of the last grant that is due after a date; 0 where none is.
 fn last_cut(earlier: &[SlotGrant], due: Due) -> usize
     ensures { result ≡ last_cut due (map (λ it. it.stay) earlier.now) }
 {
-    earlier.iter().map(|grant| grant.stay).fold(
-        0,
-        |cut, stay| if due < stay.due { stay.slot } else { cut },
-    )
+    let mut last = None;
+    for grant in earlier {
+        if due < grant.stay.due {
+            last = Some(grant.stay.slot);
+        }
+    }
+    last.unwrap_or(0)
 }
 
-/// The stays whose slots lie after the cut, up to the end.
+/// Returns the stays whose slots lie after the cut, up to the end.
 fn critical(
     alloc: Global,
     group: &[SlotGrant],

@@ -1,4 +1,4 @@
-ghost use Rattle.std.specs.Prelude.{◌≡◌, ◌<◌, ◌≤◌, ℤ, IfOk, OnOk, OnErr, IsTrue, None, length, take, drop};
+ghost use Rattle.std.specs.Prelude.{◌≡◌, ◌<◌, ◌≤◌, ℤ, pos, ◌-ℤ◌, IfOk, OnOk, OnErr, IsTrue, None, length, take, drop};
 ghost use Rattle.std.specs.List.{AllByRecursion};
 ghost use Rattle.readable_log.specs.Grants.{grants};
 ghost use Rattle.readable_log.specs.Windows.{window_of};
@@ -7,7 +7,6 @@ ghost use Rattle.due_key.specs.declared.class.TheConstants.{LOWEST_CLASS, HIGHES
 ghost use Rattle.dispatch_log.specs.declared.queue.Queue.{Queue};
 ghost use Rattle.late_cert.specs.Queues.{IsQueueOf};
 ghost use Rattle.late_cert.specs.Running.{worst_with, worst_so_far, has_room, IsWorstAmong, HasRoomFor};
-ghost use Rattle.late_cert.specs.Table.{row_number};
 
 use crate::check::lateness;
 use crate::table::{CLASSES, Running};
@@ -98,9 +97,9 @@ impl Running {
     }
 }
 
-// The number of a class's row.
+// The number of a class's row: how far the class lies above the lowest one.
 fn row_of(class: Class) -> usize
-    ensures number { result ≡ row_number class }
+    ensures number { pos result ≡ class -ℤ LOWEST_CLASS }
     ensures in_range { result < 4095 }
     ensures class { IsBetween LOWEST_CLASS HIGHEST_CLASS class }
 {

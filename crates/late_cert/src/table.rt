@@ -2,16 +2,16 @@ ghost use Rattle.late_cert.specs.Table.{IsTable};
 
 use crate::worsts::Worsts;
 
-/// How many classes there are.
+/// The number of classes.
 pub(crate) const CLASSES: usize = 4095;
 
-/// The greatest lateness so far of the grants from each queue and of each class, kept while they are made: what `certify` says of a whole
-/// log at once. Answers and grants take `O(1)`.
+/// The greatest lateness so far of the grants of each queue and class, kept while the grants are
+/// made: `certify` finds the same in a whole log at once. Questions and grants take `O(1)`.
 #[derive(Drop)]
 pub struct Running {
-    // A row for each class, the lowest one first, where there is room for it.
+    // A row for each class, the lowest class first, where there is room for it.
     pub(crate) table: Vec<Option<Worsts>>,
-    /// Of how many servers there are queues.
+    /// The number of servers, each with a queue.
     pub(crate) servers: usize,
     ghost whole: { IsTable servers table.items },
 }

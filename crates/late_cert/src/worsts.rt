@@ -65,7 +65,7 @@ impl Worsts {
     }
 }
 
-// The greater of a lateness and the worst before it, if there was one.
+// Returns the greater of a lateness and the worst before it, if there was one.
 fn greater(worst: Option<i64>, late: i64) -> i64
     ensures { result ≡ option_map_or (int_max late) worst late }
 {

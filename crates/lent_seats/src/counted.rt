@@ -2,7 +2,7 @@ ghost use Rattle.std.specs.Prelude.{◌≡◌, ◌+◌, ◌≤◌, MatchOption};
 
 use std::sync::ledger::{Blank, Book, Ledger, Share};
 
-/// How many of so many things are out.
+/// A counter that knows how many of a fixed number of things are out.
 #[derive(Drop)]
 pub struct Counted<L: Ledger> {
     book: Book<L>,
@@ -16,7 +16,7 @@ pub struct Counted<L: Ledger> {
     ghost whole: { left + out ≡ most },
 }
 
-/// That one thing is out. It has no `Drop` and takes no bytes: it can only be taken back.
+/// The token of one thing that is out. It has no `Drop` and takes no bytes: it can only be given back.
 pub struct Out<L: Ledger> {
     share: Share<L>,
     ghost one: { share.amount ≡ 1 },
@@ -24,7 +24,7 @@ pub struct Out<L: Ledger> {
 }
 
 impl<L: Ledger> Counted<L> {
-    /// So many things, none of which is out.
+    /// Makes a counter of this number of things, none of which is out.
     pub fn open(blank: Blank, most: usize) -> Counted<L>
         requires name { blank.name ≡ L.name }
         requires parts { blank.parts ≡ L.parts }
@@ -43,7 +43,7 @@ impl<L: Ledger> Counted<L> {
         }
     }
 
-    /// One more is out. None only where all are.
+    /// Hands one thing out; `None` only where all are out.
     pub fn hand_out(&mut self) -> Option<Out<L>>
         ensures out { MatchOption result ((self.old.left ≡ 0) × (self.new.out ≡ self.old.out)) (λ _. self.new.out ≡ self.old.out + 1) }
         ensures most { self.new.most ≡ self.old.most }
@@ -58,7 +58,7 @@ impl<L: Ledger> Counted<L> {
         Some(Out { share })
     }
 
-    /// One that was out is back.
+    /// Takes one thing back.
     pub fn take_back(&mut self, out: Out<L>)
         ensures out { self.new.out + 1 ≡ self.old.out }
         ensures most { self.new.most ≡ self.old.most }

@@ -8,13 +8,13 @@ use pass_seat::{Asked, Held, Idle};
 use std::sync::ledger::Ledger;
 use verdict::{Ending, Verdict};
 
-/// A seat that is lent, without a pass. It has no `Drop`: it is given back.
+/// A seat that is lent, without a pass. It has no `Drop`: it has to be given back.
 pub struct Lent<N: BoardName + Ledger> {
     idle: Idle<N>,
     out: Out<N>,
 }
 
-/// A seat that is lent, with its pass. It has no `Drop`: its pass is posted, and then it is given back.
+/// A seat that is lent, with its pass. It has no `Drop`: its pass has to be posted, and the seat given back.
 pub struct Taken<N: BoardName + Ledger> {
     held: Held<N>,
     out: Out<N>,
@@ -34,7 +34,7 @@ impl<N: BoardName + Ledger> Lent<N> {
         (idle, out)
     }
 
-    /// Takes the pass of the ticket, as `Idle::take`. Else the seat stays lent.
+    /// Takes the pass of the ticket, as `Idle::take` does. Where that fails the seat stays lent.
     pub fn take(self, board: &Board, place: usize, ticket: u64) -> Result<Taken<N>, Lent<N>>
         requires same_board { board.now ≡ N.board }
         requires in_range { place < N.terms.places }
@@ -49,7 +49,7 @@ impl<N: BoardName + Ledger> Lent<N> {
 }
 
 impl<N: BoardName + Ledger> Taken<N> {
-    /// A seat of a lease, and its pass.
+    /// Joins a lent seat and its pass.
     pub fn new(seat: RelaySeat, pass: Pass, out: Out<N>) -> Taken<N>
         requires named { seat.board ≡ N.board }
         requires terms { seat.view.terms ≡ N.terms }
@@ -75,7 +75,7 @@ impl<N: BoardName + Ledger> Taken<N> {
         self.held.verdict()
     }
 
-    /// Spends the pass, as `Held::post`. The seat stays lent.
+    /// Posts the pass, as `Held::post` does. The seat stays lent.
     pub fn post(self, board: &Board, ending: Ending) -> Lent<N>
         requires same_board { board.now ≡ N.board }
         requires may_end { MayEnd self.held.pass.verdict ending }
@@ -88,7 +88,7 @@ impl<N: BoardName + Ledger> Taken<N> {
         }
     }
 
-    /// The seat, its pass, and that the seat is lent.
+    /// Separates the seat, its pass, and the token that the seat is lent.
     pub fn into_parts(self) -> (RelaySeat, Pass, Out<N>)
         ensures seat { result.0 ≡ self.held.seat }
         ensures pass { result.1 ≡ self.held.pass }

@@ -1,4 +1,4 @@
-//! Seats that are lent: those that are idle and those that are held are together those that there are.
+//! Seats that are lent: those that are idle and those that are lent together are all seats.
 #![tactic(auto)]
 
 mod counted;

@@ -6,7 +6,7 @@ use grant_board::BoardName;
 use pass_seat::Idle;
 use std::sync::ledger::{Blank, Ledger};
 
-/// Seats of a board: those that are idle lie here, and those that are lent are out. Together they are those that there are, always.
+/// The seats of a board: the idle ones are here, and the lent ones are out. Together they are always all seats.
 #[derive(Drop)]
 pub struct Seats<N: BoardName + Ledger> {
     idle: Vec<Idle<N>>,
@@ -16,7 +16,7 @@ pub struct Seats<N: BoardName + Ledger> {
 }
 
 impl<N: BoardName + Ledger> Seats<N> {
-    /// These seats are idle, and all that there are.
+    /// Makes the seats of these idle ones, which are all.
     pub fn open(idle: Vec<Idle<N>>, blank: Blank) -> Seats<N>
         requires name { blank.name ≡ N.name }
         requires parts { blank.parts ≡ N.parts }
@@ -32,7 +32,7 @@ impl<N: BoardName + Ledger> Seats<N> {
         }
     }
 
-    /// The seats that are idle: all that there are, where none is lent.
+    /// Returns the idle seats: all of them, where none is lent.
     pub fn end(self) -> Vec<Idle<N>>
         ensures all { vec_len result + self.held.out ≡ self.held.most }
         ensures idle { result ≡ self.idle }
@@ -58,7 +58,7 @@ impl<N: BoardName + Ledger> Seats<N> {
         }
     }
 
-    /// A seat that was lent is back. It takes no memory.
+    /// Takes a lent seat back. Allocates nothing.
     pub fn give_back(&mut self, lent: Lent<N>)
         ensures held { self.new.held.out + 1 ≡ self.old.held.out }
         ensures all { self.new.held.most ≡ self.old.held.most }

@@ -1,5 +1,5 @@
-//! What is said of a faulty line, whatever it belongs to: the line with a mark below its word at fault, and the known word that
-//! is nearest to one that isn't known.
+//! Advice about faulty lines of any format: the line with a mark below its word at fault, and the
+//! known word that is nearest to an unknown one.
 #![tactic(auto)]
 
 mod marking;

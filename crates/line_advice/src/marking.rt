@@ -1,17 +1,17 @@
-//! A line with its number, and a mark below a word of it.
+//! Faulty lines with their numbers, and a mark below a word.
 
 ghost use Rattle.std.specs.Prelude.{◌≤◌, ◌<◌, length, IfSome};
 
 use std::alloc::AllocError;
 
-/// Where a word of a line begins, and where it ends.
+/// The position of a word in its line.
 #[derive(Clone, Copy, Debug, PartialEq, Eq)]
 pub struct Span {
     pub start: usize,
     pub end: usize,
 }
 
-/// Where the word at this place of a line stands, counted from 0; None where the line has none there.
+/// Returns where the word at this place of a line stands, counted from 0; `None` where the line has no such word.
 pub fn span_of(line: &[u8], place: usize) -> Option<Span>
     ensures { IfSome result (λ span. (span.start < span.end) × (span.end ≤ length line.now)) }
 {
@@ -40,8 +40,8 @@ pub fn span_of(line: &[u8], place: usize) -> Option<Span>
     }
 }
 
-/// Writes a line with its number, and below it a mark: below the span, or behind the line where there is none. Bytes that aren't
-/// to be printed are shown as a question mark, and a tab as one blank.
+/// Writes a line with its number, and below it a mark: below the span, or after the line where
+/// there is none. Unprintable bytes are shown as question marks, and a tab as one blank.
 pub fn push_marked_line(
     text: &mut String,
     number: usize,
@@ -63,7 +63,7 @@ pub fn push_marked_line(
     text.push('\n')
 }
 
-/// Writes bytes as they can be shown: those that aren't to be printed as a question mark, and a tab as one blank.
+/// Writes bytes in printable form: unprintable ones as question marks, and a tab as one blank.
 pub fn push_printable(text: &mut String, bytes: &[u8]) -> Result<(), AllocError> {
     for byte in bytes {
         text.push(match *byte {

@@ -1,4 +1,4 @@
-//! The known word that is nearest to one that isn't known.
+//! The known word that is nearest to an unknown one.
 
 ghost use Rattle.std.specs.Prelude.{◌≡◌, ◌≤◌, ◌<◌, ◌*◌, ◌↔◌, IfOk, IfSome, IfNone, ℕ, IsTrue, All, Any, length};
 ghost use Rattle.line_advice.specs.Slips.{IsSlip, edits_between};
@@ -6,11 +6,11 @@ ghost use Rattle.line_advice.specs.Slips.{IsSlip, edits_between};
 use std::alloc::{AllocError, Global};
 use strsim::levenshtein;
 
-/// The most edits that are taken for a slip.
+/// The most edits that count as a slip.
 const MOST_EDITS: usize = 2;
 
-/// A known word of which this one may be a slip, and of those one to which the fewest edits lead; the first of several. None
-/// where it is a slip of no known word.
+/// Returns a known word that this one may be a slip of, with the fewest edits; the first of
+/// several. `None` where it isn't a slip of any known word.
 pub fn nearest(
     alloc: Global,
     word: &str,
@@ -34,7 +34,7 @@ pub fn nearest(
     Ok(found)
 }
 
-// Whether so few edits lead to a word that it may be meant, and fewer than to another one.
+// Says whether a word is near enough to be meant, and nearer than the one before.
 fn is_nearer(edits: usize, fewest: usize, name: &str) -> bool
     ensures { IsTrue result ↔ (edits < fewest × edits * 2 < length name.now) }
 {

@@ -1,4 +1,5 @@
-//! Lines on their way to a file. A thread of its own writes them, so that whoever adds one waits for no disk and for no reader.
+//! Lines on their way to a file. A thread of its own writes them, so that whoever adds a line waits
+//! for no disk and for no reader.
 #![tactic(auto)]
 
 mod pending;

@@ -3,15 +3,15 @@ ghost use Rattle.std.specs.Prelude.{◌≡◌, ◌++◌, true, false, string_byt
 use std::alloc::{AllocError, Global};
 use std::mem;
 
-/// Lines that wait to be written, and what their writer is told besides.
+/// The lines that wait to be written, and the orders to their writer.
 #[derive(Drop)]
 pub struct Pending {
     text: String,
     room: usize,
-    /// So many lines are in the text, and so many the writer has at present.
+    /// The number of lines in the text, and of those that the writer has now.
     waiting: u64,
     at_writer: u64,
-    /// The line of those that weren't written which is in the text, and where it begins there.
+    /// The line that reports lost lines, where the text has one, and its position there.
     tally: Option<Tally>,
     lost: u64,
     fails: bool,
@@ -20,10 +20,10 @@ pub struct Pending {
     is_through: bool,
 }
 
-/// A line that tells how many lines were lost: where it is lost too, so are that many.
+/// A line that reports how many lines were lost: where it is lost itself, that many are lost again.
 #[derive(Clone, Copy, Debug, PartialEq, Eq)]
 pub struct Tally {
-    /// It begins at this byte of a text.
+    /// Its position in the text, in bytes.
     pub at: usize,
     pub lost: u64,
 }
@@ -31,16 +31,16 @@ pub struct Tally {
 /// What a writer does next.
 #[derive(Clone, Copy, Debug, PartialEq, Eq)]
 pub enum Next {
-    /// It opens its file anew.
+    /// It opens its file again.
     Reopens,
-    /// It writes; the line of those that were lost is among it.
+    /// It writes; the text may contain a report of lost lines.
     Writes(Option<Tally>),
-    /// It ends: no more comes.
+    /// It ends: no more lines come.
     Ends,
 }
 
 impl Pending {
-    /// None so far, with room for so many bytes.
+    /// Makes an empty text with room for this number of bytes.
     pub fn with_room(alloc: Global, room: usize) -> Result<Pending, AllocError> {
         Ok(Pending {
             text: String::with_capacity(alloc, room)?,
@@ -56,7 +56,7 @@ impl Pending {
         })
     }
 
-    /// Adds whole lines, so many, where there is room for all of them, and answers whether there is.
+    /// Adds `count` whole lines, where there is room for all of them, and says whether there is.
     pub fn add(&mut self, lines: &str, count: u64) -> bool
         ensures added { result ≡ true → string_bytes self.new.text ≡ string_bytes self.old.text ++ lines.now }
         ensures refused { result ≡ false → string_bytes self.new.text ≡ string_bytes self.old.text }
@@ -71,7 +71,8 @@ impl Pending {
         added
     }
 
-    /// Adds the line that tells of so many that were lost, where there is room for it and none such waits, and answers whether it was added.
+    /// Adds the line that reports `lost` lost lines, where there is room for it and no such line
+    /// waits. Says whether it was added.
     pub fn add_tally(&mut self, line: &str, lost: u64) -> bool
         ensures added { result ≡ true → string_bytes self.new.text ≡ string_bytes self.old.text ++ line.now }
         ensures refused { result ≡ false → string_bytes self.new.text ≡ string_bytes self.old.text }
@@ -87,12 +88,12 @@ impl Pending {
         added
     }
 
-    /// Whether a writer has nothing to do.
+    /// Says whether the writer has nothing to do.
     pub fn rests(&self) -> bool {
         self.text.is_empty() && !self.reopens && !self.is_over
     }
 
-    /// What a writer does next. What it writes is put in place of what the text has.
+    /// Returns what the writer does next. The text that it is to write replaces what `text` holds.
     pub fn next(&mut self, text: &mut String) -> Next {
         if mem::replace(&mut self.reopens, false) {
             return Next::Reopens;
@@ -106,7 +107,8 @@ impl Pending {
         Next::Writes(mem::replace(&mut self.tally, None))
     }
 
-    /// All that the writer had was written but so many lines. True: some were, when this was last noted, and now some weren't.
+    /// Notes that the writer wrote its lines except for `lost` of them. Returns true where this is
+    /// the first loss since a success.
     pub fn note_written(&mut self, lost: u64) -> bool {
         let begins_to_fail = lost != 0 && !self.fails;
         self.lost = self.lost.saturating_add(lost);
@@ -115,17 +117,17 @@ impl Pending {
         begins_to_fail
     }
 
-    /// Whether some lines couldn't be written when that was last tried.
+    /// Says whether the last write lost lines.
     pub fn is_failing(&self) -> bool {
         self.fails
     }
 
-    /// How many couldn't, since it was last asked.
+    /// Returns how many lines were lost since the last call.
     pub fn take_lost(&mut self) -> u64 {
         mem::replace(&mut self.lost, 0)
     }
 
-    /// How many weren't written so far.
+    /// Returns how many lines aren't written yet.
     pub fn unwritten(&self) -> u64 {
         let told = match self.tally {
             None => 0,
@@ -135,28 +137,28 @@ impl Pending {
         held.saturating_add(told).saturating_add(self.lost)
     }
 
-    /// The file is to be opened anew.
+    /// Orders the writer to open the file again.
     pub fn reopen(&mut self) {
         self.reopens = true;
     }
 
-    /// No more lines come.
+    /// Notes that no more lines come.
     pub fn end(&mut self) {
         self.is_over = true;
     }
 
-    /// The writer has ended.
+    /// Notes that the writer has ended.
     pub fn note_through(&mut self) {
         self.is_through = true;
     }
 
-    /// Whether the writer still works.
+    /// Says whether the writer still works.
     pub fn is_writing(&self) -> bool {
         !self.is_through
     }
 }
 
-/// How many lines of a text weren't written of which so many bytes were kept, all of them whole lines.
+/// Returns how many lines of a text were lost, of which `kept` bytes, whole lines, were written.
 pub(crate) fn lost_of(lines: &str, kept: usize, tally: Option<Tally>) -> u64 {
     let rest = match lines.as_bytes().get(kept..) {
         Some(rest) => rest.iter().filter(|byte| **byte == b'\n').count() as u64,

@@ -6,24 +6,25 @@ use std::rt::Files;
 use std::sync::{Condvar, CondvarTimeouts, Mutex, Wait};
 use std::time::{Clock, Duration};
 
-/// So many bytes wait to be written, at most.
+/// The most bytes that wait to be written.
 const ROOM: usize = 1 << 20;
 
-/// So long the last lines are waited for, in milliseconds.
+/// The longest wait for the last lines at the end, in milliseconds.
 const PATIENCE: u64 = 2000;
 
-/// Between who adds lines and the thread that writes them. That thread has the lock while it takes them, and never while it writes.
+/// The meeting point of the threads that add lines and the one that writes them. The writer has the
+/// lock while it takes them, and never while it writes.
 #[derive(Drop)]
 pub struct Sink {
     pending: Mutex<Pending>,
     bell: Condvar,
-    /// Told where the writer ends.
+    /// Signals that the writer has ended.
     through: Condvar,
     is_file: bool,
 }
 
 impl Sink {
-    /// Without a line, for one that goes this way. It takes the memory for all that may wait.
+    /// Makes an empty sink for this way. It allocates the memory for all lines that may wait.
     pub fn new(alloc: Global, way: &Way) -> Result<Sink, AllocError> {
         Ok(Sink {
             pending: Mutex::new(Pending::with_room(alloc, ROOM)?),
@@ -33,31 +34,33 @@ impl Sink {
         })
     }
 
-    /// Adds whole lines, so many; false where there is no room for them.
+    /// Adds `count` whole lines. False where there is no room for them.
     pub fn add<R: Wait>(&self, rt: &R, lines: &str, count: u64) -> bool {
         let added = self.pending.lock(rt).add(lines, count);
         self.bell.notify_all();
         added
     }
 
-    /// Adds the line that tells of so many that were lost. Where it is lost itself, they are counted as lost again. False: there is no room for it, or one waits.
+    /// Adds the line that reports lost lines. Where it is lost itself, they count as lost again.
+    /// False where there is no room for it, or one waits.
     pub fn add_tally<R: Wait>(&self, rt: &R, line: &str, lost: u64) -> bool {
         let added = self.pending.lock(rt).add_tally(line, lost);
         self.bell.notify_all();
         added
     }
 
-    /// How many lines couldn't be written since it was last asked.
+    /// Returns how many lines couldn't be written since the last call.
     pub fn take_lost<R: Wait>(&self, rt: &R) -> u64 {
         self.pending.lock(rt).take_lost()
     }
 
-    /// Whether some lines couldn't be written when that was last tried.
+    /// Says whether the last write lost lines.
     pub fn is_failing<R: Wait>(&self, rt: &R) -> bool {
         self.pending.lock(rt).is_failing()
     }
 
-    /// Has the file opened anew by its name, before what waits is written. False: the lines don't go to a file.
+    /// Has the file opened again by its name, before the waiting lines are written. False where the
+    /// lines don't go to a file.
     pub fn reopen<R: Wait>(&self, rt: &R) -> bool {
         if !self.is_file {
             return false;
@@ -67,8 +70,9 @@ impl Sink {
         true
     }
 
-    /// No more lines come. Returns once all are written, and after two seconds at most: a reader that hangs holds nobody up. Answers how many lines weren't
-    /// written then, and weren't told of.
+    /// Notes that no more lines come. Returns once all are written, or after two seconds: a reader
+    /// that hangs holds nobody up. Returns how many lines weren't written and weren't reported as
+    /// lost.
     pub fn end<R: Wait + Clock>(&self, rt: &R) -> u64 {
         let mut pending = self.pending.lock(rt);
         pending.end();
@@ -87,12 +91,13 @@ impl Sink {
         pending.next(text)
     }
 
-    /// The room in which a writer has what it writes.
+    /// Allocates the buffer of a writer.
     pub fn room(alloc: Global) -> Result<String, AllocError> {
         String::with_capacity(alloc, ROOM)
     }
 
-    /// Writes all lines, until no more come. The thread that calls it may wait for a disk or a reader as long as those like.
+    /// Writes all lines, until no more come. The calling thread waits for a disk or a reader as
+    /// long as these take.
     pub fn write_to<H: Files + Print + Eprint, R: Wait>(
         &self,
         host: &H,
@@ -133,13 +138,13 @@ impl Sink {
     }
 }
 
-// Lines begin to be lost: that is said once, until some are written again.
+// Reports that lines are being lost: once, until some are written again.
 fn say_failing<H: Eprint>(host: &H, path: &str) {
     let name = if path.is_empty() { "the log" } else { path };
     let _ = eprintln!(host; "{name}: lines can't be written, and are counted");
 }
 
-// A file that couldn't be opened anew is named, with what the system said.
+// Reports a file that couldn't be opened again, with the system's message.
 fn say_unopened<H: Eprint>(host: &H, path: &str, reopened: io::Result<()>) {
     if let Err(error) = reopened {
         let _ = eprintln!(host;

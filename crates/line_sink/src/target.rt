@@ -1,4 +1,4 @@
-//! Where lines go.
+//! The targets of lines.
 
 ghost use Rattle.std.specs.Prelude.{◌≤◌, length};
 
@@ -8,13 +8,13 @@ use std::os::unix::fs::FileTypeExt;
 use std::rt::Files;
 use std::{fs, io};
 
-/// So many writes are made for what is written at once, at most.
+/// The most writes for one text.
 const MOST_WRITES: u32 = 1 << 20;
 
-/// So many bytes a pipe takes as a whole or not at all.
+/// The number of bytes that a pipe takes as a whole or not at all.
 const PIECE: usize = 4096;
 
-/// Where lines go: a file of this name, to which they are added, or a standard stream.
+/// The way of lines: to a file with this name, at whose end they are added, or to a standard stream.
 #[derive(Debug, Drop)]
 pub enum Way {
     File(String),
@@ -22,7 +22,7 @@ pub enum Way {
     Errors,
 }
 
-/// What lines are written to.
+/// The open target of lines.
 #[derive(Drop)]
 pub(crate) enum Target<R: Files> {
     File(Appended<R>),
@@ -34,14 +34,14 @@ pub(crate) enum Target<R: Files> {
 #[derive(Drop)]
 pub(crate) struct Appended<R: Files> {
     path: String,
-    /// None: it couldn't be opened.
+    /// `None` where it couldn't be opened.
     file: Option<R::File>,
-    /// It ends amid a line.
+    /// Its last line isn't complete.
     torn: bool,
 }
 
 impl Way {
-    /// What the file is called; nothing, where it is none.
+    /// Returns the file's name; an empty one for a standard stream.
     pub fn name(&self) -> &str {
         match self {
             Way::File(path) => path.as_str(),
@@ -49,7 +49,7 @@ impl Way {
         }
     }
 
-    /// Whether a file can be opened, which is made where there is none.
+    /// Checks that a file can be opened; it is created where it doesn't exist.
     pub fn look<R: Files>(&self, rt: &R) -> io::Result<()> {
         if let Way::File(path) = self {
             let _file = open(rt, path.as_str())?;
@@ -71,7 +71,7 @@ impl<R: Files> Target<R> {
         }
     }
 
-    /// Opens a file anew by its name. Where that fails the old one goes on.
+    /// Opens a file again by its name. Where that fails the old one stays in use.
     pub(crate) fn reopen(&mut self, rt: &R) -> io::Result<()> {
         if let Target::File(appended) = self {
             let file = open(rt, appended.path.as_str())?;
@@ -81,7 +81,7 @@ impl<R: Files> Target<R> {
         Ok(())
     }
 
-    /// What a file is called; nothing, where it is none.
+    /// Returns the file's name; an empty one for a standard stream.
     pub(crate) fn name(&self) -> &str {
         match self {
             Target::File(appended) => appended.path.as_str(),
@@ -91,7 +91,7 @@ impl<R: Files> Target<R> {
 }
 
 impl<R: Files + Print + Eprint> Target<R> {
-    /// Writes whole lines, and answers how many bytes of them stand there now, those of whole lines.
+    /// Writes whole lines, and returns how many bytes of whole lines were written.
     pub(crate) fn write(&mut self, rt: &R, lines: &str) -> usize {
         match self {
             Target::File(appended) => appended.write(lines.as_bytes()),
@@ -102,7 +102,7 @@ impl<R: Files + Print + Eprint> Target<R> {
 }
 
 impl<R: Files> Appended<R> {
-    // A line of which a part was written is cut back, or else ended before the next one.
+    // A line that was written in part is cut off again, or else ended before the next one.
     fn write(&mut self, lines: &[u8]) -> usize {
         if self.torn {
             if self.put(b"\n") == 0 {
@@ -121,7 +121,7 @@ impl<R: Files> Appended<R> {
         whole
     }
 
-    // Writes as much as the file takes, and answers how much that was.
+    // Writes as much as the file takes, and returns how many bytes that was.
     fn put(&mut self, bytes: &[u8]) -> usize
         ensures { result ≤ length bytes.now }
     {
@@ -143,7 +143,7 @@ impl<R: Files> Appended<R> {
         written.min(bytes.len())
     }
 
-    // Takes so many bytes off the end of a file; false where it is none that has an end.
+    // Cuts this number of bytes off the end of a file. False where it isn't a regular file.
     fn cut_back(&mut self, count: usize) -> bool {
         let Some(file) = &self.file else {
             return false;
@@ -159,7 +159,8 @@ impl<R: Files> Appended<R> {
     }
 }
 
-// A reader of a pipe is looked for only once something is written: who opens it for reading, too, waits for none.
+// Opening a pipe for writing waits for a reader; opening it for reading too doesn't. So the pipe is
+// opened for both.
 fn open<R: Files>(rt: &R, path: &str) -> io::Result<R::File> {
     let is_pipe = match fs::metadata(rt, path) {
         Ok(metadata) => metadata.file_type().is_fifo(),
@@ -170,7 +171,7 @@ fn open<R: Files>(rt: &R, path: &str) -> io::Result<R::File> {
     options.open(rt, path)
 }
 
-// Whether the last byte of a file ends no line: whoever wrote it before may have been cut off.
+// Says whether the last byte of a file isn't a line's end: an earlier writer may have been cut off.
 fn ends_amid_a_line<R: Files>(rt: &R, path: &str) -> bool {
     match last_byte(rt, path) {
         Ok(Some(last)) => last != b'\n',
@@ -178,7 +179,7 @@ fn ends_amid_a_line<R: Files>(rt: &R, path: &str) -> bool {
     }
 }
 
-// The last byte of a file. None: it is empty, or no file that has an end.
+// Returns the last byte of a file; `None` where it is empty, or isn't a regular file.
 fn last_byte<R: Files>(rt: &R, path: &str) -> io::Result<Option<u8>> {
     let metadata = fs::metadata(rt, path)?;
     if !metadata.is_file() || metadata.len() == 0 {
@@ -194,7 +195,7 @@ fn last_byte<R: Files>(rt: &R, path: &str) -> io::Result<Option<u8>> {
     }
 }
 
-// Prints lines piece by piece, and answers how many bytes of them were printed.
+// Prints lines piece by piece, and returns how many bytes were printed.
 fn print_lines<R: Print>(rt: &R, lines: &str) -> usize {
     let mut printed = 0;
     for _ in 0..MOST_WRITES {
@@ -207,7 +208,7 @@ fn print_lines<R: Print>(rt: &R, lines: &str) -> usize {
     printed
 }
 
-// The same on standard error.
+// The same for standard error.
 fn eprint_lines<R: Eprint>(rt: &R, lines: &str) -> usize {
     let mut printed = 0;
     for _ in 0..MOST_WRITES {
@@ -220,7 +221,8 @@ fn eprint_lines<R: Eprint>(rt: &R, lines: &str) -> usize {
     printed
 }
 
-// As many whole lines from there on as a pipe takes at once, so that none is torn where its reader hangs; or one line that is longer.
+// Returns as many whole lines as a pipe takes at once, so that none is torn where its reader hangs;
+// or one line that is longer.
 fn piece_from(lines: &str, from: usize) -> &str {
     let Some(rest) = lines.get(from..) else {
         return "";
@@ -240,7 +242,7 @@ fn piece_from(lines: &str, from: usize) -> &str {
     rest.get(..length).unwrap_or(rest)
 }
 
-// How many bytes the first line has.
+// Returns the number of bytes of the first line.
 fn first_line(bytes: &[u8]) -> usize {
     match bytes.iter().position(|byte| *byte == b'\n') {
         Some(last) => last.saturating_add(1),
@@ -248,7 +250,7 @@ fn first_line(bytes: &[u8]) -> usize {
     }
 }
 
-// How many of these bytes are those of whole lines.
+// Returns how many of these bytes belong to whole lines.
 fn whole_lines(bytes: &[u8]) -> usize
     ensures { result ≤ length bytes.now }
 {

@@ -4,7 +4,7 @@ use Rattle.std.proofs.Math.ListN.{set}
 use Rattle.std.proofs.lemmas.Option.{same_Some}
 
 module _ {X : Type 0} (f : X → X) where
-  -- so many of the first items are mapped
+  -- the first items, this many, are mapped
   abbrev pub mapped_front : ℕ → List X → List X
   mapped_front zero l = l
   mapped_front (suc n) [] = []

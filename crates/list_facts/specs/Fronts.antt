@@ -1,4 +1,4 @@
--- Lists of which one is a front of the other.
+-- Two lists, one of which is a front of the other.
 use Rattle.std.specs.Prelude.{◌≡◌, ◌⊎◌, List, ◌++◌}
 
 pub record IsFront {A : Type 0} (front all : List A) : Type 0 where

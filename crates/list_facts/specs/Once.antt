@@ -1,4 +1,4 @@
--- Lists in which no item comes twice.
+-- Lists in which no item stands twice.
 use Rattle.std.specs.Prelude.{List, [], ◌∷◌, Contains}
 
 abbrev pub ComeOnce : {X : Type 0} → List X → Type 0

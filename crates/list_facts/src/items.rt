@@ -3,10 +3,10 @@ ghost use Rattle.std.specs.Prelude.{◌≡◌, ◌==◌, ◌∷◌, [], ◌++◌
 use std::alloc::{AllocError, Global};
 use std::marker::Model;
 
-/// A list that grows at its end. It is made of a `Vec`, and gives it back, without taking memory.
+/// A list that grows at its end. It is made from a `Vec` and turned back into one without allocating.
 #[derive(Debug, Drop)]
 pub struct Items<T> {
-    /// Here an item can be changed in its place.
+    /// The items, which can be changed in place here.
     pub items: Vec<T>,
 }
 
@@ -56,7 +56,7 @@ impl<T> Items<T> {
 }
 
 impl<T: Drop> Items<T> {
-    /// Where memory is refused the list stays as it is.
+    /// Appends an item. Where memory is refused the list doesn't change.
     pub fn push(&mut self, item: T) -> Result<(), AllocError>
         ensures ok { OnOk result (self.new ≡ self.old ++ item ∷ []) }
         ensures err { OnErr result (self.new ≡ self.old) }

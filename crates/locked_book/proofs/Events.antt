@@ -1,6 +1,6 @@
 -- Events that a book makes: what they owe, and that it is paid.
 use Rattle.std.proofs.Common.{◌≡◌, ◌+◌, ◌<◌, ℕ, zero, suc, ◌==◌, max, cond, replicate, Bool, true, false, List, []}
-use Rattle.std.proofs.Common.{◌∷◌, ◌++◌, All, Option, None, Some, map, drop, length, refl, ap, sym, ◌∙◌, subst, arith}
+use Rattle.std.proofs.Common.{◌∷◌, ◌++◌, All, IsTrue, Option, None, Some, map, drop, length, refl, ap, sym, ◌∙◌, subst, arith}
 use Rattle.std.specs.List.{cons_option}
 use Rattle.std.proofs.lemmas.List.{append_assoc, append-nil}
 use Rattle.std.proofs.Math.Seq.{drop-append_seam}
@@ -24,7 +24,11 @@ use Rattle.outstanding.specs.Outstanding.{outstanding_from, place_in, grants_of}
 use Rattle.outstanding.specs.Verdicts.{verdict_in, verdicts, ending_in}
 use Rattle.outstanding.proofs.Owing.{owes, paid, owes_rest, offered, state_on}
 use Rattle.outstanding.proofs.Turning.{back}
+use Rattle.dispatch_core.specs.declared.event.Event.{Event}
+use Rattle.dispatch_core.specs.declared.event.Event.TheVariants as events
+use Rattle.dispatch_core.specs.Occurrences.{entry_of}
 use Rattle.locked_book.specs.Books.{IsKeptBook}
+use Rattle.locked_book.specs.Ends as ends
 use Rattle.atomic_table.specs.Seated.{TableId}
 use Rattle.std.proofs.lemmas.Option.{slice_get_within}
 use Rattle.dispatch_log.specs.declared.entry.Arrival.{Arrival}
@@ -75,6 +79,15 @@ is_plain (Abort moment ticket) = true
 is_plain (Tick moment) = true
 is_plain (Check moment server ok) = true
 is_plain entry = false
+
+-- what such an event of a dispatcher becomes is one
+pub plain_entry : (h : History) (event : Event) → IsTrue (ends.is_plain event) → is_plain (entry_of h event) ≡ true
+plain_entry h (events.Done moment ticket) plain = false_true plain
+plain_entry h (events.Fail moment ticket) plain = false_true plain
+plain_entry h (events.Abort moment ticket) plain = refl
+plain_entry h (events.Tick moment) plain = refl
+plain_entry h (events.Check moment server answered) plain = refl
+plain_entry h (events.Limit moment server limit) plain = false_true plain
 
 pub sets_none : (h new : History) (e : Entry) (adds : AddsEvent h new e) → (after h.setup (state_of h) e).limits ≡ (state_of h).limits
     → (state_of new).limits ≡ (state_of h).limits

@@ -1,16 +1,25 @@
--- Returns that become events.
-use Rattle.std.specs.Prelude.{◌≡◌, ℕ, Option, None}
+-- Returns that become events, and the events that come otherwise.
+use Rattle.std.specs.Prelude.{◌≡◌, ℕ, Bool, true, false, Option, None}
 use Rattle.verdict.specs.declared.Ending.{Ending}
 use Rattle.verdict.specs.declared.Ending.TheVariants.{Done, Failed}
 use Rattle.grant_board.specs.declared.returned.Return.{Return}
 use Rattle.dispatch_log.specs.declared.refusal.Refusal.{Refusal}
 use Rattle.dispatch_log.specs.Histories.{History, refuses_done, refuses_failure}
+use Rattle.dispatch_core.specs.declared.event.Event.{Event}
+use Rattle.dispatch_core.specs.declared.event.Event.TheVariants as events
 
--- what refuses the event of a return
+-- why the event of a return is refused, if it is
 abbrev pub refuses_end : History → Ending → ℕ → Option Refusal
 refuses_end history Done ticket = refuses_done history ticket
 refuses_end history Failed ticket = refuses_failure history ticket
 
--- nothing does
+-- nothing refuses it
 abbrev pub IsAcceptable : History → Return → Type 0
 IsAcceptable history back = refuses_end history back.ending back.ticket ≡ None
+
+-- an event that ends no request and sets no limit
+abbrev pub is_plain : Event → Bool
+is_plain (events.Abort moment ticket) = true
+is_plain (events.Tick moment) = true
+is_plain (events.Check moment server answered) = true
+is_plain event = false

@@ -7,7 +7,8 @@ ghost use Rattle.dispatch_log.specs.Scenes.{is_up};
 ghost use Rattle.list_facts.specs.Weights.{AreIn};
 ghost use Rattle.outstanding.specs.Outstanding.{outstanding};
 ghost use Rattle.outstanding.specs.Turns.{VisitsFrom, VisitsSome, Walks, Turns};
-ghost use Rattle.locked_book.specs.Ends.{IsAcceptable};
+ghost use Rattle.dispatch_core.specs.Occurrences.{refuses, entry_of};
+ghost use Rattle.locked_book.specs.Ends.{is_plain, IsAcceptable};
 ghost use Rattle.dispatch_log.specs.Histories.{first_window, next_window, state_of, effective, refuses_arrival, refuses_abort, refuses_tick, refuses_check, refuses_limit, SomeExpires, RefusedOrNoMemory};
 ghost use Rattle.dispatch_log.specs.Legal.{AddsEvent, IsLegal};
 ghost use Rattle.dispatch_trace.specs.Histories.{scene_of, HasEntryRoom};
@@ -23,7 +24,7 @@ ghost use Rattle.outstanding.specs.Calls.{event_of, CarriesOut, TakesBack, SetsB
 use crate::keeping::Keeping;
 use crate::offering::offer_from;
 use anteroom::remaining;
-use dispatch_core::Core;
+use dispatch_core::{Core, Event};
 use dispatch_log::{Entry, Intake, Queue, Refusal};
 use dispatch_trace::Ticketed;
 use due_key::{Class, Due, Key, Moment, Offset};
@@ -36,9 +37,10 @@ use std::alloc::{AllocError, Global};
 use std::marker::{Model, PhantomData};
 use verdict::Ending;
 
-/// A dispatcher beside the keeper's seat of the board that N names. Each call makes the dispatcher's event and then offers the verdicts that
-/// followed, so that between calls what is out at the board is what is outstanding of the log. The places of the offers that a call
-/// made are added to the caller's set, for whoever waits there.
+/// A dispatcher beside the keeper's seat of the board that N names. Each call makes the
+/// dispatcher's event and then offers the verdicts that followed, so that between calls the
+/// verdicts that are out at the board are those that are outstanding in the log. The places of a
+/// call's offers are added to the caller's set, so that it can wake whoever waits there.
 #[derive(Drop)]
 pub struct Book<Q: PendQueue<Key, usize>, N: BoardName> {
     core: ReportingCore<Q>,
@@ -57,7 +59,7 @@ impl<Q: PendQueue<Key, usize>, N: BoardName> Model for Book<Q, N> {
     ghost invariant = { λ book. IsKeptBook N.board N.terms book.core book.keeping };
 }
 
-/// What an arrival asks for: its class and offset, and the server that it is bound to.
+/// The wish of an arrival: its class and offset, and the server that it is pinned to.
 #[derive(Clone, Copy, Debug)]
 pub struct Wanted {
     pub class: Class,
@@ -65,7 +67,8 @@ pub struct Wanted {
     pub pin: Option<usize>,
 }
 
-/// What an arrival asks for that waited elsewhere before: its class, when it is due, and the server that it is bound to.
+/// The wish of an arrival that waited elsewhere before: its class, its due date, and the server
+/// that it is pinned to.
 #[derive(Clone, Copy, Debug)]
 pub struct Deferred {
     pub class: Class,
@@ -74,8 +77,9 @@ pub struct Deferred {
 }
 
 impl<Q: PendQueue<Key, usize>, N: BoardName> Book<Q, N> {
-    /// A book of a dispatcher and a keeper's seat that have done nothing, where the board was opened for the dispatcher's places and limits, and a
-    /// running worst for the dispatcher's servers that was told nothing.
+    /// Makes a book of a fresh dispatcher and a fresh keeper's seat, where the board was opened for
+    /// the dispatcher's places and limits, and of an empty running worst for the dispatcher's
+    /// servers.
     pub fn new(core: Core<Q>, seat: KeeperSeat, running: Running) -> Book<Q, N>
         requires first { core ≡ first_window core.setup [] }
         requires board { seat.board ≡ N.board }
@@ -92,7 +96,7 @@ impl<Q: PendQueue<Key, usize>, N: BoardName> Book<Q, N> {
         }
     }
 
-    /// A request arrives. Refused as the dispatcher's `arrive`.
+    /// A request arrives. Refused as the dispatcher's `arrive` is.
     pub fn arrive(
         &mut self,
         alloc: Global,
@@ -116,7 +120,8 @@ impl<Q: PendQueue<Key, usize>, N: BoardName> Book<Q, N> {
         Ok(it)
     }
 
-    /// A request that waited elsewhere arrives: its due date stays, or is the earliest that an arrival at this moment may have. Refused as `arrive`.
+    /// A request that waited elsewhere arrives: it keeps its due date, or gets the earliest one
+    /// that an arrival at this moment may have. Refused as `arrive` is.
     pub fn arrive_due(
         &mut self,
         alloc: Global,
@@ -141,7 +146,7 @@ impl<Q: PendQueue<Key, usize>, N: BoardName> Book<Q, N> {
         self.arrive(alloc, board, moment, wanted, woken)
     }
 
-    /// A request that waits is given up. Refused as the dispatcher's `abort`.
+    /// A request that waits is given up. Refused as the dispatcher's `abort` is.
     pub fn abort(
         &mut self,
         board: &Board,
@@ -155,13 +160,10 @@ impl<Q: PendQueue<Key, usize>, N: BoardName> Book<Q, N> {
         ensures carried { OnOk result (CarriesOut self.old self.new woken.old woken.new) }
         ensures unchanged { OnErr result ((self.new ≡ self.old) × (woken.new ≡ woken.old)) }
     {
-        let from = self.core.log().len();
-        self.core.abort(moment, ticket)?;
-        offer_from(&self.core, &mut self.keeping, board, from, woken);
-        Ok(())
+        self.apply(board, Event::Abort { moment, ticket }, woken)
     }
 
-    /// Each request that has waited as long as it may is told so. Refused as the dispatcher's `tick`.
+    /// Each request that has waited as long as it may is told so. Refused as the dispatcher's `tick` is.
     pub fn tick(
         &mut self,
         board: &Board,
@@ -174,13 +176,10 @@ impl<Q: PendQueue<Key, usize>, N: BoardName> Book<Q, N> {
         ensures carried { OnOk result (CarriesOut self.old self.new woken.old woken.new) }
         ensures unchanged { OnErr result ((self.new ≡ self.old) × (woken.new ≡ woken.old)) }
     {
-        let from = self.core.log().len();
-        self.core.tick(moment)?;
-        offer_from(&self.core, &mut self.keeping, board, from, woken);
-        Ok(())
+        self.apply(board, Event::Tick { moment }, woken)
     }
 
-    /// A check of a server ended. Refused as the dispatcher's `check`.
+    /// A check of a server ended. Refused as the dispatcher's `check` is.
     pub fn check(
         &mut self,
         board: &Board,
@@ -195,14 +194,32 @@ impl<Q: PendQueue<Key, usize>, N: BoardName> Book<Q, N> {
         ensures carried { OnOk result (CarriesOut self.old self.new woken.old woken.new) }
         ensures unchanged { OnErr result ((self.new ≡ self.old) × (woken.new ≡ woken.old)) }
     {
+        let checked = Event::Check {
+            moment,
+            server,
+            answered: ok,
+        };
+        self.apply(board, checked, woken)
+    }
+
+    // An event that ends no request and sets no limit.
+    fn apply(&mut self, board: &Board, event: Event, woken: &mut PlaceSet) -> Result<(), Refusal>
+        requires board { board.now ≡ N.board }
+        requires plain { IsTrue (is_plain event) }
+        ensures ok { OnOk result (AddsEvent self.old.history self.new.history (entry_of self.old.history event)) }
+        ensures err { IfErr result (λ refusal. refuses self.old.history event ≡ Some refusal) }
+        ensures carried { OnOk result (CarriesOut self.old self.new woken.old woken.new) }
+        ensures unchanged { OnErr result ((self.new ≡ self.old) × (woken.new ≡ woken.old)) }
+    {
         let from = self.core.log().len();
-        self.core.check(moment, server, ok)?;
+        self.core.apply(event)?;
         offer_from(&self.core, &mut self.keeping, board, from, woken);
         Ok(())
     }
 
-    /// What came back from a place becomes the dispatcher's event. `None` where nothing is posted there. Refused where the log is full,
-    /// which is asked first: the return then stays on the board.
+    /// Collects what was posted at a place, which becomes the dispatcher's event. `None` where
+    /// nothing is posted there. Refused where the log is full, which is asked first: the return
+    /// then stays on the board.
     pub fn collect_at(
         &mut self,
         board: &Board,
@@ -244,8 +261,8 @@ impl<Q: PendQueue<Key, usize>, N: BoardName> Book<Q, N> {
         Some(back)
     }
 
-    /// A server's limit is set: the event, then the server's mark at the board, then the offers. No request that is out is called back. Refused as
-    /// the dispatcher's `limit`.
+    /// Sets a server's limit: the event, then the server's mark at the board, then the offers. No
+    /// request that is out is called back. Refused as the dispatcher's `limit` is.
     pub fn limit(
         &mut self,
         board: &Board,
@@ -261,7 +278,7 @@ impl<Q: PendQueue<Key, usize>, N: BoardName> Book<Q, N> {
         ensures unchanged { OnErr result ((self.new ≡ self.old) × (woken.new ≡ woken.old)) }
     {
         let from = self.core.log().len();
-        // No more are served than there are places.
+        // No more requests are served than there are places.
         let served = self.core.served(server).min(self.core.places());
         self.core.limit(moment, server, limit)?;
         self.keeping.limit(board, server, mark_by(limit, served));
@@ -269,21 +286,23 @@ impl<Q: PendQueue<Key, usize>, N: BoardName> Book<Q, N> {
         Ok(())
     }
 
-    /// The reports of the present window. `O(n log n)` in its grants; fails only where memory is refused.
+    /// Returns the reports of the present window. `O(n log n)` in its grants; fails only where memory is refused.
     pub fn report(&self, alloc: Global) -> Result<Reports, AllocError>
         ensures { IfOk result (IsCertified self.now.history) }
     {
         self.core.report(alloc)
     }
 
-    /// A line for each server in file order, of the present window. `O(s n)` in the servers and entries; fails only where memory is refused.
+    /// Returns a line for each server in file order, of the present window. `O(s n)` in the servers
+    /// and entries; fails only where memory is refused.
     pub fn servers(&self, alloc: Global) -> Result<Vec<ServerLine>, AllocError>
         ensures { IfOk result (λ lines. AreLines self.now.history lines.items) }
     {
         self.core.servers(alloc)
     }
 
-    /// The entries of the present window after the first so many. `O(1)` for each; fails only where memory is refused.
+    /// Returns the entries of the present window after the first `count`. `O(1)` for each; fails
+    /// only where memory is refused.
     pub fn entries_after(&self, alloc: Global, count: usize) -> Result<Vec<Entry>, AllocError>
         ensures { IfOk result (λ entries. entries.items ≡ drop count self.now.history.log) }
     {
@@ -292,23 +311,24 @@ impl<Q: PendQueue<Key, usize>, N: BoardName> Book<Q, N> {
         Vec::from_slice(alloc, &entries[count..])
     }
 
-    /// The entries of the present window.
+    /// Returns the entries of the present window.
     pub fn entries(&self) -> &[Entry]
         ensures { result.now ≡ self.now.history.log }
     {
         self.core.log().entries()
     }
 
-    /// The greatest lateness of a queue and class in the present window, in milliseconds; `None` only where none of them was granted a slot.
-    /// `O(1)`, no memory.
+    /// Returns the greatest lateness of a queue and class in the present window, in milliseconds;
+    /// `None` only where none of its requests was granted a slot. `O(1)`, without allocating.
     pub fn worst(&self, queue: Queue, class: Class) -> Option<i64>
         ensures { IsWorstIn (window_in self.now.history) queue class result }
     {
         self.core.worst(queue, class)
     }
 
-    /// Begins the next window where the log has no room for an event, and hands out what is told of the one that ended; `None` where it has
-    /// room. Where memory is refused nothing changes, and the board never does.
+    /// Begins the next window where the log has no room for an event, and returns what is told of
+    /// the one that ended; `None` where it has room. Where memory is refused nothing changes, and
+    /// the board never does.
     pub fn make_room(&mut self, alloc: Global) -> Result<Option<Window>, AllocError>
         ensures none { IfOk result (λ found. IfNone found (HasEntryRoom self.old.history × (self.new ≡ self.old))) }
         ensures some { IfOk result (λ found. IfSome found (λ window. (HasEntryRoom self.old.history → ⊥) × IsCertified self.old.history window.reports × AreLines self.old.history window.servers.items × (self.new ≡ record self.old { history = next_window self.old.history }))) }
@@ -324,7 +344,7 @@ impl<Q: PendQueue<Key, usize>, N: BoardName> Book<Q, N> {
         self.core.roll();
     }
 
-    /// The relay's seat as it was, and how many passes it has, each of which is outstanding.
+    /// Returns the relay's seat unchanged, and the number of its passes, each of which is outstanding.
     pub fn vouch(&mut self, board: &Board, relay: RelaySeat) -> (RelaySeat, u64)
         requires board { board.now ≡ N.board }
         requires relay_board { relay.board ≡ board.now }
@@ -337,9 +357,10 @@ impl<Q: PendQueue<Key, usize>, N: BoardName> Book<Q, N> {
         self.keeping.vouch(board, relay)
     }
 
-    /// Looks at each place that is out, by rising number, and takes what came back there; then a tick, where a request has waited too long.
-    /// Refused where the log is full, also where no place is out: what was taken until then stays taken. `O(1)` for each place that is out,
-    /// beside the events.
+    /// Looks at each place that is out, by rising number, and collects what was posted there; then
+    /// makes a tick, where a request has waited too long. Refused where the log is full, even if no
+    /// place is out: the returns that were collected before are kept. `O(1)` for each place that is
+    /// out, beside the events.
     pub fn turn(
         &mut self,
         board: &Board,
@@ -363,7 +384,8 @@ impl<Q: PendQueue<Key, usize>, N: BoardName> Book<Q, N> {
         Ok(())
     }
 
-    // The part of a turn that passes a block's places. Those that were out before it are known at once, so that each look is little more than a load.
+    // Makes the part of a turn for a block's places. Those that were out before it are read at
+    // once, so that each look costs little more than a load.
     fn turn_block(
         &mut self,
         board: &Board,
@@ -390,36 +412,37 @@ impl<Q: PendQueue<Key, usize>, N: BoardName> Book<Q, N> {
         Ok(())
     }
 
-    /// How many requests a server serves. `O(1)`.
+    /// Returns the number of requests that a server serves. `O(1)`.
     pub fn served(&self, server: usize) -> usize
         ensures { result ≡ served server (state_of self.now.history).rows }
     {
         self.core.served(server)
     }
 
-    /// How many requests wait in a queue. `O(1)`.
+    /// Returns the number of requests that wait in a queue. `O(1)`.
     pub fn queued(&self, queue: Queue) -> usize
         ensures { result ≡ queued queue (state_of self.now.history).rows }
     {
         self.core.queued(queue)
     }
 
-    /// Whether a server is up. `O(1)`.
+    /// Says whether a server is up. `O(1)`.
     pub fn up(&self, server: usize) -> bool
         ensures { result ≡ is_up (scene_of self.now.history) server }
     {
         self.core.up(server)
     }
 
-    /// Whether a tick at this moment would tell a timeout. `O(1)`.
+    /// Says whether a tick at this moment would tell a timeout. `O(1)`.
     pub fn expired(&self, moment: Moment) -> bool
         ensures { IsTrue result ↔ SomeExpires self.now.history moment }
     {
         self.core.expired(moment)
     }
 
-    /// How many requests may live at once. It says what each book keeps: its log is legal, and what is out at the board is what is
-    /// outstanding of it. `O(1)`.
+    /// Returns the most live requests. Its contract states every book's invariant: the log is
+    /// legal, and the verdicts that are out at the board are those that are outstanding in it.
+    /// `O(1)`.
     pub fn places(&self) -> usize
         ensures places { result ≡ N.terms.places }
         ensures of_terms { self.now.view.terms ≡ N.terms }
@@ -430,7 +453,7 @@ impl<Q: PendQueue<Key, usize>, N: BoardName> Book<Q, N> {
         self.core.places()
     }
 
-    /// The keeper's seat, once nothing more is decided.
+    /// Returns the keeper's seat, once nothing more is decided.
     pub fn into_seat(self) -> KeeperSeat
         ensures board { result.board ≡ N.board }
         ensures view { result.view ≡ self.view }
@@ -439,7 +462,7 @@ impl<Q: PendQueue<Key, usize>, N: BoardName> Book<Q, N> {
     }
 }
 
-// The mark of a server that serves so many when its limit is set.
+// Returns the mark of a server that serves this number of requests when its limit is set.
 fn mark_by(limit: Intake, served: usize) -> u64
     requires { served ≤ 4096 }
     ensures { result ≡ mark_by (record { limit = limit; served = served }) }
@@ -451,7 +474,7 @@ fn mark_by(limit: Intake, served: usize) -> u64
     }
 }
 
-// A return becomes its event.
+// Makes the event of a return.
 fn note_end<Q: PendQueue<Key, usize>>(core: &mut ReportingCore<Q>, moment: Moment, back: Return)
     requires { IsAcceptable core.old back }
     ensures { AddsEvent core.old core.new (event_of (effective core.old moment) back) }

@@ -9,7 +9,7 @@ use place_set::{Block, PlaceSet};
 use std::marker::Model;
 use verdict::Verdict;
 
-/// A keeper's seat with the set of the places that are out, so that a walk over these passes no other.
+/// A keeper's seat with the set of the places that are out, so that a walk over them passes no others.
 #[derive(Drop)]
 pub struct Keeping {
     seat: KeeperSeat,
@@ -29,7 +29,7 @@ impl Model for Keeping {
 }
 
 impl Keeping {
-    /// A seat of so many places that has nothing out.
+    /// Makes a seat for this number of places that has nothing out.
     pub fn new(seat: KeeperSeat, places: usize) -> Keeping
         requires none { seat.view.out ≡ [] }
         requires places { places ≡ seat.view.terms.places }
@@ -43,7 +43,7 @@ impl Keeping {
         }
     }
 
-    /// How many blocks of 64 places there are that may be out.
+    /// Returns the number of blocks of 64 places.
     pub fn blocks(&self) -> usize
         ensures all { (place : ℕ) → 0 < count_at place self.now.view.out → place < 64 * result }
         ensures few { result ≤ 64 }
@@ -51,7 +51,7 @@ impl Keeping {
         self.blocks
     }
 
-    /// Those of a block's places that are out.
+    /// Returns which of a block's places are out.
     pub fn block(&self, number: usize) -> Block
         requires { number < 64 }
         ensures ahead { (place : ℕ) → HasAhead result place ↔ ((place / 64 ≡ number) × (0 < count_at place self.now.view.out)) }
@@ -60,7 +60,7 @@ impl Keeping {
         self.out.block(number)
     }
 
-    /// Offers a verdict, and notes its place among those that are to be woken.
+    /// Offers a verdict, and adds its place to those that are to be woken.
     pub fn offer(&mut self, board: &Board, place: usize, told: (u64, Verdict), woken: &mut PlaceSet)
         requires same_board { self.old.board ≡ board.now }
         requires in_range { place < self.old.view.terms.places }
@@ -75,7 +75,7 @@ impl Keeping {
         woken.insert(place);
     }
 
-    /// What came back from a place.
+    /// Collects what was posted at a place.
     pub fn collect(&mut self, board: &Board, place: usize) -> Option<Return>
         requires same_board { self.old.board ≡ board.now }
         requires in_range { place < self.old.view.terms.places }
@@ -97,7 +97,7 @@ impl Keeping {
         self.seat.limit(board, server, bound);
     }
 
-    /// The relay's seat as it was, and how many passes it has, each of which is out.
+    /// Returns the relay's seat unchanged, and the number of its passes, each of which is out.
     pub fn vouch(&mut self, board: &Board, relay: RelaySeat) -> (RelaySeat, u64)
         requires same_board { self.old.board ≡ board.now }
         requires relay_board { relay.board ≡ board.now }
@@ -109,7 +109,7 @@ impl Keeping {
         self.seat.vouch(board, relay)
     }
 
-    /// The seat alone.
+    /// Returns the seat alone.
     pub fn into_seat(self) -> KeeperSeat
         ensures { result ≡ self }
     {

@@ -1,5 +1,6 @@
-//! The dispatcher beside its board: each call makes one event of the dispatcher and offers the verdicts that follow, so that what is out at the
-//! board is what is outstanding of the log. A `Book` is what stands behind the lock.
+//! The dispatcher beside its board: each call makes one event of the dispatcher and offers the
+//! verdicts that follow, so that the verdicts that are out at the board are those that are
+//! outstanding in the log. A `Book` is what the lock guards.
 #![tactic(auto)]
 
 mod book;

@@ -10,7 +10,7 @@ use pend_queue::PendQueue;
 use place_set::PlaceSet;
 use reporting_core::ReportingCore;
 
-/// Offers the verdicts of the entries from this one on. `O(log n)` in the live requests for each.
+/// Offers the verdicts of the entries from this position on. `O(log n)` in the live requests for each.
 pub fn offer_from<Q: PendQueue<Key, usize>>(
     core: &ReportingCore<Q>,
     keeping: &mut Keeping,

@@ -5,12 +5,12 @@ use log_stretches::Lane;
 use markup_text::push_escaped;
 use std::alloc::AllocError;
 
-/// The most lines of the grid, and how far below the top the numbers stand.
+/// The most lines of the grid, and the distance of the numbers from the top.
 const MOST_LINES: u64 = 12;
 
 const NUMBERS: usize = 106;
 
-/// Writes the lanes with their names, the grid of moments, and the rolls.
+/// Draws the lanes with their names, the grid of moments, and the rolls.
 pub(crate) fn push_axis(text: &mut String, scene: &Scene) -> Result<(), AllocError> {
     for band in scene.sheet.bands() {
         if let Some(band) = band {
@@ -84,7 +84,7 @@ fn push_grid(text: &mut String, scene: &Scene) -> Result<(), AllocError> {
     Ok(())
 }
 
-// So long after the first moment, with its moment above it.
+// Draws the grid line at a time after the first moment, with its moment above it.
 fn push_grid_line(text: &mut String, sheet: &Sheet, after: u64) -> Result<(), AllocError> {
     let x = sheet.pixel(after);
     let height = sheet.height.saturating_sub(NUMBERS);
@@ -97,7 +97,7 @@ fn push_grid_line(text: &mut String, sheet: &Sheet, after: u64) -> Result<(), Al
     )
 }
 
-// The least of 1, 2, 5, 10, 20, .. milliseconds with which few lines are enough.
+// Returns the least of 1, 2, 5, 10, 20, .. milliseconds at which the grid has few enough lines.
 fn step_for(span: u64) -> u64 {
     let mut step: u64 = 1;
     for turn in 0..60 {

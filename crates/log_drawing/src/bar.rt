@@ -5,21 +5,21 @@ use due_key::{Class, Due, Moment};
 use log_stretches::{Course, Lane, Stretch};
 use std::alloc::{AllocError, Global};
 
-/// A stretch of a request that is drawn.
+/// A bar: a stretch of a request that is drawn.
 #[derive(Clone, Copy)]
 pub(crate) struct Bar {
     pub(crate) stretch: Stretch,
     /// The colour of its class, as its number in the palette.
     pub(crate) colour: usize,
-    /// Its row in its lane, from the top.
+    /// Its row in its lane, counted from the top.
     pub(crate) row: usize,
 }
 
-/// The most bars of a picture in which due dates stand behind bars that end earlier.
+/// The most bars of a picture that shows due dates after bars that end earlier.
 pub(crate) const MOST_WITH_DUE_DATES: usize = 400;
 
 impl Bar {
-    /// The due date of a stay that ended before it, where the log goes on until then.
+    /// Returns the due date of a stay that ended before it, where the log goes on until then.
     pub(crate) fn early_due(&self, course: &Course) -> Option<Moment> {
         let Lane::Queue(_) = self.stretch.lane else {
             return None;
@@ -34,7 +34,7 @@ impl Bar {
     }
 }
 
-/// The stretches that are asked for, as bars whose rows aren't laid yet.
+/// Returns the wanted stretches as bars without rows.
 pub(crate) fn bars_of(
     alloc: Global,
     subject: &Subject,
@@ -59,17 +59,17 @@ fn bar_of(course: &Course, palette: &Palette, stretch: Stretch) -> Bar {
     }
 }
 
-/// The class of a ticket, where the log has its arrival.
+/// Returns the class of a ticket, where the log has its arrival.
 pub(crate) fn class_of(course: &Course, ticket: u64) -> Option<Class> {
     Some(course.arrival(ticket)?.arrival.class)
 }
 
-/// The due date of a ticket, where the log has its arrival.
+/// Returns the due date of a ticket, where the log has its arrival.
 pub(crate) fn due_of(course: &Course, ticket: u64) -> Option<Due> {
     Some(course.arrival(ticket)?.arrival.due)
 }
 
-// Of one queue and class: the stays of the class in the queue, and the services that follow from them.
+// For one queue and class these are the stays of the class in the queue, and the services that follow from them.
 fn is_asked_for(subject: &Subject, course: &Course, stretch: &Stretch) -> bool {
     let Some((queue, asked)) = subject.only else {
         return true;
@@ -78,7 +78,7 @@ fn is_asked_for(subject: &Subject, course: &Course, stretch: &Stretch) -> bool {
         && queue_behind(subject.entries, stretch) == Some(queue)
 }
 
-/// The queue of a stay, and that from which a service was granted its slot.
+/// Returns the queue of a stay, or the queue from which a service got its slot.
 pub(crate) fn queue_behind(entries: &[Entry], stretch: &Stretch) -> Option<Queue> {
     match stretch.lane {
         Lane::Queue(queue) => Some(queue),

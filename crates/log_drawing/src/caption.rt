@@ -4,12 +4,12 @@ use log_stretches::Lane;
 use std::alloc::{AllocError, Global};
 use trace_lines::ReportLine;
 
-/// The most reports of a queue whose captions are written, and the most tickets of one.
+/// The most reports of a queue with captions, and the most tickets in one.
 const MOST_CAPTIONS: usize = 6;
 
 const MOST_TICKETS: usize = 16;
 
-/// How many lines of text stand below each lane.
+/// Returns the number of lines of text below each lane.
 pub(crate) fn lines_below(alloc: Global, subject: &Subject) -> Result<Vec<usize>, AllocError> {
     let lanes = lanes_of(subject.names.len());
     let mut lines: Vec<usize> = Vec::new(alloc);
@@ -31,7 +31,7 @@ fn is_captioned(subject: &Subject, report: &ReportLine) -> bool {
     }
 }
 
-/// Writes below each queue a line for each of its reports, and marks the cut and the worst slot.
+/// Draws below each queue a line for each of its reports, and marks the cut and the worst slot.
 pub(crate) fn push_captions(text: &mut String, scene: &Scene) -> Result<(), AllocError> {
     for band in scene.sheet.bands() {
         if let Some(band) = band {
@@ -60,7 +60,7 @@ fn push_lane(text: &mut String, scene: &Scene, band: &Band) -> Result<(), AllocE
     Ok(())
 }
 
-// The front of a line of text below a lane.
+// Writes the beginning of a line of text below a lane.
 fn push_place(text: &mut String, band: &Band, line: usize) -> Result<(), AllocError> {
     let below = line
         .saturating_add(1)
@@ -135,7 +135,7 @@ fn push_needed(text: &mut String, report: &ReportLine) -> Result<(), AllocError>
     }
 }
 
-// The number of the window before which so many entries stand, from 1.
+// Returns the number of the window with this number of entries before it, from 1.
 fn window_of(rolls: &[usize], before: usize) -> usize {
     if before == 0 {
         return 1;
@@ -146,7 +146,7 @@ fn window_of(rolls: &[usize], before: usize) -> usize {
         .map_or(1, |roll| roll.saturating_add(2))
 }
 
-// The cut as a dashed line, and the worst slot as an arrow that points at it.
+// Draws the cut as a dashed line, and the worst slot as an arrow that points at it.
 fn push_cut(
     text: &mut String,
     scene: &Scene,

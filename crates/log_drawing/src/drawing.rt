@@ -16,24 +16,24 @@ use script::Names;
 use std::alloc::{AllocError, Global};
 use trace_lines::ReportLine;
 
-/// The most bars that have titles, due dates and outlines of their own; with more of them there are the bars alone.
+/// The most bars with titles, due dates and outlines; a picture with more has the bars alone.
 pub(crate) const MOST_TITLED: usize = 8192;
 
-/// What is drawn.
+/// The subject of a picture.
 #[derive(Clone, Copy)]
 pub struct Subject<'a> {
     /// The names of the servers.
     pub names: &'a Names,
-    /// The entries of a log, those of all its windows one after the other.
+    /// The entries of a log, all its windows one after the other.
     pub entries: &'a [Entry],
-    /// For each roll how many entries stand before it.
+    /// For each roll the number of entries before it.
     pub rolls: &'a [usize],
     pub reports: &'a [ReportLine],
-    /// The one queue and class that are drawn; None for all.
+    /// The one queue and class that are drawn; `None` for all.
     pub only: Option<(Queue, Class)>,
 }
 
-/// What the parts of a picture look at.
+/// The data that the parts of a picture use.
 #[derive(Clone, Copy)]
 pub(crate) struct Scene<'a> {
     pub(crate) subject: &'a Subject<'a>,
@@ -61,8 +61,8 @@ const HATCHES: &str = "\
 <pattern id=\"closed\" width=\"6\" height=\"6\" patternUnits=\"userSpaceOnUse\"><path d=\"M0 1h6\" stroke=\"#333\" stroke-opacity=\".55\" stroke-width=\"1.5\"/><path d=\"M0 4h6\" stroke=\"#fff\" stroke-opacity=\".6\" stroke-width=\"1.5\"/></pattern></defs>
 ";
 
-/// Writes the picture at the end. After an `Err` a part of it may stand there. `O(n log n)` in the entries, times the
-/// reports where titles are written.
+/// Appends the picture. After an `Err` a part of it may stand there. `O(n log n)` in the entries,
+/// times the reports where titles are written.
 pub fn push_drawing(alloc: Global, text: &mut String, subject: &Subject) -> Result<(), AllocError> {
     let course = Course::new(alloc, subject.entries)?;
     let palette = Palette::new(alloc, subject.entries)?;
@@ -85,7 +85,7 @@ pub fn push_drawing(alloc: Global, text: &mut String, subject: &Subject) -> Resu
     text.push_str("</svg>\n")
 }
 
-// The front of the file, with the looks of all that follows.
+// Writes the beginning of the file, with the styles of all that follows.
 fn push_head(text: &mut String, sheet: &Sheet) -> Result<(), AllocError> {
     let height = sheet.height;
     write!(
@@ -99,7 +99,7 @@ fn push_head(text: &mut String, sheet: &Sheet) -> Result<(), AllocError> {
     text.push_str("<rect width=\"100%\" height=\"100%\" fill=\"#fff\"/>\n")
 }
 
-// What stands over time. In the inner picture one across is one millisecond.
+// Draws what depends on time. In the inner picture one unit to the right is one millisecond.
 fn push_plot(alloc: Global, text: &mut String, scene: &Scene) -> Result<(), AllocError> {
     let sheet = scene.sheet;
     let height = sheet.height;

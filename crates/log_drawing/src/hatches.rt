@@ -4,7 +4,7 @@ use dispatch_log::{Entry, Intake};
 use log_stretches::Lane;
 use std::alloc::AllocError;
 
-/// Why a server takes nobody for a time.
+/// Why a server takes no requests for a time.
 #[derive(Clone, Copy)]
 enum Pause {
     Down(usize),
@@ -12,7 +12,7 @@ enum Pause {
 }
 
 impl Pause {
-    // What an entry begins.
+    // Returns the pause that an entry begins.
     fn begun_by(entry: &Entry) -> Option<Pause> {
         match *entry {
             Entry::Health(server, false) => Some(Pause::Down(server)),
@@ -21,7 +21,7 @@ impl Pause {
         }
     }
 
-    // A server that is closed once more begins another pause, so that no stretch is hatched twice.
+    // Closing a closed server again begins another pause, so that no stretch is hatched twice.
     fn is_ended_by(&self, entry: &Entry) -> bool {
         match *self {
             Pause::Down(server) => *entry == Entry::Health(server, true),
@@ -46,7 +46,7 @@ impl Pause {
     }
 }
 
-/// Writes a hatched stretch over the lane of each server while it is down, and another while it is closed.
+/// Draws a hatched stretch over the lane of each server while it is down, and another while it is closed.
 pub(crate) fn push_hatches(text: &mut String, scene: &Scene) -> Result<(), AllocError> {
     for (number, entry) in scene.subject.entries.iter().enumerate() {
         if let Some(pause) = Pause::begun_by(entry) {
@@ -74,7 +74,7 @@ fn push_pause(
     push_hatch(text, pause, &band, sheet.pixel(from), sheet.pixel(to))
 }
 
-// The number of the entry behind this one that ends its pause.
+// Returns the position of the later entry that ends the pause.
 fn end_of(entries: &[Entry], pause: Pause, number: usize) -> Option<usize> {
     let next = number.saturating_add(1);
     let behind = entries.get(next..)?;

@@ -5,10 +5,10 @@ use crate::story::push_queue;
 use dispatch_log::Entry;
 use std::alloc::AllocError;
 
-/// The most classes that the key names.
+/// The most classes in the legend.
 const MOST_CLASSES: usize = 12;
 
-/// Writes what the picture is of, and what its colours and signs say.
+/// Draws the legend: the subject of the picture, and the meaning of its colours and signs.
 pub(crate) fn push_key(
     text: &mut String,
     scene: &Scene,

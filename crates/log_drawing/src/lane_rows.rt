@@ -5,18 +5,20 @@ use log_stretches::Course;
 use std::alloc::{AllocError, Global};
 use std::collections::BinaryHeap;
 
-/// The rows of one lane. The heaps give their greatest item first, so they keep how far a number lies below the greatest one.
+/// The rows of one lane. The heaps return their greatest item first, so they keep the distance of
+/// each number from the greatest one.
 #[derive(Drop)]
 struct LaneRows {
-    /// The rows in which something stands, each behind the position at which that ends.
+    /// The rows in use, each with the position at which its bar ends.
     taken: BinaryHeap<(usize, usize)>,
-    /// The rows that were taken before.
+    /// The rows that are free again.
     free: BinaryHeap<usize>,
     used: usize,
 }
 
-/// Gives each bar the topmost row of its lane in which nothing stands, and answers how many rows each of so many lanes has.
-/// The bars come in the order in which they begin. Of few bars each keeps its row up to its due date, which is drawn there.
+/// Gives each bar the topmost free row of its lane, and returns the number of rows of each lane.
+/// The bars come in the order in which they begin. Where there are few bars, each keeps its row up
+/// to its due date, which is drawn there.
 pub(crate) fn lay_rows(
     alloc: Global,
     course: &Course,
@@ -34,7 +36,7 @@ pub(crate) fn lay_rows(
     counts_of(alloc, all.as_slice())
 }
 
-// How many rows each lane has.
+// Returns the number of rows of each lane.
 fn counts_of(alloc: Global, all: &[LaneRows]) -> Result<Vec<usize>, AllocError> {
     let mut counts = Vec::with_capacity(alloc, all.len())?;
     for rows in all {
@@ -43,7 +45,7 @@ fn counts_of(alloc: Global, all: &[LaneRows]) -> Result<Vec<usize>, AllocError> 
     Ok(counts)
 }
 
-// The position up to which a bar takes its row.
+// Returns the position up to which a bar uses its row.
 fn end_of(course: &Course, bar: &Bar, few: bool) -> usize {
     let end = bar.stretch.to.unwrap_or(usize::MAX);
     if !few {
@@ -55,7 +57,7 @@ fn end_of(course: &Course, bar: &Bar, few: bool) -> usize {
     }
 }
 
-// The position of the first entry after a moment, where moments never fall.
+// Returns the position of the first entry after a moment, where moments never fall.
 fn position_after(course: &Course, moment: Moment) -> usize {
     let before = course.moments().partition_point(|at| *at <= moment);
     before.saturating_add(1)
@@ -74,7 +76,7 @@ fn empty_lanes(alloc: Global, lanes: usize) -> Result<Vec<LaneRows>, AllocError>
 }
 
 impl LaneRows {
-    // The topmost row in which nothing stands at a position, for what ends at another.
+    // Takes the topmost row that is free at a position, for a bar that ends at another.
     fn take(&mut self, from: usize, end: usize) -> Result<usize, AllocError> {
         self.release(from)?;
         let row = match self.free.pop() {
@@ -86,7 +88,7 @@ impl LaneRows {
         Ok(row)
     }
 
-    // What ended up to a position leaves its row.
+    // Frees the rows whose bars end up to a position.
     fn release(&mut self, position: usize) -> Result<(), AllocError> {
         for _ in 0..self.taken.len() {
             let Some((below, row)) = self.taken.peek().copied() else {

@@ -1,4 +1,5 @@
-//! The picture of a log: who stood where, when, and which critical sets prove the lateness, as one SVG file.
+//! The picture of a log as one SVG file: who waited or was served where and when, and the critical
+//! sets that prove the lateness.
 #![tactic(auto)]
 
 mod axis;

@@ -5,12 +5,13 @@ use dispatch_log::Entry;
 use log_stretches::Lane;
 use std::alloc::AllocError;
 
-/// The width of a digit of a label in pixels, and what stays free at both ends of a bar.
+/// The width of a label's digit in pixels, and the margin at both ends of a bar.
 const DIGIT: u64 = 7;
 
 const ROOM: u64 = 6;
 
-/// Writes the due dates of stays as ticks on their rows, and a mark at the end of each that was told why it isn't served.
+/// Draws the due dates of stays as ticks on their rows, and a mark at the end of each stay that was
+/// told why it isn't served.
 pub(crate) fn push_marks(text: &mut String, scene: &Scene) -> Result<(), AllocError> {
     let few = scene.bars.len() <= MOST_WITH_DUE_DATES;
     for bar in scene.bars {
@@ -38,7 +39,7 @@ fn push_tick(
     writeln!(text, "<path class=\"{kind}\" d=\"M{at} {y}v{thick}\"/>")
 }
 
-// The due date of a stay that lasts so long.
+// Draws the due date of a stay that lasts until then.
 fn push_due(text: &mut String, scene: &Scene, bar: &Bar) -> Result<(), AllocError> {
     let Lane::Queue(_) = bar.stretch.lane else {
         return Ok(());
@@ -53,7 +54,7 @@ fn push_due(text: &mut String, scene: &Scene, bar: &Bar) -> Result<(), AllocErro
     }
 }
 
-// A due date behind the end of its stay, and a line up to it.
+// Draws a due date after the end of its stay, and a line up to it.
 fn push_early_due(text: &mut String, scene: &Scene, bar: &Bar) -> Result<(), AllocError> {
     let Some(due) = bar.early_due(scene.course) else {
         return Ok(());

@@ -4,7 +4,7 @@ use crate::palette::COLOURS;
 use log_stretches::Lane;
 use std::alloc::{AllocError, Global};
 
-/// Writes the bars alone, those of one colour and kind as one path: far shorter than a shape for each.
+/// Draws the bars alone, those of one colour and kind as one path: that is far shorter than a shape for each.
 pub(crate) fn push_plain_bars(
     alloc: Global,
     text: &mut String,
@@ -19,7 +19,7 @@ pub(crate) fn push_plain_bars(
     push_groups(text, scene.sheet.thick, groups.as_slice())
 }
 
-// Stays and services of each colour, and of none.
+// Makes an empty group for the stays and for the services of each colour.
 fn empty_groups(alloc: Global) -> Result<Vec<String>, AllocError> {
     let mut groups: Vec<String> = Vec::new(alloc);
     for _ in 0..=2 * COLOURS + 1 {
@@ -53,7 +53,7 @@ fn push_group(
     text.push_str("\"/>\n")
 }
 
-// The number of a bar's group.
+// Returns the number of a bar's group.
 fn group_of(bar: &Bar) -> usize {
     let service = match bar.stretch.lane {
         Lane::Queue(_) => 0,

@@ -19,10 +19,10 @@ const TOP: usize = 120;
 
 const GAP: usize = 14;
 
-/// The height from which on bars have numbers in them.
+/// The least height of bars with numbers in them.
 const LEAST_FOR_LABELS: usize = 13;
 
-/// The height from which on bars have lines around them.
+/// The least height of bars with outlines.
 const LEAST_FOR_LINES: usize = 5;
 
 /// The height of a line of text.
@@ -36,22 +36,22 @@ pub(crate) struct Band {
     pub(crate) height: usize,
 }
 
-/// Where things stand on the picture: the time from left to right, the lanes from the top down.
+/// The layout of the picture: time from left to right, lanes from top to bottom.
 #[derive(Drop)]
 pub(crate) struct Sheet {
     /// The moment at the left end.
     pub(crate) first: u64,
-    /// How many milliseconds there are up to the right end.
+    /// The number of milliseconds up to the right end.
     pub(crate) span: u64,
     /// The distance of rows from each other, and the height of a bar.
     pub(crate) pitch: usize,
     pub(crate) thick: usize,
-    // By their numbers; None where a lane isn't drawn.
+    // The lanes' places by number; `None` where a lane isn't drawn.
     bands: Vec<Option<Band>>,
     pub(crate) height: usize,
 }
 
-/// The number of a lane, from the top: the backend's queue, then each server's own queue and its slots.
+/// Returns the number of a lane, from the top: the backend's queue, then each server's own queue and its slots.
 pub(crate) fn lane_number(lane: Lane) -> usize {
     match lane {
         Lane::Queue(Queue::Backend) => 0,
@@ -60,7 +60,7 @@ pub(crate) fn lane_number(lane: Lane) -> usize {
     }
 }
 
-/// How many lanes so many servers have.
+/// Returns the number of lanes for this number of servers.
 pub(crate) fn lanes_of(servers: usize) -> usize {
     servers.saturating_mul(2).saturating_add(1)
 }
@@ -76,7 +76,7 @@ fn lane_of(number: usize) -> Lane {
 }
 
 impl Sheet {
-    /// The places of lanes with so many rows, each with so many lines of text below it.
+    /// Lays out lanes with these numbers of rows and of lines of text below.
     pub(crate) fn new(
         alloc: Global,
         course: &Course,
@@ -112,7 +112,7 @@ impl Sheet {
         })
     }
 
-    /// The lanes, each with its place where it is drawn.
+    /// Returns the lanes, each with its place where it is drawn.
     pub(crate) fn bands(&self) -> &[Option<Band>] {
         self.bands.as_slice()
     }
@@ -121,18 +121,18 @@ impl Sheet {
         self.bands.get(lane_number(lane)).copied().flatten()
     }
 
-    /// The distance of a row of a lane from the top.
+    /// Returns the distance of a row of a lane from the top.
     pub(crate) fn row(&self, lane: Lane, row: usize) -> usize {
         let top = self.band(lane).map_or(0, |band| band.top);
         top.saturating_add(row.saturating_mul(self.pitch))
     }
 
-    /// The milliseconds from the left end up to a moment.
+    /// Returns the milliseconds from the left end to a moment.
     pub(crate) fn since(&self, moment: Moment) -> u64 {
         moment.get().saturating_sub(self.first).min(self.span)
     }
 
-    /// The milliseconds from the left end up to a due date, where that is on the picture.
+    /// Returns the milliseconds from the left end to a due date, where that is on the picture.
     pub(crate) fn due(&self, due: Due) -> Option<u64> {
         let after = u64::try_from(self.after(due)).ok()?;
         if after <= self.span {
@@ -142,7 +142,7 @@ impl Sheet {
         }
     }
 
-    /// The same, and one of the ends for what is further away.
+    /// The same, with the nearer end for a date off the picture.
     pub(crate) fn due_within(&self, due: Due) -> u64 {
         match u64::try_from(self.after(due)) {
             Ok(after) => after.min(self.span),
@@ -150,30 +150,30 @@ impl Sheet {
         }
     }
 
-    // The milliseconds from the left end, below 0 for what was before.
+    // Returns the milliseconds from the left end, negative for an earlier date.
     fn after(&self, due: Due) -> i64 {
         due.get().saturating_sub_unsigned(self.first)
     }
 
-    /// The distance in pixels from the left of what is so many milliseconds from the left end.
+    /// Returns the distance in pixels from the left of a time after the left end.
     pub(crate) fn pixel(&self, after: u64) -> u64 {
         let across = u128::from(after.min(self.span)) * u128::from(PLOT)
             / u128::from(self.span.max(1));
         LEFT.saturating_add(u64::try_from(across).unwrap_or(PLOT))
     }
 
-    /// Whether bars are so thin that lines around them would hide them.
+    /// Says whether bars are so thin that outlines would hide them.
     pub(crate) fn is_dense(&self) -> bool {
         self.thick < LEAST_FOR_LINES
     }
 
-    /// Whether there is room for numbers in the bars.
+    /// Says whether there is room for numbers in the bars.
     pub(crate) fn has_labels(&self) -> bool {
         LEAST_FOR_LABELS <= self.thick
     }
 }
 
-// A queue in which nobody waits has no place, and a server that serves nobody has an empty row.
+// A queue in which nobody waits isn't drawn, and a server that serves nobody has an empty row.
 fn band_of(lane: Lane, rows: usize, top: usize, pitch: usize) -> Option<Band> {
     let rows = match lane {
         Lane::Queue(_) if rows == 0 => return None,
@@ -187,7 +187,7 @@ fn band_of(lane: Lane, rows: usize, top: usize, pitch: usize) -> Option<Band> {
     })
 }
 
-// The distance of rows and the height of bars for so many rows in all.
+// Returns the distance of rows and the height of bars for these rows.
 fn sizes(rows: &[usize]) -> (usize, usize) {
     let all = rows
         .iter()

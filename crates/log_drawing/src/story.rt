@@ -8,7 +8,7 @@ use script::Names;
 use std::alloc::AllocError;
 use trace_lines::ReportLine;
 
-/// Writes the bars, each with its story as its title.
+/// Draws the bars, each with its story as its title.
 pub(crate) fn push_bars(text: &mut String, scene: &Scene) -> Result<(), AllocError> {
     for bar in scene.bars {
         push_bar(text, scene, bar)?;
@@ -36,7 +36,7 @@ fn push_bar(text: &mut String, scene: &Scene, bar: &Bar) -> Result<(), AllocErro
     text.push_str("</title></path>\n")
 }
 
-// What of a stay is past its due date stands out.
+// The part of a stay after its due date is highlighted.
 fn push_late_part(text: &mut String, scene: &Scene, bar: &Bar) -> Result<(), AllocError> {
     let Lane::Queue(_) = bar.stretch.lane else {
         return Ok(());
@@ -159,7 +159,7 @@ pub(crate) fn push_queue(text: &mut String, names: &Names, queue: Queue) -> Resu
 }
 
 impl<'a> Scene<'a> {
-    /// The milliseconds from the left end at which a bar begins and ends.
+    /// Returns the milliseconds from the left end at which a bar begins and ends.
     pub(crate) fn times(&self, bar: &Bar) -> (u64, u64) {
         let from = self.sheet.since(self.course.moment(bar.stretch.from));
         let to = match bar.stretch.to {
@@ -169,7 +169,7 @@ impl<'a> Scene<'a> {
         (from, to)
     }
 
-    /// The entry that ends a bar.
+    /// Returns the entry that ends a bar.
     pub(crate) fn ending(&self, bar: &Bar) -> Option<Entry> {
         let position = bar.stretch.to?;
         self.subject
@@ -178,7 +178,7 @@ impl<'a> Scene<'a> {
             .copied()
     }
 
-    /// Whether a bar is a stay of a critical set.
+    /// Says whether a bar is a stay of a critical set.
     pub(crate) fn is_critical(&self, bar: &Bar) -> bool {
         let class = class_of(self.course, bar.stretch.ticket);
         self.subject
@@ -188,7 +188,8 @@ impl<'a> Scene<'a> {
     }
 }
 
-// Whether a bar is a stay of a report's critical set: of its queue and class, with a slot after the cut up to the worst one.
+// Says whether a bar is a stay of a report's critical set: of its queue and class, with a slot
+// after the cut up to the worst one's.
 fn stands_in(report: &ReportLine, bar: &Bar, class: Option<Class>) -> bool {
     let (Lane::Queue(queue), Some(slot)) = (bar.stretch.lane, bar.stretch.to) else {
         return false;

@@ -1,4 +1,4 @@
--- What a log tells, put in order.
+-- The facts of a log, in order.
 use Rattle.std.specs.Prelude.{◌≡◌, ℕ, ◌+◌, ◌<◌, ◌==◌, List, Option, None, Some, length, slice_index, if◌then◌else◌}
 use Rattle.std.specs.List.{fold}
 use Rattle.std.specs.Option.{unwrap_or}
@@ -9,21 +9,21 @@ use Rattle.log_stretches.specs.declared.course.Came.{Came}
 use Rattle.log_stretches.specs.declared.stretch.Stretch.{Stretch}
 use Rattle.log_stretches.specs.Stretches.{stretches_of}
 
--- the moment of an event, and of another entry the last event's
+-- the moment of an event; for another entry that of the last event
 abbrev pub later : Entry → ℕ → ℕ
 later entry last = unwrap_or (moment_in entry) last
 
--- the moment of each entry: that of the event that it belongs to
+-- the moment of each entry: that of its event
 pub record AreMoments (log : List Entry) (moments : List ℕ) : Type 0 where
   pub each : length moments ≡ length log
   pub at : (number : ℕ) → number < length log → slice_index moments number ≡ moment_at log (number + 1)
 
--- the arrival of a ticket, by an entry that is it, or else as before
+-- the arrival of a ticket, where the entry is it, or else as before
 abbrev pub newer_came : ℕ → Option Came → Entry → Option Came
 newer_came ticket before (Arrive moment arrival) = if arrival.ticket == ticket then Some (record { moment = moment; arrival = arrival }) else before
 newer_came ticket before entry = before
 
--- the last arrival of a ticket; none where it didn't come
+-- the last arrival of a ticket; none where it didn't arrive
 abbrev pub came_in : List Entry → ℕ → Option Came
 came_in log ticket = fold (newer_came ticket) None log
 

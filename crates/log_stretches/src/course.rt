@@ -19,8 +19,8 @@ pub struct Came {
     pub arrival: Arrival,
 }
 
-/// A log with what it tells put in order: the moment of each entry, the arrivals by their tickets, and the stretches. Contracts see
-/// its entries.
+/// A log with its facts in order: the moment of each entry, the arrivals by ticket, and the
+/// stretches. Contracts see its entries.
 #[derive(Drop)]
 pub struct Course<'a> {
     entries: &'a [Entry],
@@ -44,7 +44,7 @@ impl<'a> Model for Course<'a> {
 }
 
 impl<'a> Course<'a> {
-    /// The course of a log. `O(n log n)`.
+    /// Makes the course of a log. `O(n log n)`.
     pub fn new(alloc: Global, entries: &'a [Entry]) -> Result<Course<'a>, AllocError>
         ensures { IfOk result (λ course. course ≡ entries.now) }
     {
@@ -65,15 +65,15 @@ impl<'a> Course<'a> {
         self.entries
     }
 
-    /// The moment of the event that each entry belongs to.
+    /// Returns the moment of each entry's event.
     pub fn moments(&self) -> &[Moment]
         ensures { AreMoments self.now result.now }
     {
         self.moments.as_slice()
     }
 
-    /// The moment at a position, counted from 1: that of the event that its entry belongs to. Past the end it is the last event's,
-    /// and at 0 the moment 0.
+    /// Returns the moment at a position, counted from 1: that of its entry's event. Past the end it
+    /// is the last event's, and at 0 the moment 0.
     pub fn moment(&self, position: usize) -> Moment
         ensures { result ≡ moment_at self.now position }
     {
@@ -84,14 +84,14 @@ impl<'a> Course<'a> {
         self.moments[within - 1]
     }
 
-    /// The last arrival of a ticket.
+    /// Returns the last arrival of a ticket.
     pub fn arrival(&self, ticket: u64) -> Option<Came>
         ensures { result ≡ came_in self.now ticket }
     {
         self.arrivals.get(&ticket).copied()
     }
 
-    /// The stays and services, in the order in which they begin.
+    /// Returns the stays and services, in the order in which they begin.
     pub fn stretches(&self) -> &[Stretch]
         ensures { result.now ≡ stretches_of self.now }
     {
@@ -99,7 +99,7 @@ impl<'a> Course<'a> {
     }
 }
 
-// The moment of each entry: its event's.
+// Returns the moment of each entry's event.
 fn moments_of(alloc: Global, entries: &[Entry]) -> Result<Vec<Moment>, AllocError>
     ensures { IfOk result (λ moments. AreMoments entries.now moments.items) }
 {
@@ -133,7 +133,7 @@ fn note_arrival(arrivals: &mut BTreeMap<u64, Came>, entry: Entry) -> Result<(), 
     Ok(())
 }
 
-// The moment of an event, and of any other entry that of the event before it.
+// Returns the moment of an event, and for any other entry that of the event before it.
 fn later(entry: &Entry, last: Moment) -> Moment
     ensures { result ≡ later entry.now last }
 {

@@ -1,4 +1,4 @@
-//! Where each request of a log was, and when: its stays in queues and its services by servers.
+//! Where and when each request of a log waited or was served: its stays in queues and its services by servers.
 #![tactic(auto)]
 
 mod course;

@@ -9,7 +9,7 @@ use dispatch_log::{Entry, Queue};
 use std::alloc::{AllocError, Global};
 use std::collections::BTreeMap;
 
-/// Where a request is.
+/// The place of a request: a queue or a server.
 #[derive(Clone, Copy, Debug, PartialEq, Eq)]
 pub enum Lane {
     /// It waits in this queue.
@@ -25,20 +25,20 @@ pub struct Stretch {
     pub lane: Lane,
     /// The position of the entry that it begins with.
     pub from: usize,
-    /// The position of the entry that ends it; None where none does.
+    /// The position of the entry that ends it; `None` where no entry does.
     pub to: Option<usize>,
 }
 
-/// What an entry says of where a request is.
+/// The place that an entry gives a request.
 #[derive(Clone, Copy)]
 pub(crate) struct Placing {
     pub(crate) ticket: u64,
-    /// Where it is from then on; None where that is nowhere.
+    /// The place from then on; `None` where there is none any more.
     pub(crate) lane: Option<Lane>,
 }
 
-/// The stretches of a log, in the order in which they begin: one for each entry that puts a request into a queue or into a slot
-/// of a server, and no other. `O(n log n)`.
+/// Returns the stretches of a log, in the order in which they begin: one for each entry that puts a
+/// request into a queue or into a slot of a server, and no others. `O(n log n)`.
 pub fn stretches_of(alloc: Global, entries: &[Entry]) -> Result<Vec<Stretch>, AllocError>
     ensures { IfOk result (λ stretches. stretches.items ≡ stretches_of entries.now) }
 {
@@ -53,8 +53,8 @@ pub fn stretches_of(alloc: Global, entries: &[Entry]) -> Result<Vec<Stretch>, Al
     Ok(stretches)
 }
 
-// Takes the entry at a position in, where the entries behind it were. For each ticket it is kept which of those places it
-// first, and the stretches so far stand with the last one first.
+// Takes the entry at a position, after the entries after it. For each ticket it keeps which of
+// those places it first, and the stretches so far, the last one first.
 fn take(
     next: &mut BTreeMap<u64, usize>,
     stretches: &mut Vec<Stretch>,
@@ -73,7 +73,7 @@ fn take(
     }
 }
 
-// Keeps that a ticket is placed at a position, and answers where it is placed after that.
+// Notes that a ticket is placed at a position, and returns where it is placed next.
 fn place(
     next: &mut BTreeMap<u64, usize>,
     ticket: u64,
@@ -86,7 +86,7 @@ fn place(
     Ok(later)
 }
 
-// Adds the stretch that begins at a position and ends at another, where one begins.
+// Adds the stretch from one position to another, where one begins.
 fn begin(
     stretches: &mut Vec<Stretch>,
     placing: Placing,

@@ -1,4 +1,5 @@
-//! What of a log waits to be read by one who reads it entry by entry, window after window. Its room is taken once: where a reader is too slow, it is told so.
+//! The part of a log that waits for a reader, who reads it entry by entry, window after window. Its
+//! memory is allocated once: a reader that is too slow is told so.
 #![tactic(auto)]
 
 mod tail;

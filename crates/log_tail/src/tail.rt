@@ -7,18 +7,18 @@ use std::alloc::{AllocError, Global};
 use std::marker::Model;
 use std::mem;
 
-/// What a reader of a log is told at once.
+/// The result of one read of a log.
 #[derive(Drop)]
 pub struct Batch {
     /// The next entries.
     pub entries: Vec<Entry>,
-    /// How many of them stand before the end of a window. None: no window ended.
+    /// How many of them are before the end of a window. `None`: no window ended.
     pub end: Option<usize>,
-    /// Entries were lost behind these, and so many ends of windows with them.
+    /// Entries after these were lost, and this number of ends of windows with them.
     pub lost: Option<u64>,
 }
 
-/// What waits to be read of a log.
+/// The part of a log that waits to be read.
 #[derive(Drop)]
 pub struct Tail {
     entries: Vec<Entry>,
@@ -40,7 +40,7 @@ impl Model for Tail {
 }
 
 impl Batch {
-    /// An empty one, for a tail with room for so many entries.
+    /// Makes an empty batch for a tail with room for this number of entries.
     pub fn with_room(alloc: Global, room: usize) -> Result<Batch, AllocError>
         ensures { IfOk result (λ batch. (batch.entries.items ≡ []) × (room ≤ vec_capacity batch.entries)) }
     {
@@ -51,7 +51,7 @@ impl Batch {
         })
     }
 
-    /// What it has is gone, and its room stays.
+    /// Empties the batch, and keeps its room.
     pub fn clear(&mut self)
         ensures none { (self.new.entries.items ≡ []) × (self.new.end ≡ None) × (self.new.lost ≡ None) }
         ensures room { vec_capacity self.old.entries ≤ vec_capacity self.new.entries }
@@ -63,7 +63,7 @@ impl Batch {
 }
 
 impl Tail {
-    /// Of a window without an entry, with room for so many entries.
+    /// Makes the tail of a window without an entry, with room for this number of entries.
     pub fn with_room(alloc: Global, room: usize) -> Result<Tail, AllocError>
         ensures { IfOk result (λ tail. tail ≡ record { entries = []; end = None; lost = None; seen = 0; room = room }) }
     {
@@ -76,15 +76,16 @@ impl Tail {
         })
     }
 
-    /// For how many entries it was made.
+    /// Returns the number of entries that it has room for.
     pub fn room(&self) -> usize
         ensures { result ≡ self.now.room }
     {
         self.room
     }
 
-    /// Takes in what the present window has beyond what was taken in before. Where there is no room for all of that, or some was lost before, it is lost.
-    /// `O(n)` in what is taken in, no memory.
+    /// Takes the entries of the present window beyond those that it has taken. Where there is no
+    /// room for all of them, or some were lost before, they are lost. `O(n)` in the entries taken,
+    /// without allocating.
     pub fn catch_up(&mut self, entries: &[Entry])
         ensures seen { self.new.seen ≡ length entries.now }
         ensures fits { self.old.lost ≡ None → length self.old.entries + length (drop self.old.seen entries.now) ≤ self.old.room
@@ -107,7 +108,7 @@ impl Tail {
         }
     }
 
-    /// The window ended, all of which was taken in. Where an earlier end wasn't read yet, this one is lost.
+    /// Notes that the window ended, all of which was taken. Where an earlier end isn't read yet, this one is lost.
     pub fn turn(&mut self)
         ensures seen { self.new.seen ≡ 0 }
         ensures first { self.old.lost ≡ None → self.old.end ≡ None → (self.new.end ≡ Some (length self.old.entries)) × (self.new.lost ≡ None) }
@@ -123,7 +124,7 @@ impl Tail {
         }
     }
 
-    /// Hands out what waits, into an empty batch. From then on all is taken in again.
+    /// Moves the waiting entries into an empty batch. From then on new entries are taken again.
     pub fn take(&mut self, batch: &mut Batch)
         requires empty { batch.old.entries.items ≡ [] }
         requires room { self.old.room ≤ vec_capacity batch.old.entries }
@@ -138,7 +139,7 @@ impl Tail {
     }
 }
 
-// Adds entries in the room that is there.
+// Appends entries within the room that is there.
 fn put_all(entries: &mut Vec<Entry>, more: &[Entry])
     requires { length entries.old.items + length more.now ≤ vec_capacity entries.old }
     ensures items { entries.new.items ≡ entries.old.items ++ more.now }

@@ -13,7 +13,7 @@ mod running;
 
 const BACKEND: Queue = Queue::Backend;
 
-/// A moment. A number out of range, which no test has, would be 0: so what is made of it can't fail.
+/// Makes a moment. A number out of range, which no test has, would give 0, so this can't fail.
 fn moment(number: u64) -> Moment {
     Moment::new(number).unwrap_or(Moment::zero())
 }
@@ -55,7 +55,7 @@ fn opening(rt: &impl Abort, alloc: Global) -> Base
     Base::opening(alloc, &setup).expect(rt, "memory")
 }
 
-/// Of class 0, waiting in the backend's queue since this moment.
+/// A row of class 0 that waits in the backend's queue since this moment.
 fn waiting(ticket: u64, since: u64, offset: i64) -> Row {
     let since = moment(since);
     let key = Key {
@@ -71,7 +71,7 @@ fn waiting(ticket: u64, since: u64, offset: i64) -> Row {
     }
 }
 
-/// A window in whose base tickets 2 and 3 wait.
+/// A window with tickets 2 and 3 waiting in its base.
 fn both_wait_in_the_base(rt: &impl Abort, alloc: Global) -> Log {
     let mut base = opening(rt, alloc);
     base.set_row(0, Some(waiting(2, 1, 0)));
@@ -136,7 +136,7 @@ fn granted_before_the_next_came(rt: &impl Abort, alloc: Global) -> Log {
     log_of(rt, alloc, entries.as_slice())
 }
 
-/// Tickets 2 and 3 are due together.
+/// Tickets 2 and 3 have the same due date.
 fn equal_due_dates(rt: &impl Abort, alloc: Global) -> Log {
     let entries = [
         arrive(0, 1, 0, 0),
@@ -157,7 +157,7 @@ fn equal_due_dates(rt: &impl Abort, alloc: Global) -> Log {
     log_of(rt, alloc, entries.as_slice())
 }
 
-/// Grants from three queues, of four classes.
+/// Grants from three queues and of four classes.
 fn four_queues_and_classes(rt: &impl Abort, alloc: Global) -> Log {
     let entries = [
         arrive(0, 1, 7, 0),
@@ -178,7 +178,7 @@ fn four_queues_and_classes(rt: &impl Abort, alloc: Global) -> Log {
     log_of(rt, alloc, entries.as_slice())
 }
 
-/// A stay of the backend's queue, due at `offset` after `at`.
+/// A stay in the backend's queue, due `offset` after `at`.
 fn stay(ticket: u64, joined: usize, slot: usize, at: u64, offset: i64) -> Stay {
     Stay {
         ticket,
@@ -188,7 +188,7 @@ fn stay(ticket: u64, joined: usize, slot: usize, at: u64, offset: i64) -> Stay {
     }
 }
 
-/// What a report claims of class 0 of the backend's queue.
+/// The claim of a report on class 0 of the backend's queue.
 #[derive(Clone, Copy)]
 struct Claim<'a> {
     granted: usize,
@@ -230,7 +230,7 @@ fn report(rt: &impl Abort, alloc: Global, claim: Claim<'_>) -> Report {
     }
 }
 
-/// Whether two reports claim the same.
+/// Says whether two reports claim the same.
 fn are_alike(a: &Report, b: &Report) -> bool {
     a.queue == b.queue
         && a.class == b.class
@@ -242,7 +242,7 @@ fn are_alike(a: &Report, b: &Report) -> bool {
         && a.critical.as_slice() == b.critical.as_slice()
 }
 
-/// Whether these are this one report.
+/// Says whether these are this one report.
 fn are_just(reports: &[Report], expected: &Report) -> bool {
     match reports {
         [only] => are_alike(only, expected),
@@ -250,14 +250,14 @@ fn are_just(reports: &[Report], expected: &Report) -> bool {
     }
 }
 
-/// Whether a log has this one report, and it passes the audit.
+/// Says whether a log has this one report, and it passes the audit.
 fn is_certified(rt: &impl Abort, alloc: Global, log: &Log, claim: Claim<'_>) -> bool {
     let expected = report(rt, alloc, claim);
     let reports = certify(alloc, log).expect(rt, "memory");
     are_just(reports.as_slice(), &expected) && audit(log, &expected)
 }
 
-/// Whether a report passes the audit of a log.
+/// Says whether a report passes the audit of a log.
 fn passes_on(rt: &impl Abort, alloc: Global, log: &Log, claim: Claim<'_>) -> bool {
     audit(log, &report(rt, alloc, claim))
 }
@@ -300,7 +300,7 @@ fn equal_due_dates_are_critical_together(rt: HostRuntime) {
     holds(&rt, is_certified(&rt, rt.alloc(), &log, expected));
 }
 
-/// What a report is about, and how many grants.
+/// Returns what a report is about, and its number of grants.
 fn about(reports: &Reports, place: usize) -> Option<(Queue, i64, usize)> {
     let it = reports.as_slice().get(place)?;
     Some((it.queue, it.class.get(), it.granted))
@@ -333,13 +333,13 @@ fn three() -> Stay {
     stay(3, 6, 10, 2, -5)
 }
 
-/// Whether a claim passes on the log of the overtaking.
+/// Says whether a claim passes the audit of the log of the overtaking.
 fn passes(rt: &impl Abort, alloc: Global, claim: Claim<'_>) -> bool {
     let log = overtaking(rt, alloc);
     passes_on(rt, alloc, &log, claim)
 }
 
-/// Stops the test where a claim passes on that log, and prints which.
+/// Fails the test where a claim passes the audit of that log, and prints which.
 fn fails(rt: &impl Abort, alloc: Global, what: &str, claim: Claim<'_>) {
     let passed = passes(rt, alloc, claim);
     assert!(rt; !passed, "{what}");
@@ -399,7 +399,7 @@ fn counts_due_dates_slots_and_cuts_are_exact(rt: HostRuntime) {
     }
 }
 
-/// Whether a claim passes on the log of the overtaking, made of this queue and class.
+/// Says whether a claim on this queue and class passes the audit of the log of the overtaking.
 fn passes_elsewhere(
     rt: &impl Abort,
     alloc: Global,
@@ -424,7 +424,7 @@ fn queues_and_classes_are_exact(rt: HostRuntime) {
     holds(&rt, !passes_elsewhere(&rt, rt.alloc(), elsewhere, 0, none));
 }
 
-/// Whether a report with this cut passes where ticket 2 had its slot before ticket 3 came.
+/// Says whether a report with this cut passes the audit where ticket 2 had its slot before ticket 3 came.
 fn passes_with_cut(rt: &impl Abort, alloc: Global, after: usize, critical: &[Stay]) -> bool {
     let log = granted_before_the_next_came(rt, alloc);
     passes_on(rt, alloc, &log, claiming(2, 15, 5, (after, 14), critical))

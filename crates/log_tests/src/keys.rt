@@ -1,7 +1,7 @@
 use crate::assertions::{holds, same};
 use due_key::{Class, Due, Key, Moment, Offset};
 
-// A moment. A number out of range, which no test has, would be 0: so what is made of it can't fail.
+// Makes a moment. A number out of range, which no test has, would give 0, so this can't fail.
 fn moment(number: u64) -> Moment {
     Moment::new(number).unwrap_or(Moment::zero())
 }

@@ -1,5 +1,5 @@
-//! Tests of the words of the trade, of logs, of windows that can be read back, and of their reports: a crate of their own, so that what they test isn't
-//! proved once more with them.
+//! Tests of keys, of logs, of windows that are read back, and of their reports. They are a crate of
+//! their own, so that the crates under test aren't proved a second time with them.
 #![tactic(auto)]
 
 #[cfg(test)]

@@ -11,7 +11,7 @@ use readable_log::{Base, BaseRow, Log, SlotGrant, Stay, Unreadable};
 use std::alloc::Global;
 use std::process::Abort;
 
-// A moment. A number out of range, which no test has, would be 0: so what is made of it can't fail.
+// Makes a moment. A number out of range, which no test has, would give 0, so this can't fail.
 fn moment(number: u64) -> Moment {
     Moment::new(number).unwrap_or(Moment::zero())
 }
@@ -64,7 +64,7 @@ fn seven() -> Row {
     }
 }
 
-// A base in which that one waits at the second place.
+// A base in which ticket 7 waits at the second place.
 fn with_seven(rt: &impl Abort, alloc: Global) -> Base
     ensures { length result.rows ≡ 2 }
 {
@@ -166,7 +166,7 @@ enum Told {
     Granted(u64, Queue),
 }
 
-// What is read behind a base, in which ticket 7 waits or nobody, and why it isn't taken.
+// The entries after a base, in which ticket 7 waits or no request does, and why the window is refused.
 struct Window {
     name: &'static str,
     waits: bool,

@@ -1,4 +1,4 @@
-//! What is printed of causes, refusals and faults.
+//! Tests of the texts of causes, refusals and faults.
 
 use crate::assertions::same;
 use dispatch_log::Refusal;
@@ -33,7 +33,7 @@ static UNREADABLE: [(Unreadable, &str); 2] = [
     (Unreadable::NotReadable, "not a readable log"),
 ];
 
-// Each has its text.
+// Checks the text of each.
 fn say<T: Display>(rt: &impl Abort, alloc: Global, rows: &[(T, &str)]) {
     for (it, text) in rows {
         let said = it.to_string(alloc).expect(rt, "memory");

@@ -1,4 +1,4 @@
--- When requests came and when they got their slots.
+-- When requests arrived and when they got their slots.
 use Rattle.std.specs.Prelude.{List, Option, None}
 use Rattle.std.specs.Option.{option_map}
 use Rattle.dispatch_log.specs.declared.entry.Entry.{Entry}
@@ -9,7 +9,7 @@ use Rattle.log_stretches.specs.declared.stretch.Lane.TheVariants.{Queue, Server}
 use Rattle.log_stretches.specs.Courses.{came_in}
 use Rattle.log_waits.specs.declared.services.Served.{Served}
 
--- who had this stretch of a log in a slot of a server, if it was one and they came
+-- the service of this stretch, where it is one and its request arrived
 abbrev pub service_at : List Entry → Stretch → Lane → Option Served
 service_at log stretch (Queue queue) = None
 service_at log stretch (Server server) = option_map (λ came. record {

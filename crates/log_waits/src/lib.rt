@@ -1,4 +1,5 @@
-//! Who of a log waited how long, and whether those that waited together got their slots in the order of their keys.
+//! How long the requests of a log waited, and whether those that waited together got their slots in
+//! the order of their keys.
 #![tactic(auto)]
 
 mod order;

@@ -1,4 +1,4 @@
-//! Whether those that wait together get their slots in the order of their keys.
+//! Whether requests that wait together get their slots in the order of their keys.
 
 ghost use Rattle.std.specs.Prelude.{◌≡◌, ◌↔◌, All, IfOk, IsTrue, filter_map};
 ghost use Rattle.log_waits.specs.Orders.{stay_in, WaitedTogether, KeepOrder, AreInOrder};
@@ -10,7 +10,7 @@ use due_key::Key;
 use log_stretches::{Course, Lane, Stretch};
 use std::alloc::{AllocError, Global};
 
-/// A wait that is over. Positions count the entries of a log from 1.
+/// A wait that has ended. Positions count the entries of a log from 1.
 #[derive(Clone, Copy, Debug, PartialEq, Eq)]
 pub struct Stayed {
     pub key: Key,
@@ -21,7 +21,7 @@ pub struct Stayed {
     pub left: usize,
 }
 
-/// The waits of a log that are over, in the order in which they began.
+/// Returns the waits of a log that have ended, in the order in which they began.
 pub fn stays_in(alloc: Global, course: &Course) -> Result<Vec<Stayed>, AllocError>
     ensures { IfOk result (λ stays. stays.items ≡ filter_map (stay_in course.now) (stretches_of course.now)) }
 {
@@ -47,7 +47,7 @@ fn stay_in(course: &Course, stretch: &Stretch) -> Option<Stayed>
     })
 }
 
-/// Whether of any two that waited together the one with the smaller key left first. `O(n²)`.
+/// Says whether of any two that waited together the one with the smaller key left first. `O(n²)`.
 pub fn are_in_order(stays: &[Stayed]) -> bool
     ensures { IsTrue result ↔ AreInOrder stays.now }
 {

@@ -1,4 +1,4 @@
-//! When requests came and when they got their slots.
+//! When requests arrived and when they got their slots.
 
 ghost use Rattle.std.specs.Prelude.{◌≡◌, IfOk, filter_map};
 ghost use Rattle.log_waits.specs.Services.{service_in};
@@ -8,7 +8,7 @@ use due_key::{Class, Due, Moment};
 use log_stretches::{Course, Lane, Stretch};
 use std::alloc::{AllocError, Global};
 
-/// A request that got a slot, as it came.
+/// A request that got a slot, with its arrival.
 #[derive(Clone, Copy, Debug, PartialEq, Eq)]
 pub struct Served {
     pub ticket: u64,
@@ -20,7 +20,8 @@ pub struct Served {
     pub server: usize,
 }
 
-/// The requests of a log that got a slot, in the order in which they got them; one that got two stands there twice.
+/// Returns the requests of a log that got a slot, in the order in which they got them; a request
+/// with two slots stands there twice.
 pub fn services_in(alloc: Global, course: &Course) -> Result<Vec<Served>, AllocError>
     ensures { IfOk result (λ services. services.items ≡ filter_map (service_in course.now) (stretches_of course.now)) }
 {

@@ -2,7 +2,7 @@ use super::{Stayed, are_in_order};
 use dispatch_log::Queue;
 use due_key::{Class, Due, Key, Moment, Offset};
 
-// Class, due date and ticket, the queue, and the positions at which it joined and left the queue.
+// Class, due date and ticket, the queue, and the positions at which the request joined and left the queue.
 type Stay = (i64, i64, u64, Queue, usize, usize);
 
 const HERE: Queue = Queue::Backend;

@@ -1,7 +1,8 @@
 //! From outside to a place.
 //!
-//! Whoever comes outside looks for a place afterwards, and whoever frees a place looks outside afterwards: so one of the two should find the other. That is
-//! argued here, and in no clause.
+//! Whoever comes outside looks for a place afterwards, and whoever frees a place looks outside
+//! afterwards, so one of the two should find the other. No clause says that; it is argued here
+//! only.
 
 use crate::outside::{Outside, Outsider};
 use crate::shared::Shared;
@@ -20,28 +21,28 @@ use std::sync::Wait;
 use std::sync::atomic::Ordering;
 use std::sync::ledger::Ledger;
 
-/// What becomes of the request that is next.
+/// What happened to the first request outside.
 pub enum Turn {
-    /// It has a place.
+    /// It has a place now.
     Admitted(Outsider, Ticketed),
     /// The dispatcher refuses it for another cause than want of places.
     Refused(Outsider),
-    /// It waits on, or nobody does.
+    /// It waits on, or no request does.
     Rests,
 }
 
 impl<N: BoardName + Ledger> Shared<'_, N> {
-    /// Whether somebody waits for a place.
+    /// Says whether a request waits for a place.
     pub fn has_outside(&self) -> bool {
         self.outsiders() != 0
     }
 
-    /// How many wait for a place.
+    /// Returns the number of requests that wait for a place.
     pub fn outsiders(&self) -> u64 {
         self.outsiders.load(Ordering::SeqCst)
     }
 
-    // So many wait for a place.
+    // Publishes the number of requests that wait for a place.
     fn note_outside(&self, outside: &Outside) {
         let requests = outside.len() as u64;
         self.outsiders.store(requests, Ordering::SeqCst);
@@ -50,13 +51,13 @@ impl<N: BoardName + Ledger> Shared<'_, N> {
         }
     }
 
-    /// Whether so many wait that nobody else is accepted.
+    /// Says whether the anteroom is so full that no client is accepted.
     pub fn is_crowded(&self) -> bool {
         self.most_outside <= self.outsiders()
     }
 
-    /// The first request of all has a place from now on, where there is one. It and its arrival are one step for all threads, so that no two loops turn two
-    /// requests round.
+    /// Gives the first request outside a place, where there is one. Taking it out and its arrival
+    /// are one step for all threads, so no two loops reverse the order of two requests.
     pub fn admit_first<R: Wait, G: Gate>(&self, rt: &R, gate: &mut G) -> Turn {
         let mut outside = self.outside.lock(rt);
         let Some((deferred, token)) = outside.next() else {
@@ -75,7 +76,8 @@ impl<N: BoardName + Ledger> Shared<'_, N> {
         }
     }
 
-    /// A request waits for a place from now on, and the poll of this registry tells of its client. It comes back where there is no memory for it, or no room.
+    /// Lets a request wait for a place, with its client watched by the poll of this registry. It
+    /// comes back where there is no memory or no room for it.
     pub fn come_outside<R: Wait>(
         &self,
         rt: &R,
@@ -98,7 +100,7 @@ impl<N: BoardName + Ledger> Shared<'_, N> {
         }
     }
 
-    /// Takes a request out whose client left. None: it waits on, or is gone already.
+    /// Takes out a request whose client left. `None`: it waits on, or is gone already.
     pub fn leave_outside<R: Wait>(&self, rt: &R, token: Token) -> Option<Outsider> {
         let mut outside = self.outside.lock(rt);
         let left = match outside.client(token) {
@@ -113,7 +115,7 @@ impl<N: BoardName + Ledger> Shared<'_, N> {
         taken
     }
 
-    /// Takes the one out that is next.
+    /// Takes out the first request.
     pub fn take_first<R: Wait>(&self, rt: &R) -> Option<Outsider> {
         let mut outside = self.outside.lock(rt);
         let first = outside.take_first();
@@ -121,7 +123,7 @@ impl<N: BoardName + Ledger> Shared<'_, N> {
         first
     }
 
-    /// Takes one out that has waited too long at this moment.
+    /// Takes out a request that has waited too long at this moment.
     pub fn take_late<R: Wait>(&self, rt: &R, now: &Moment) -> Option<Outsider> {
         let mut outside = self.outside.lock(rt);
         let late = outside.take_late(*now);

@@ -1,4 +1,4 @@
-//! Who is here, counted.
+//! The count of the present clients.
 
 ghost use Rattle.std.specs.Prelude.{◌≡◌};
 
@@ -11,18 +11,18 @@ use std::sync::atomic::Ordering;
 use std::sync::ledger::Ledger;
 
 impl<N: BoardName + Ledger> Shared<'_, N> {
-    /// How many clients are here.
+    /// Returns the number of present clients.
     pub fn clients(&self) -> u64 {
         let ended = self.ended.load(Ordering::SeqCst);
         self.came.load(Ordering::SeqCst).saturating_sub(ended)
     }
 
-    /// Whether there are descriptors for one client more.
+    /// Says whether there are descriptors for one more client.
     pub fn has_room(&self) -> bool {
         self.clients() < self.most.clients
     }
 
-    /// A client came, of this address.
+    /// Notes that a client came from this address.
     pub fn note_client(&self, address: IpAddr) -> Presence
         ensures { result.address ≡ address }
     {
@@ -30,7 +30,7 @@ impl<N: BoardName + Ledger> Shared<'_, N> {
         Presence::begin(address)
     }
 
-    /// A client is through. Where it was the last one that may come, all threads are told.
+    /// Notes that a client is done. Where it was the last one that may come, all threads are told.
     pub fn note_end<R: Wait>(&self, rt: &R, presence: Presence) {
         presence.end();
         let before = self.ended.fetch_add(1, Ordering::SeqCst);

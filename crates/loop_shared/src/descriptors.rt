@@ -1,36 +1,38 @@
-//! How many clients there are descriptors for.
+//! The number of clients that there are descriptors for.
 
 ghost use Rattle.std.specs.Prelude.{◌≡◌, ◌-◌, ◌/◌, max, min};
 ghost use Rattle.loop_shared.specs.Descriptors.{most_clients};
 
 use libc::types::rlimit;
 
-/// What a process has beside its clients and servers, at most: its streams, the listener, a check of each server, its logs, and operators' connections: 32 for
-/// steering and 16 for numbers.
+/// The most descriptors of a process beside its clients and servers: its standard streams, the
+/// listener, a check of each server, its logs, and operators' connections (32 for steering and 16
+/// for the admin address).
 const OWN: u64 = 128;
 
-/// What a loop has: its poll, that poll's copy, and its mailbox.
+/// The descriptors of a loop: its poll, that poll's copy, and its mailbox.
 const EACH_LOOP: u64 = 3;
 
-/// How many connections there may be at a time.
+/// The most connections at a time.
 #[derive(Clone, Copy, Debug, PartialEq, Eq)]
 pub struct Most {
-    /// Of clients that are served, or wait.
+    /// Of clients that are served or wait.
     pub clients: u64,
-    /// Of clients that were told everything, and linger.
+    /// Of clients that linger after their last answer.
     pub lingering: u64,
-    /// Of servers, that nobody uses.
+    /// Of servers, unused.
     pub unused: u64,
 }
 
-/// What servers' connections there may be: so many that are used, and so many that stay open unused.
+/// The servers' connections: the most in use, and the most that stay open unused.
 #[derive(Clone, Copy)]
 pub struct ServerConnections {
     pub used: usize,
     pub unused: usize,
 }
 
-/// What the process has descriptors for, with so many loops and so many servers' connections.
+/// Returns the numbers of connections that the process has descriptors for, with this number of
+/// loops and these servers' connections.
 pub fn most_connections(loops: usize, servers: ServerConnections) -> Most {
     let mut limit = rlimit {
         rlim_cur: 0,
@@ -44,8 +46,10 @@ pub fn most_connections(loops: usize, servers: ServerConnections) -> Most {
     most_within(descriptors, servers.used as u64, servers.unused as u64)
 }
 
-// Of so many descriptors an eighth are for those that linger, and another for unused connections of servers, where so many are wanted. A client has one, and one
-// for a server at most: of the others it has all but those of the servers' connections, or half of them where that is more. One client there always is.
+// Divides the descriptors: an eighth are for lingering clients, and up to another eighth for unused
+// connections of servers, where these are wanted. A client has one, and at most one more for a
+// server: clients get all others except those for the servers' connections, or half of them where
+// that is more. There is always room for one client.
 fn most_within(descriptors: u64, servers: u64, wanted: u64) -> Most
     ensures lingering { result.lingering ≡ descriptors / 8 }
     ensures unused { result.unused ≡ min (descriptors / 8) wanted }

@@ -5,7 +5,8 @@ use grant_board::BoardName;
 use lent_seats::Taken;
 use std::sync::ledger::Ledger;
 
-/// A request whose verdict was found at its place, and a seat that is lent with its pass. It has no `Drop`: its pass is posted.
+/// A request whose verdict was found at its place, and a lent seat with its pass. It has no `Drop`:
+/// its pass has to be posted.
 pub struct Granted<N: BoardName + Ledger> {
     pub taken: Taken<N>,
     pub parked: Parked,

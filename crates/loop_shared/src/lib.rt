@@ -1,7 +1,10 @@
-//! What all threads of a proxy share: who waits for a pass and who for a place, the seats, who is told of what, and how it ends.
+//! The state that all threads of a proxy share: the requests that wait for a pass and those that
+//! wait for a place, the seats, the mailboxes, and the end.
 //!
-//! A request that arrived lies in the spot of its place, and then its place is looked at: where its pass is there, whoever looked goes on with it. Whoever is
-//! told that a verdict was offered at a place looks there afterwards. So one of the two should find the pass, in whatever order they come: that is argued here, and in no clause.
+//! A request that arrived is put at its place, and then the place is looked at: where its pass is
+//! there, the thread that looked goes on with it. A thread that is told of an offer at a place
+//! looks there afterwards. So one of the two should find the pass, in whichever order they come. No
+//! clause says that; it is argued here only.
 #![tactic(auto)]
 
 mod admission;
@@ -43,6 +46,6 @@ pub use unused::UnusedCounts;
 pub use watching::{watch, watch_anew};
 pub use windows::run_windows;
 
-// What loops need of the layers below comes with this crate.
+// The loops get the items of the layers below from this crate.
 pub use relay_workers::{Gate, Proxy, arrive_as, join_all, split_off};
 pub use socket_gate::{Front, Site, SocketGate};

@@ -1,4 +1,4 @@
-//! Looks at places: a request that waits there, and its pass.
+//! Looks at places: the request that waits there, and its pass.
 
 ghost use Rattle.std.specs.Prelude.{◌≡◌, ◌<◌, IfSome};
 ghost use Rattle.loop_shared.specs.Looks.{EndsLook};
@@ -16,22 +16,22 @@ use std::os::fd::AsRawFd;
 use std::sync::Wait;
 use std::sync::ledger::Ledger;
 
-/// What became of a look at a place.
+/// The result of looking at a place.
 pub enum Looked<N: BoardName + Ledger> {
     /// The request that waited there, with its pass.
     Granted(Granted<N>),
-    /// It waits on, and some loop's poll tells of its client.
+    /// It waits on, and some loop's poll watches its client.
     Waits,
-    /// It waits on, and the system refuses to tell of its client. It is given up: this is its ticket.
+    /// It waits on, and the system refuses to watch its client. It has to be given up: this is its ticket.
     Unwatched(u64),
-    /// It waits on, and no seat was left by which its pass could be asked for: the place is to be looked at again.
+    /// It waits on, and no seat was free to ask for its pass: the place has to be looked at again.
     NoSeat,
-    /// Nobody waits there.
+    /// No request waits there.
     Nobody,
 }
 
 impl<N: BoardName + Ledger> Shared<'_, N> {
-    /// Looks at a place. Whoever waits on there is watched for its leaving alone, by one loop.
+    /// Looks at a place. A request that waits on has its client watched by one loop, for its leaving only.
     pub fn look_at<R: Wait>(&self, rt: &R, registry: &Registry, place: usize) -> Looked<N> {
         let Some(spot) = self.spots.as_slice().get(place) else {
             return Looked::Nobody;
@@ -40,7 +40,7 @@ impl<N: BoardName + Ledger> Shared<'_, N> {
         self.look_in(rt, registry, &mut *spot)
     }
 
-    // What is in a spot comes out with its pass, or stays there.
+    // Takes the request of a place out with its pass, or leaves it there.
     fn look_in<R: Wait>(&self, rt: &R, registry: &Registry, spot: &mut Option<Parked>) -> Looked<N>
         ensures { EndsLook spot.old spot.new result }
     {
@@ -69,7 +69,7 @@ impl<N: BoardName + Ledger> Shared<'_, N> {
         }
     }
 
-    // The pass of a place and a ticket, where it is offered. Else the seat comes back.
+    // Takes the pass of a place and a ticket, where it is offered. Otherwise the seat comes back.
     fn ask<R: Wait>(&self, rt: &R, lent: Lent<N>, at: Ticketed) -> Option<Taken<N>>
         ensures { IfSome result (λ taken. (taken.held.pass.place ≡ at.place) × (taken.held.pass.ticket ≡ at.ticket)) }
     {
@@ -87,7 +87,7 @@ impl<N: BoardName + Ledger> Shared<'_, N> {
     }
 }
 
-// Has the poll of this registry tell of a client that waits. False where the system refuses that.
+// Registers the client of a waiting request with the poll of this registry. False where the system refuses that.
 fn watches(registry: &Registry, parked: &Parked) -> bool {
     let Some(live) = parked.client.socket() else {
         return true;

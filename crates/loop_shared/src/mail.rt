@@ -3,7 +3,7 @@ use place_set::PlaceSet;
 use std::mem;
 use std::sync::{Mutex, Wait};
 
-/// Where a loop is told of places to look at.
+/// A loop's mailbox: the places that it is asked to look at.
 #[derive(Drop)]
 pub struct Mailbox {
     pub(crate) places: Mutex<PlaceSet>,
@@ -11,7 +11,7 @@ pub struct Mailbox {
 }
 
 impl Mailbox {
-    /// Has the loop look at one more place.
+    /// Asks the loop to look at one more place.
     pub(crate) fn send<R: Wait>(&self, rt: &R, place: usize) {
         if place < 4096 {
             self.places.lock(rt).insert(place);
@@ -21,11 +21,11 @@ impl Mailbox {
 
     /// Ends the loop's wait.
     pub(crate) fn ring(&self) {
-        // It fails only where the loop has a wake before it already.
+        // A wake fails only where an earlier one is still pending.
         let _ = self.waker.wake();
     }
 
-    /// All places since it was last asked.
+    /// Takes all places since the last call.
     pub(crate) fn take_all<R: Wait>(&self, rt: &R) -> PlaceSet {
         mem::replace(&mut *self.places.lock(rt), PlaceSet::new())
     }

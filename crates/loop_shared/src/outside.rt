@@ -1,4 +1,5 @@
-//! Requests beyond the places. They wait by class and due date, those of all loops in one order, and the next free place is for the first.
+//! Requests beyond the places. They wait by class and due date, those of all loops in one order,
+//! and the next free place goes to the first.
 
 use crate::presence::Presence;
 use anteroom::Anteroom;
@@ -11,37 +12,38 @@ use prio_rules::Wish;
 use seated_exchange::Queued;
 use std::alloc::{AllocError, Global};
 
-/// So many requests wait for a place, at most.
+/// The most requests that wait for a place.
 pub(crate) const MOST_OUTSIDE: usize = 131_072;
 
-/// A client whose request waits for a place. It has no `Drop`, as its presence has none.
+/// A client whose request waits for a place. It has no `Drop`, since its presence has none.
 pub struct Outsider {
     pub presence: Presence,
     pub queued: Queued,
     pub client: Line<Live>,
     /// When it began to wait.
     pub came: Moment,
-    /// The server that it is bound to.
+    /// The server that its request is pinned to.
     pub pin: Option<usize>,
 }
 
-/// It with its key in the order of all.
+/// A client with its request's key in the common order.
 struct Standing {
     key: Key,
     outsider: Outsider,
 }
 
-/// All that wait for a place. It has no `Drop`, as its table has none.
+/// All clients whose requests wait for a place. It has no `Drop`, since its table has none.
 pub struct Outside {
     order: Anteroom<ListQueue<Key, usize>>,
     standing: Slots<Box<Standing>>,
     limits: Limits,
-    /// The number of `timeout queue` among the limits. None: without an end.
+    /// The number of `timeout queue` among the limits. `None`: without limit.
     patience: Option<usize>,
 }
 
 impl Outside {
-    /// Nobody waits. Each client may, as many as there are at most, for so many milliseconds. Refused only where memory is short.
+    /// Makes an empty anteroom, with room for all clients, each for this number of milliseconds.
+    /// Fails only where memory is refused.
     pub fn new(alloc: Global, clients: u64, millis: Option<u64>) -> Result<Outside, AllocError> {
         let room = usize::try_from(clients)
             .unwrap_or(MOST_OUTSIDE)
@@ -61,12 +63,13 @@ impl Outside {
         })
     }
 
-    /// How many wait.
+    /// Returns the number of requests that wait.
     pub(crate) fn len(&self) -> usize {
         self.order.len()
     }
 
-    /// A request comes, and is answered by what it is known. It comes back where there is no memory for it, or no room.
+    /// Adds a request, and returns the token that names it. It comes back where there is no memory
+    /// or no room for it.
     pub(crate) fn come(
         &mut self,
         alloc: Global,
@@ -106,7 +109,7 @@ impl Outside {
         }
     }
 
-    // Nobody may have looked at the clock for long.
+    // Begins its timeout. The clock may not have been read for long.
     fn begin_time(&mut self, number: usize, now: Moment) {
         self.limits.look_at_clock(now);
         if let Some(patience) = self.patience {
@@ -114,7 +117,7 @@ impl Outside {
         }
     }
 
-    /// What the next free place is asked for.
+    /// Returns the wish of the first request, for the next free place.
     pub(crate) fn next(&mut self) -> Option<(Deferred, Token)> {
         let (key, number) = self.order.first()?;
         let token = self.standing.token_of(number)?;
@@ -127,7 +130,7 @@ impl Outside {
         Some((deferred, token))
     }
 
-    /// A request waits here no more: it is handed out. None: it is gone already.
+    /// Takes a request out. `None`: it is gone already.
     pub(crate) fn take(&mut self, token: Token) -> Option<Outsider> {
         let (standing, hole) = self.standing.lend(token)?;
         self.standing.close(hole);
@@ -139,20 +142,20 @@ impl Outside {
         Some(outsider)
     }
 
-    /// The request for which the next free place is. It is handed out.
+    /// Takes out the request that gets the next free place.
     pub(crate) fn take_first(&mut self) -> Option<Outsider> {
         let (_, number) = self.order.first()?;
         let token = self.standing.token_of(number)?;
         self.take(token)
     }
 
-    /// The client of a request that waits.
+    /// Returns the client of a request that waits.
     pub(crate) fn client(&self, token: Token) -> Option<&Live> {
         let standing = self.standing.get(token)?;
         standing.outsider.client.socket()
     }
 
-    /// A request that has waited too long at this moment, which is handed out.
+    /// Takes out a request that has waited too long at this moment.
     pub(crate) fn take_late(&mut self, now: Moment) -> Option<Outsider> {
         self.limits.look_at_clock(now);
         let Some(overdue) = self.limits.take_overdue() else {
@@ -163,7 +166,7 @@ impl Outside {
         self.take(token)
     }
 
-    /// All that still wait are let go.
+    /// Ends the presence of all clients that still wait.
     pub fn end(self) {
         let Outside {
             order: _,
@@ -183,7 +186,7 @@ impl Outside {
 }
 
 impl Outsider {
-    /// It waits no more: what is left is that its client is here.
+    /// Takes the request out of its wait, and returns its client's presence.
     pub fn leave(self) -> Presence {
         let Outsider {
             presence,
@@ -197,7 +200,7 @@ impl Outsider {
 }
 
 impl Standing {
-    // It is here no more, as nobody is.
+    // Ends the presence together with the proxy.
     fn end(self) {
         let Standing { key: _, outsider } = self;
         outsider.leave().end();

@@ -4,7 +4,8 @@ ghost use Rattle.place_set.specs.Sets.{Has};
 
 use place_set::PlaceSet;
 
-/// Places at which a loop owes a look. It has no `Drop`: it is ended once no look is owed, so that none is forgotten.
+/// The places that a loop still has to look at. It has no `Drop`: it can be ended only once no look
+/// is owed, so none is forgotten.
 pub struct OwedLooks {
     pub places: PlaceSet,
 }
@@ -16,7 +17,7 @@ impl OwedLooks {
         OwedLooks { places }
     }
 
-    /// A place at which a look is owed, and is none any more: the caller looks there. None: no look is owed.
+    /// Returns a place at which a look is owed, and removes it: the caller looks there. `None`: no look is owed.
     pub fn next(&mut self) -> Option<usize>
         ensures none { MatchOption result (OwesNoLook self.old.places) (Has self.old.places) }
         ensures left { MatchOption result (self.new ≡ self.old) (λ it. (other : ℕ) → Has self.new.places other ↔ ((other ≢ it) × Has self.old.places other)) }

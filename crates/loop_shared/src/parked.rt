@@ -4,33 +4,33 @@ use due_key::Moment;
 use exchange_driver::{Line, Live};
 use seated_exchange::Queued;
 
-/// A client whose request waits for its pass. It has no `Drop`, as its presence has none.
+/// A client whose request waits for its pass. It has no `Drop`, since its presence has none.
 pub struct Parked {
     pub presence: Presence,
     pub queued: Queued,
     pub client: Line<Live>,
     pub at: Ticketed,
-    /// The server that was last tried for it in vain.
+    /// The server that was last tried for it without success.
     pub failed: Option<usize>,
-    /// Some loop's poll tells of its client.
+    /// Some loop's poll watches its client.
     pub watched: bool,
-    /// When it began to wait for its place, where it had to.
+    /// When it began to wait for its place, if it had to.
     pub came: Option<Moment>,
     /// It is given up, and its client is told so.
     pub late: bool,
 }
 
-/// Whose requests are given up, and told that they aren't served.
+/// Which requests are given up, and told that they aren't served.
 #[derive(Drop)]
 pub enum Hopeless {
     /// All.
     All,
-    /// Those that waited for their place, and for so many milliseconds since they came, at this moment.
+    /// Those that had to wait for their place, and came at least this number of milliseconds before this moment.
     Late { now: Moment, millis: u64 },
 }
 
 impl Parked {
-    /// It waits no more: what is left is that its client is here.
+    /// Takes the request out of its wait, and returns its client's presence.
     pub fn leave(self) -> Presence {
         let Parked {
             presence,
@@ -45,7 +45,7 @@ impl Parked {
         presence
     }
 
-    /// Whether its request is one of those, and isn't given up yet.
+    /// Says whether its request is one of those, and isn't given up yet.
     pub(crate) fn is_hopeless(&self, hopeless: &Hopeless) -> bool {
         if self.late {
             return false;

@@ -1,4 +1,4 @@
-//! A poll for each loop, and where it is told of places.
+//! A poll for each loop, and its mailbox.
 
 use crate::mail::Mailbox;
 use crate::watching::watch;
@@ -11,7 +11,8 @@ use std::net::{Net, TcpListener, TcpStream};
 use std::os::fd::AsRawFd;
 use std::sync::Mutex;
 
-/// A poll for each loop, with the listener in it, and its mailbox. Fails where the system has no poll, too.
+/// Makes a poll for each loop, with the listener in it, and its mailbox. Fails where memory is
+/// refused, or the system refuses a poll.
 pub fn polls_of<R: Net<Listener = TcpListener, Stream = TcpStream>>(
     rt: &R,
     alloc: Global,

@@ -3,11 +3,12 @@ ghost use Rattle.std.specs.Prelude.{◌≡◌};
 use request_lines::Account;
 use std::net::IpAddr;
 
-/// A client that is here: it was taken in, and isn't through. It has no `Drop`: its end is noted (`Shared::note_end`), so that none is forgotten.
+/// The presence of a client that was accepted and isn't done. It has no `Drop`: its end has to be
+/// noted (`Shared::note_end`), so none is forgotten.
 pub struct Presence {
-    // It is private, so that nobody else makes one.
+    // It is private, so no other module makes one.
     address: IpAddr,
-    /// What is accounted of its exchange, where lines of exchanges are wanted.
+    /// The record of its exchange, where lines of exchanges are wanted.
     pub account: Option<Box<Account>>,
 }
 
@@ -21,7 +22,8 @@ impl Presence {
         }
     }
 
-    /// The address that it had when it came. Of a peer that has gone the system tells none.
+    /// Returns the address that the client had when it came. (The system doesn't tell the address
+    /// of a peer that has gone.)
     pub fn address(&self) -> IpAddr
         ensures { result ≡ self.now.address }
     {

@@ -1,4 +1,4 @@
-//! The thread that has servers checked, and how others than loops tell of places.
+//! The thread that checks the servers, and how threads that aren't loops report places.
 
 use crate::shared::Shared;
 use due_key::Moment;
@@ -13,12 +13,13 @@ use std::sync::atomic::AtomicBool;
 use std::sync::ledger::Ledger;
 use std::time::Clock;
 
-/// The thread that has servers checked looks whether a check is due whenever so many milliseconds have passed, as long as the proxy runs.
+/// The thread that checks the servers looks whether a check is due each time this number of
+/// milliseconds has passed, as long as the proxy runs.
 const CHECK_PAUSE: u64 = 10;
 
 const CHECK_PAUSES: u64 = 1 << 62;
 
-/// A gate of a thread that is no loop: what it is told of places, the loops are told.
+/// The gate of a thread that isn't a loop: it reports places to the loops.
 #[derive(Drop)]
 pub(crate) struct Ringing<'a, N: BoardName + Ledger, R> {
     pub(crate) rt: &'a R,
@@ -64,7 +65,7 @@ impl<
     }
 }
 
-/// Has servers checked, until it is told to stop.
+/// Checks the servers until it is told to stop.
 pub fn run_checks<
     'a,
     R: Net<Listener = TcpListener, Stream = TcpStream> + Clock + Print + Wait,

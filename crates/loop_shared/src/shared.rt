@@ -21,60 +21,60 @@ use std::sync::atomic::{AtomicBool, AtomicU64, Ordering};
 use std::sync::ledger::{Blank, Ledger};
 use std::sync::{Condvar, Mutex, Wait};
 
-/// What it is made of. It has no `Drop`, as `Outside` has none.
+/// The parts that it is made of. It has no `Drop`, since `Outside` has none.
 pub struct SharedParts {
-    /// One for each place.
+    /// A spot for each place.
     pub spots: Vec<Mutex<Option<Parked>>>,
-    /// One for each loop.
+    /// A mailbox for each loop.
     pub mail: Vec<Mailbox>,
-    /// So many connections of clients are had at a time.
+    /// The most connections of clients at a time.
     pub most: Most,
-    /// Where requests wait that find no place, and how many are there before no client is accepted.
+    /// The requests that wait for a place, and how many of them stop the accepting of clients.
     pub outside: Outside,
     pub most_outside: u64,
-    /// How many unused connections of servers there are.
+    /// The counts of unused connections of servers.
     pub unused: UnusedCounts,
 }
 
-/// What all threads share.
+/// The state that all threads share.
 pub struct Shared<'a, N: BoardName + Ledger> {
     pub proxy: &'a Proxy<N>,
     pub front: &'a Front<'a>,
-    /// Where the request of each place lies until its pass is there.
+    /// The spot of each place, where its request lies until its pass is there.
     pub(crate) spots: Vec<Mutex<Option<Parked>>>,
-    /// The seats: those that are idle and those that are lent.
+    /// The seats: the idle ones and the lent ones.
     pub(crate) seats: Mutex<Seats<N>>,
-    /// Who waits for a place, and how many they are.
+    /// The requests that wait for a place, and their number.
     pub(crate) outside: Mutex<Outside>,
     pub(crate) outsiders: AtomicU64,
-    /// As many are there when no client is accepted.
+    /// The number of waiting requests at which no client is accepted.
     pub(crate) most_outside: u64,
-    /// How many unused connections of servers there are.
+    /// The counts of unused connections of servers.
     pub(crate) unused: UnusedCounts,
     pub(crate) mail: Vec<Mailbox>,
-    /// So many connections of clients are had at a time.
+    /// The most connections of clients at a time.
     pub most: Most,
-    /// So many clients came, and so many are through.
+    /// The number of clients that came, and of those that are done.
     pub(crate) came: AtomicU64,
     pub(crate) ended: AtomicU64,
-    /// Requests wait that may time out, so that the first loop looks at the queues.
+    /// Requests wait that may time out, so the first loop looks at the queues.
     pub(crate) waits: AtomicBool,
-    /// Nobody new is taken; and nobody can come any more.
+    /// No new clients are accepted; no more can come.
     pub(crate) stopping: AtomicBool,
     pub(crate) deaf: AtomicBool,
-    /// Who waits is told that it isn't served.
+    /// Waiting requests are told that they aren't served.
     pub(crate) refusing: AtomicBool,
     pub(crate) over: AtomicBool,
-    /// The same, for who waits for it.
+    /// The end of the proxy, for threads that wait for it.
     pub(crate) ended_all: Mutex<bool>,
     pub(crate) bell: Condvar,
-    /// It is over because memory was short, or a thread.
+    /// The proxy ended for want of memory or of a thread.
     pub(crate) failed: AtomicBool,
     ghost sized: { vec_len spots ≡ N.terms.places },
 }
 
 impl<'a, N: BoardName + Ledger> Shared<'a, N> {
-    /// What the threads of a proxy share, with these seats, and an account of them on this blank.
+    /// Makes the shared state of a proxy, with these seats, which are accounted for on this blank.
     pub fn new(
         proxy: &'a Proxy<N>,
         front: &'a Front<'a>,
@@ -117,7 +117,7 @@ impl<'a, N: BoardName + Ledger> Shared<'a, N> {
         }
     }
 
-    /// What was still to be done is over, and the seats that are idle come back. Ok: nothing was short.
+    /// Ends what was still to be done, and returns the idle seats. `Ok`: nothing was short.
     pub fn end(self) -> (Vec<Idle<N>>, Result<(), AllocError>) {
         let Shared {
             proxy: _,
@@ -153,46 +153,48 @@ impl<'a, N: BoardName + Ledger> Shared<'a, N> {
 }
 
 impl<N: BoardName + Ledger> Shared<'_, N> {
-    /// Whether a place is one of the board's.
+    /// Says whether a place is one of the board's.
     pub fn has(&self, place: usize) -> bool
         ensures { IsTrue result ↔ (place < N.terms.places) }
     {
         place < self.spots.len()
     }
 
-    /// How many places there are.
+    /// Returns the number of places.
     pub fn places(&self) -> usize {
         self.spots.len()
     }
 
-    /// How many loops there are.
+    /// Returns the number of loops.
     pub fn loops(&self) -> usize {
         self.mail.len()
     }
 
-    /// A seat comes back. There is room for each.
+    /// Takes a lent seat back. There is room for each.
     pub fn return_seat<R: Wait>(&self, rt: &R, lent: Lent<N>) {
         self.seats.lock(rt).give_back(lent);
     }
 
-    /// Whether some server is checked.
+    /// Says whether some server is checked.
     pub fn has_checks(&self) -> bool {
         let servers = self.front.config.servers.as_slice();
         servers.iter().any(|server| server.check.is_some())
     }
 
-    /// A server's address, where it is known. It waits for no look-up.
+    /// Returns a server's address, where it is known. It doesn't wait for a look-up.
     pub fn address_of<R: Wait>(&self, rt: &R, server: usize) -> Option<SocketAddr> {
         self.front.addresses.of(rt, self.front.config, server)
     }
 
-    /// Whether it is steered while it serves.
+    /// Says whether the proxy is steered while it serves.
     pub fn has_controls(&self) -> bool {
         self.front.controls.is_some()
     }
 
-    /// How a server's connection is used, which was opened for this request, or else was used before. It is told of its client, may stay for other requests, and a
-    /// client may stay, where that is asked for; the last as long as there is room for others.
+    /// Returns the terms of a server's connection, which was opened for this request or is used
+    /// again: whether its server is told the client's address, whether it may stay open for other
+    /// requests, and whether the client may stay. A client may stay only as long as there is room
+    /// for others.
     pub fn terms(&self, presence: &Presence, fresh: bool) -> Terms
         ensures { result.fresh ≡ fresh }
     {
@@ -208,7 +210,7 @@ impl<N: BoardName + Ledger> Shared<'_, N> {
         }
     }
 
-    /// Each place is looked at by some loop.
+    /// Has each place looked at by some loop.
     pub fn post_places<R: Wait>(&self, rt: &R, places: &PlaceSet) {
         let mut from = 0;
         for _ in 0..4096 {
@@ -222,7 +224,7 @@ impl<N: BoardName + Ledger> Shared<'_, N> {
         }
     }
 
-    /// What a loop was told of places since it last asked.
+    /// Takes the places that a loop was told of since the last call.
     pub fn take_mail<R: Wait>(&self, rt: &R, home: usize) -> PlaceSet {
         match self.mail.as_slice().get(home) {
             Some(mail) => mail.take_all(rt),
@@ -230,7 +232,7 @@ impl<N: BoardName + Ledger> Shared<'_, N> {
         }
     }
 
-    /// A loop looks at a place in its next round.
+    /// Has a loop look at a place in its next round.
     pub fn look_again<R: Wait>(&self, rt: &R, home: usize, place: usize) {
         if let Some(mail) = self.mail.as_slice().get(home) {
             mail.send(rt, place);
@@ -238,7 +240,8 @@ impl<N: BoardName + Ledger> Shared<'_, N> {
     }
 }
 
-// What is added to a request: whether its server's connection stays, and its client, where that is asked for.
+// Returns the additions to a request: whether its server's connection stays open, and its client's
+// address, where these are wanted.
 fn additions(asks: Persistence, names: bool, client: IpAddr) -> Additions
     ensures { result ≡ record { asks = asks; client = if names then Some client else None } }
 {

@@ -4,7 +4,7 @@ use crate::parked::Parked;
 use std::alloc::{AllocError, Global};
 use std::sync::Mutex;
 
-/// A spot for each place, at which nobody waits. Refused only where memory is short.
+/// Makes an empty spot for each place. Fails only where memory is refused.
 pub fn empty_spots(alloc: Global, places: usize) -> Result<Vec<Mutex<Option<Parked>>>, AllocError>
     ensures { IfOk result (λ made. vec_len made ≡ places) }
 {
@@ -15,7 +15,7 @@ pub fn empty_spots(alloc: Global, places: usize) -> Result<Vec<Mutex<Option<Park
     Ok(spots)
 }
 
-/// Whoever still waits at a place is here no more.
+/// Ends the presence of all clients that still wait at their places.
 pub(crate) fn leave_all(spots: Vec<Mutex<Option<Parked>>>) {
     let mut spots = spots;
     while let Some(spot) = spots.pop() {

@@ -1,4 +1,4 @@
-//! What can be asked of a proxy while it serves, and done with it.
+//! The commands that a proxy takes while it serves.
 
 use crate::ringing::Ringing;
 use crate::shared::Shared;
@@ -17,7 +17,7 @@ use std::sync::Wait;
 use std::sync::ledger::Ledger;
 use std::time::Clock;
 
-/// A proxy that is steered, with a gate that tells the loops of places.
+/// A proxy that is steered, with a gate that reports places to the loops.
 #[derive(Drop)]
 struct Steering<'a, N: BoardName + Ledger, R> {
     rt: &'a R,
@@ -102,7 +102,7 @@ impl<
     }
 }
 
-/// Attends to the controls of a proxy until all is over.
+/// Attends to the controls of a proxy until it has ended.
 pub fn run_controls<
     'a,
     R: Net<Listener = TcpListener, Stream = TcpStream> + Clock + Print + Wait,

@@ -1,4 +1,5 @@
-//! The end of a proxy in stages: nobody new, then who waits is refused, then nobody.
+//! The end of a proxy in stages: first no new clients are accepted, then waiting requests are
+//! refused, then all ends.
 
 use crate::shared::Shared;
 use grant_board::BoardName;
@@ -9,7 +10,7 @@ use std::sync::atomic::Ordering;
 use std::sync::ledger::Ledger;
 
 impl<N: BoardName + Ledger> Shared<'_, N> {
-    /// No client is taken any more but those who wait at the listener by now.
+    /// Accepts no more clients except those that wait at the listener by now.
     pub fn stop(&self) {
         self.stopping.store(true, Ordering::SeqCst);
         if let Some(log) = self.front.log {
@@ -24,19 +25,20 @@ impl<N: BoardName + Ledger> Shared<'_, N> {
         self.stopping.load(Ordering::SeqCst)
     }
 
-    /// Nobody waits at the listener. Where no more are taken, the system refuses who tries to connect from now on.
+    /// Notes that no client waits at the listener. Where no more are accepted, the system refuses
+    /// new connections from now on.
     pub fn note_nobody_comes(&self) {
         if self.is_stopping() && !self.deaf.swap(true, Ordering::SeqCst) {
             let _ = shutdown(self.front.listener.as_raw_fd(), SHUT_RDWR);
         }
     }
 
-    /// Whether nobody can come any more.
+    /// Says whether no more clients can come.
     pub fn is_deaf(&self) -> bool {
         self.deaf.load(Ordering::SeqCst)
     }
 
-    /// Each request that waits is told that it isn't served, and so is each that comes to wait.
+    /// Tells each waiting request that it isn't served, and so each one that comes to wait later.
     pub fn refuse_all(&self) {
         self.refusing.store(true, Ordering::SeqCst);
         if let Some(mail) = self.mail.as_slice().first() {
@@ -48,7 +50,7 @@ impl<N: BoardName + Ledger> Shared<'_, N> {
         self.refusing.load(Ordering::SeqCst)
     }
 
-    /// All is over: each thread is told.
+    /// Ends the proxy: each thread is told.
     pub fn close<R: Wait>(&self, rt: &R) {
         self.over.store(true, Ordering::SeqCst);
         *self.ended_all.lock(rt) = true;
@@ -61,7 +63,7 @@ impl<N: BoardName + Ledger> Shared<'_, N> {
         }
     }
 
-    /// The same, because there is no memory or no thread to be had.
+    /// The same, because memory or a thread was refused.
     pub fn give_up<R: Wait>(&self, rt: &R) {
         self.failed.store(true, Ordering::SeqCst);
         self.close(rt);

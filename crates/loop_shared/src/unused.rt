@@ -1,4 +1,4 @@
-//! How many connections of servers no exchange uses.
+//! The count of servers' connections that no exchange uses.
 
 use crate::shared::Shared;
 use grant_board::BoardName;
@@ -7,19 +7,19 @@ use std::sync::Wait;
 use std::sync::atomic::{AtomicBool, AtomicU64, Ordering};
 use std::sync::ledger::Ledger;
 
-/// How many unused connections there are, of each server and in all.
+/// The number of unused connections, of each server and in all.
 #[derive(Drop)]
 pub struct UnusedCounts {
     each: Vec<AtomicU64>,
     all: AtomicU64,
-    /// So many there are in all, at most.
+    /// The most of them in all.
     most: u64,
-    /// Some loop is to close one of this server.
+    /// Some loop is to close one of this server's.
     called_for: Vec<AtomicBool>,
 }
 
 impl UnusedCounts {
-    /// None of so many servers, of which there may be so many in all.
+    /// Makes the counts for this number of servers, with none in use and this number at most in all.
     pub fn none(alloc: Global, servers: usize, most: u64) -> Result<UnusedCounts, AllocError> {
         let mut each = Vec::with_capacity(alloc, servers)?;
         let mut called_for = Vec::with_capacity(alloc, servers)?;
@@ -44,7 +44,7 @@ impl UnusedCounts {
 }
 
 impl<N: BoardName + Ledger> Shared<'_, N> {
-    /// One connection more of a server is unused. False: there are as many as there may be.
+    /// Counts one more unused connection of a server. False where there are as many as there may be.
     pub fn note_unused(&self, server: usize) -> bool {
         let (Some(most), Some(count)) = (
             self.front.reusing,
@@ -62,7 +62,7 @@ impl<N: BoardName + Ledger> Shared<'_, N> {
         false
     }
 
-    /// One that was unused is used, or closed.
+    /// Counts one fewer, since it is used or closed.
     pub fn note_used(&self, server: usize) {
         if let Some(count) = self.unused.each.as_slice().get(server) {
             count.fetch_sub(1, Ordering::SeqCst);
@@ -70,7 +70,8 @@ impl<N: BoardName + Ledger> Shared<'_, N> {
         }
     }
 
-    /// Whether a server has more connections than it takes requests, the unused ones among them, where each request that it serves has one.
+    /// Says whether a server has more connections than its limit of requests, where each request
+    /// that it serves has one and the unused ones count too.
     pub fn is_crowded_at<R: Wait>(&self, rt: &R, server: usize) -> bool {
         let unused = self.unused.of(server);
         if unused == 0 {
@@ -85,7 +86,7 @@ impl<N: BoardName + Ledger> Shared<'_, N> {
         }
     }
 
-    /// Some loop that has an unused connection of a server is to close it.
+    /// Asks some loop that has an unused connection of a server to close it.
     pub fn call_for_one(&self, server: usize) {
         if let Some(called) = self.unused.called_for.as_slice().get(server) {
             called.store(true, Ordering::SeqCst);
@@ -95,7 +96,7 @@ impl<N: BoardName + Ledger> Shared<'_, N> {
         }
     }
 
-    /// Whether that is so. Who is told closes one.
+    /// Says whether a loop was asked to. Whoever gets that answer closes one.
     pub fn is_one_called_for(&self, server: usize) -> bool {
         match self.unused.called_for.as_slice().get(server) {
             None => false,
@@ -104,7 +105,7 @@ impl<N: BoardName + Ledger> Shared<'_, N> {
     }
 }
 
-// One more is counted, where there are fewer than so many.
+// Adds one to a count, where it is below `most`. Says whether it did.
 fn rises(count: &AtomicU64, most: u64) -> bool {
     if count.fetch_add(1, Ordering::SeqCst) < most {
         return true;

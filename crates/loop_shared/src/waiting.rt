@@ -10,7 +10,7 @@ use std::sync::atomic::Ordering;
 use std::sync::ledger::Ledger;
 
 impl<N: BoardName + Ledger> Shared<'_, N> {
-    /// A request lies in the spot of its place from now on. Whoever calls it looks there afterwards.
+    /// Puts a request into the spot of its place. The caller looks at the place afterwards.
     pub fn park<R: Wait>(&self, rt: &R, parked: Parked) {
         let Some(spot) = self.spots.as_slice().get(parked.at.place) else {
             return self.note_end(rt, parked.leave());
@@ -18,12 +18,12 @@ impl<N: BoardName + Ledger> Shared<'_, N> {
         let before = spot.lock(rt).replace(parked);
         match before {
             None => {}
-            // Another request's ticket had the place, and is over.
+            // An earlier request had the place, and is over.
             Some(parked) => self.note_end(rt, parked.leave()),
         }
     }
 
-    /// Whether a ticket's request still lies at a place, its client gone.
+    /// Says whether a ticket's request still lies at a place although its client has left.
     pub fn lies_left<R: Wait>(&self, rt: &R, place: usize, ticket: u64) -> bool {
         let Some(spot) = self.spots.as_slice().get(place) else {
             return false;
@@ -38,7 +38,7 @@ impl<N: BoardName + Ledger> Shared<'_, N> {
         }
     }
 
-    /// A request waits. Where requests time out and none waited before, the first loop is told.
+    /// Notes that a request waits. Where requests can time out and none waited before, the first loop is told.
     pub fn note_wait(&self) {
         if self.front.config.queue_timeout.is_some() && !self.waits.swap(true, Ordering::SeqCst) {
             if let Some(mail) = self.mail.as_slice().first() {
@@ -47,12 +47,13 @@ impl<N: BoardName + Ledger> Shared<'_, N> {
         }
     }
 
-    /// Whether requests wait that may time out.
+    /// Says whether requests wait that may time out.
     pub fn has_waits(&self) -> bool {
         self.waits.load(Ordering::SeqCst)
     }
 
-    /// Notes that none waits, unless one is found that does. One that comes meanwhile is noted by whoever brings it.
+    /// Notes that no request waits, unless one is found that does. One that comes meanwhile is
+    /// noted by the thread that brings it.
     pub fn look_for_waits<R: Wait>(&self, rt: &R) {
         self.waits.store(false, Ordering::SeqCst);
         if self.has_outside() {
@@ -67,7 +68,8 @@ impl<N: BoardName + Ledger> Shared<'_, N> {
         }
     }
 
-    /// The first place from this one on whose request is to be given up for that, and its ticket. Its client is told that it isn't served.
+    /// Returns the first place from this one on whose request is to be given up for this reason,
+    /// and its ticket. Its client is told that it isn't served.
     pub fn find_hopeless<R: Wait>(
         &self,
         rt: &R,
@@ -89,7 +91,7 @@ impl<N: BoardName + Ledger> Shared<'_, N> {
         None
     }
 
-    /// Returns once all is over.
+    /// Returns once the proxy has ended.
     pub fn wait_for_end<R: Wait>(&self, rt: &R) {
         let _over = self
             .bell

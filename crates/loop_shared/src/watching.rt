@@ -1,11 +1,11 @@
-//! What a poll is told to watch.
+//! Registration of streams with a poll.
 
 use loop_table::Subject;
 use mio::unix::SourceFd;
 use mio::{Interest, Registry, Token};
 use std::os::fd::RawFd;
 
-/// Has a poll tell of a stream. False where the system refuses it, or there is no number for it.
+/// Has a poll watch a stream. False where the system refuses that, or the subject has no number.
 pub fn watch(registry: &Registry, fd: RawFd, subject: Subject, interest: Interest) -> bool {
     let Some(number) = subject.number() else {
         return false;
@@ -16,7 +16,7 @@ pub fn watch(registry: &Registry, fd: RawFd, subject: Subject, interest: Interes
         || registry.reregister(&mut source, token, interest).is_ok()
 }
 
-/// The same of one that it may tell of already.
+/// The same for a stream that it may watch already.
 pub fn watch_anew(registry: &Registry, fd: RawFd, subject: Subject, interest: Interest) -> bool {
     let Some(number) = subject.number() else {
         return false;

@@ -1,4 +1,4 @@
-//! The thread that ends windows by time.
+//! The thread that ends windows after a time.
 
 use crate::ringing::Ringing;
 use crate::shared::Shared;
@@ -10,7 +10,7 @@ use std::sync::ledger::Ledger;
 use std::time::{Clock, Duration};
 
 impl<N: BoardName + Ledger> Shared<'_, N> {
-    // Waits for so many milliseconds, or until all is over. Whether it is.
+    // Waits this number of milliseconds, or until the proxy has ended. Says whether it has.
     fn is_over_after<R: Wait + Clock>(&self, rt: &R, millis: u64) -> bool {
         let limit = Duration::from_millis(millis);
         let over = self.ended_all.lock(rt);
@@ -19,7 +19,7 @@ impl<N: BoardName + Ledger> Shared<'_, N> {
     }
 }
 
-/// Ends a window whenever so many milliseconds have passed, until all is over.
+/// Ends a window each time this number of milliseconds has passed, until the proxy has ended.
 pub fn run_windows<
     'a,
     R: Net<Listener = TcpListener, Stream = TcpStream> + Clock + Print + Wait,

@@ -1,7 +1,8 @@
--- What is to be looked at, as contracts see it.
+-- Agendas as contracts see them.
 use Rattle.std.specs.Prelude.{◌≡◌, ℕ, List, []}
 
--- the numbers to be looked at soon, and in the next round, each the first at the front; and below which number each is
+-- the numbers to look at soon, and those to look at in the next round, each list with its first
+-- number at the front; and the bound of all numbers
 pub record Notes : Type 0 where
   pub soon : List ℕ
   pub later : List ℕ
@@ -21,6 +22,6 @@ with_soon notes soon = record { soon = soon; later = notes.later; room = notes.r
 abbrev pub with_later : Notes → List ℕ → Notes
 with_later notes later = record { soon = notes.soon; later = later; room = notes.room }
 
--- what was put off comes next
+-- the numbers that were put off are next
 abbrev pub turned_over : Notes → Notes
 turned_over notes = record { soon = notes.later; later = notes.soon; room = notes.room }

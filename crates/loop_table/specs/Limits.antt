@@ -4,7 +4,7 @@ use Rattle.std.specs.List.{AllByRecursion}
 use Rattle.loop_table.specs.declared.limits.Timed.{Timed}
 use Rattle.loop_table.specs.Runs.{Run, Runs, left, NoneOverdue, IsFirstOverdue}
 
--- each with its milliseconds, and the moment that it is for all of them
+-- each timeout with its milliseconds, and the present moment of all of them
 pub record Timeouts : Type 0 where
   pub timed : List Timed
   pub clock : ℕ
@@ -25,7 +25,7 @@ later_at it now = record { timed = it.timed; clock = max it.clock now }
 abbrev pub IsAt : Timeouts → ℕ → Timed → Type 0
 IsAt it keyword timed = slice_get it.timed keyword ≡ Some timed
 
--- what one keyword's timeout runs for changes, and nothing else
+-- the runs of one keyword's timeout change, and nothing else
 pub record Changes (old new : Timeouts) (keyword : ℕ) (after : Runs → Runs) : Type 0 where
   pub timed : Timed
   pub there : IsAt old keyword timed
@@ -37,7 +37,7 @@ pub record MayRun (it : Timeouts) (keyword key : ℕ) : Type 0 where
   pub there : IsAt it keyword timed
   pub low : key < timed.running.room
 
--- none is over
+-- no timeout has expired
 abbrev pub AreQuiet : ℕ → List Timed → Type 0
 AreQuiet now all = AllByRecursion (λ timed. NoneOverdue timed.limit now timed.running.runs) all
 
@@ -46,7 +46,7 @@ pub record IsOverdueAt (it : Timeouts) (keyword key : ℕ) : Type 0 where
   pub there : IsAt it keyword timed
   pub first : IsFirstOverdue timed.limit it.clock timed.running.runs key
 
--- nothing is over before so many milliseconds have passed, and something is then
+-- nothing expires before this number of milliseconds has passed, and something does then
 pub record IsPatience (now : ℕ) (all : List Timed) (millis : ℕ) : Type 0 where
   pub least : AllByRecursion (λ timed. AllByRecursion (λ run. millis ≤ left timed.limit now run) timed.running.runs) all
   pub timed : Timed

@@ -1,15 +1,15 @@
--- Values by tokens, as contracts see them.
+-- Tables of values by token, as contracts see them.
 use Rattle.std.specs.Prelude.{◌≡◌, ℕ, zero, suc, ◌+◌, ◌<◌, ◌^◌, ltb, List, [], ◌∷◌, ◌++◌, Option, Some, None, length, replicate, slice_get, slice_set, Contains, if◌then◌else◌}
 use Rattle.wait_queues.specs.Order.{Order, without}
 use Rattle.loop_table.specs.declared.token.Token.{Token}
 
--- what lies in each slot, how often each was closed, and which are free, the one that is next at the front
+-- the value in each slot, how often each slot was closed, and the free slots, the next one at the front
 pub record Table (T : Type 0) : Type 0 where
   pub values : List (Option T)
   pub generations : List ℕ
   pub free : List ℕ
 
--- the slot of a token was closed as often as when the token was given
+-- the slot of a token has been closed as often as when the token was given
 abbrev pub IsNow : {T : Type 0} → Table T → Token → Type 0
 IsNow table token = slice_get table.generations token.index ≡ Some token.generation
 
@@ -18,24 +18,24 @@ pub record Holds {T : Type 0} (table : Table T) (token : Token) (value : T) : Ty
   pub now : IsNow table token
   pub there : slice_get table.values token.index ≡ Some (Some value)
 
--- a token of which the next value may be
+-- a token that the next value may get
 pub record IsVacant {T : Type 0} (table : Table T) (token : Token) : Type 0 where
   pub now : IsNow table token
   pub free : Contains table.free token.index
 
--- a token whose value was taken out to be worked with
+-- a token whose value is lent out
 pub record IsOut {T : Type 0} (table : Table T) (token : Token) : Type 0 where
   pub now : IsNow table token
   pub there : slice_get table.values token.index ≡ Some None
   pub taken : ¬ (Contains table.free token.index)
 
--- a token whose slot was closed since it was given
+-- a token whose slot was closed after the token was given
 pub record IsGone {T : Type 0} (table : Table T) (token : Token) : Type 0 where
   pub times : ℕ
   pub now : slice_get table.generations token.index ≡ Some times
   pub since : token.generation < times
 
--- the numbers below one
+-- the numbers below a number
 abbrev pub below : ℕ → List ℕ
 below zero = []
 below (suc n) = below n ++ n ∷ []
@@ -63,7 +63,7 @@ filled table token value = record {
   free = table.free;
 }
 
--- a slot that was given away 2 ^ 40 times isn't given again
+-- a slot that was given out 2 ^ 40 times isn't given again
 abbrev pub closed : {T : Type 0} → Table T → Token → Table T
 closed table token = record {
   values = table.values;
@@ -71,7 +71,7 @@ closed table token = record {
   free = if ltb (token.generation + 1) (2 ^ 40) then table.free ++ token.index ∷ [] else table.free;
 }
 
--- the slots are as many, and what is free is empty and may be given away once more
+-- the lists have the same length, and each free slot is empty and may be given out once more
 pub record AreSlots {T : Type 0} (values : List (Option T)) (generations : List ℕ) (free : Order) : Type 0 where
   pub few : free.room < 2 ^ 20 + 1
   pub values_room : length values ≡ free.room

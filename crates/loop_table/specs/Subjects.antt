@@ -1,4 +1,4 @@
--- The numbers by which a poll knows what it tells of.
+-- The numbers by which a poll identifies its subjects.
 use Rattle.std.specs.Prelude.{◌≡◌, ◌<◌, ℕ, ◌+◌, ◌*◌}
 use Rattle.loop_table.specs.declared.token.Token.{Token}
 use Rattle.loop_table.specs.declared.subject.Subject.{Subject}
@@ -15,7 +15,7 @@ number_of (Server token) = 8 * token_number token + 3
 number_of (Waiting place ticket) = 8 * (4096 * ticket + place) + 4
 number_of (Outside token) = 8 * token_number token + 5
 
--- one and the same
+-- the two are the same
 abbrev pub AreSame : Subject → Subject → Type 0
 AreSame Listener Listener = Unit {0}
 AreSame Mailbox Mailbox = Unit {0}

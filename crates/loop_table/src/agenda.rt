@@ -7,8 +7,9 @@ use std::marker::Model;
 use std::mem;
 use wait_queues::JoinOrder;
 
-/// What is to be looked at, by numbers below a room: soon, or in the next round. A number stands once in each list, so that nothing is looked at more often
-/// than others are. All calls but `with_room` are `O(1)`.
+/// A list of numbers below a bound that are to be looked at, soon or in the next round. Each number
+/// stands at most once in each list, so none is looked at more often than others. All calls but
+/// `with_room` are `O(1)`.
 #[derive(Drop)]
 pub struct Agenda {
     soon: JoinOrder,
@@ -27,7 +28,7 @@ impl Model for Agenda {
 }
 
 impl Agenda {
-    /// Without a note. Refused only where memory is short. `O(n)`.
+    /// Makes an empty agenda. Fails only where memory is refused. `O(n)`.
     pub fn with_room(alloc: Global, room: usize) -> Result<Agenda, AllocError>
         ensures { IfOk result (λ made. made ≡ nothing_noted room) }
     {
@@ -38,7 +39,7 @@ impl Agenda {
         })
     }
 
-    /// A number is to be looked at soon, behind those that are already.
+    /// Notes a number to be looked at soon, after those that are noted already.
     pub fn note(&mut self, number: usize)
         ensures noted { number < self.old.room → ¬ (Contains self.old.soon number) → self.new ≡ with_soon self.old (self.old.soon ++ number ∷ []) }
         ensures there { Contains self.old.soon number → self.new ≡ self.old }
@@ -49,7 +50,7 @@ impl Agenda {
         }
     }
 
-    /// A number is to be looked at in the next round, behind those that are already.
+    /// Notes a number to be looked at in the next round, after those that are noted already.
     pub fn put_off(&mut self, number: usize)
         ensures noted { number < self.old.room → ¬ (Contains self.old.later number) → self.new ≡ with_later self.old (self.old.later ++ number ∷ []) }
         ensures there { Contains self.old.later number → self.new ≡ self.old }
@@ -60,7 +61,7 @@ impl Agenda {
         }
     }
 
-    /// The next number to be looked at, which is noted no more. None only where none is.
+    /// Takes the next number to be looked at; `None` only where there is none.
     pub fn take(&mut self) -> Option<usize>
         ensures first { result ≡ slice_get self.old.soon 0 }
         ensures left { MatchOption result (self.new ≡ self.old) (λ number. self.new ≡ with_soon self.old (without number self.old.soon)) }
@@ -72,14 +73,15 @@ impl Agenda {
         Some(number)
     }
 
-    /// A round begins: what was put off comes soon, and what is there yet is put off.
+    /// Begins a round: the numbers that were put off are to be looked at soon, and those that are
+    /// left are put off.
     pub fn turn_over(&mut self)
         ensures { self.new ≡ turned_over self.old }
     {
         mem::swap(&mut self.soon, &mut self.later);
     }
 
-    /// Is nothing put off?
+    /// Says whether no number is put off.
     pub fn puts_nothing_off(&self) -> bool
         ensures { IsTrue result ↔ (self.now.later ≡ []) }
     {

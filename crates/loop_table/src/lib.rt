@@ -1,6 +1,7 @@
-//! What a loop owns, by tokens that name one connection for ever, and how long each may still wait.
+//! The tables of a loop: values by tokens that name one connection for ever, and the time that each
+//! may still wait.
 //!
-//! All memory is taken when they are made: no call afterwards takes any, or fails for want of it.
+//! All memory is allocated when they are made: no later call allocates.
 #![tactic(auto)]
 
 mod agenda;

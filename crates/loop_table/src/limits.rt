@@ -8,21 +8,22 @@ use exchange_driver::Moved;
 use std::alloc::{AllocError, Global};
 use std::marker::Model;
 
-/// A timeout of so many milliseconds, and what it runs for.
+/// A timeout of a number of milliseconds, and the keys that it runs for.
 #[derive(Drop)]
 pub(crate) struct Timed {
     pub(crate) limit: u64,
     pub(crate) running: Running,
 }
 
-/// The timeouts of a loop, by keyword, with the moment that it is for all of them: that of the poll's last return.
+/// The timeouts of a loop, by keyword, with the present moment of all of them: that of the poll's last return.
 #[derive(Drop)]
 pub struct Limits {
     timed: Vec<Timed>,
     clock: Moment,
 }
 
-/// A timeout that is over for a key. It runs no more for it. It has no `Drop`: whoever looked at the limits ends what it was for.
+/// A timeout that expired for a key. It no longer runs for it. It has no `Drop`: whoever looked at
+/// the limits has to end what it was for.
 pub struct Overdue {
     pub keyword: usize,
     pub key: usize,
@@ -37,7 +38,7 @@ impl Model for Limits {
 }
 
 impl Limits {
-    /// No timeout, so far.
+    /// Makes limits without a timeout.
     pub fn new(alloc: Global) -> Limits
         ensures { result ≡ none_timed }
     {
@@ -47,15 +48,15 @@ impl Limits {
         }
     }
 
-    /// It is so late now, and never earlier than it was.
+    /// Sets the present moment, which never falls.
     pub fn look_at_clock(&mut self, now: Moment)
         ensures { self.new ≡ later_at self.old now }
     {
         self.clock = self.clock.later(now);
     }
 
-    /// One more timeout, of so many milliseconds, that may run for the keys below `room`: it is the keyword of the next number. Refused only where memory is
-    /// short, and then nothing changes.
+    /// Adds a timeout of this number of milliseconds, which may run for the keys below `room`: its
+    /// keyword is the next number. Fails only where memory is refused, and nothing changes then.
     pub fn add(&mut self, alloc: Global, limit: u64, room: usize) -> Result<usize, AllocError>
         ensures number { IfOk result (λ keyword. keyword ≡ length self.old.timed) }
         ensures ok { OnOk result (self.new ≡ with_timed self.old (timed limit (none_running room))) }
@@ -67,7 +68,8 @@ impl Limits {
         Ok(keyword)
     }
 
-    /// A timeout begins for a key for which it doesn't run. Where it runs, its moment stays. Without such a keyword or key nothing changes.
+    /// Begins a timeout for a key for which it doesn't run. Where it runs, its moment stays.
+    /// Without such a keyword or key nothing changes.
     pub fn begin(&mut self, keyword: usize, key: usize)
         ensures runs { MayRun self.old keyword key → Changes self.old self.new keyword (λ runs. begun_once runs key self.old.clock) }
         ensures other { ¬ (MayRun self.old keyword key) → self.new ≡ self.old }
@@ -79,7 +81,7 @@ impl Limits {
         }
     }
 
-    /// Bytes moved for a key: its timeout begins anew, where it runs.
+    /// Notes that bytes moved for a key: its timeout begins anew, where it runs.
     pub fn touch(&mut self, keyword: usize, key: usize, moved: Moved)
         ensures runs { MayRun self.old keyword key → Changes self.old self.new keyword (λ runs. touched runs key self.old.clock) }
         ensures other { ¬ (MayRun self.old keyword key) → self.new ≡ self.old }
@@ -92,7 +94,7 @@ impl Limits {
         }
     }
 
-    /// A timeout runs for a key no more.
+    /// Stops a timeout for a key.
     pub fn stop(&mut self, keyword: usize, key: usize)
         ensures runs { MayRun self.old keyword key → Changes self.old self.new keyword (λ runs. stopped runs key) }
         ensures other { ¬ (MayRun self.old keyword key) → self.new ≡ self.old }
@@ -112,7 +114,7 @@ impl Limits {
         }
     }
 
-    /// Takes one that is over out, the first of its keyword. None only where none is over, now.
+    /// Takes out a timeout that has expired now, the first of its keyword; `None` only where none has.
     pub fn take_overdue(&mut self) -> Option<Overdue>
         ensures over { MatchOption result (AreQuiet self.old.clock self.old.timed) (λ it. IsOverdueAt self.old it.keyword it.key) }
         ensures left { MatchOption result (self.new ≡ self.old) (λ it. Changes self.old self.new it.keyword (λ runs. stopped runs it.key)) }
@@ -136,7 +138,8 @@ impl Limits {
         None
     }
 
-    /// How many milliseconds a poll may wait: until the first of all is over. None only where no timeout runs.
+    /// Returns how many milliseconds a poll may wait until the first timeout expires; `None` only
+    /// where no timeout runs.
     pub fn patience(&self) -> Option<u64>
         ensures { ArePatient self.now.clock self.now.timed result }
     {
@@ -148,7 +151,7 @@ impl Limits {
     }
 }
 
-// The lesser of two waits, where there are both.
+// Returns the lesser of two waits, where there are both.
 fn sooner(a: Option<u64>, b: Option<u64>) -> Option<u64>
     ensures { result ≡ sooner_of a b }
 {

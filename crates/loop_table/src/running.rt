@@ -7,12 +7,13 @@ use std::alloc::{AllocError, Global};
 use std::marker::Model;
 use wait_queues::JoinOrder;
 
-/// What one timeout runs for, by key. As it is as long for all, who began first is over first, so that the order of the beginnings serves: no call but
-/// `with_room` costs more than `O(1)`.
+/// The keys that one timeout runs for. Since it is equally long for all, it expires first for the
+/// key that began first, so the order of beginnings suffices: no call but `with_room` costs more
+/// than `O(1)`.
 #[derive(Drop)]
 pub struct Running {
     order: JoinOrder,
-    // By key. What a key that isn't in the order has there means nothing.
+    // By key. The value of a key that isn't in the order means nothing.
     since: Vec<Moment>,
     latest: Moment,
 }
@@ -28,7 +29,8 @@ impl Model for Running {
 }
 
 impl Running {
-    /// It runs for nobody, and may for the keys below `room`. Refused only where memory is short. `O(n)`.
+    /// Makes a timeout that runs for no key, and may for the keys below `room`. Fails only where
+    /// memory is refused. `O(n)`.
     pub fn with_room(alloc: Global, room: usize) -> Result<Running, AllocError>
         ensures { IfOk result (λ made. made ≡ none_running room) }
     {
@@ -43,21 +45,22 @@ impl Running {
         })
     }
 
-    /// Below which number the keys are for which it may run.
+    /// Returns the bound of the keys that it may run for.
     pub fn room(&self) -> usize
         ensures { result ≡ self.now.room }
     {
         self.since.len()
     }
 
-    /// Whether it runs for a key.
+    /// Says whether it runs for a key.
     pub fn runs_for(&self, key: usize) -> bool
         ensures { result ≡ runs_for self.now.runs key }
     {
         self.order.contains(key)
     }
 
-    /// It runs for a key from now on, also where it ran for it: a moment that went back is taken as the latest so far.
+    /// Runs it for a key from now on, even where it ran already: a moment that went back counts as
+    /// the latest so far.
     pub(crate) fn begin(&mut self, key: usize, now: Moment)
         requires { key < self.old.room }
         ensures { self.new ≡ begun self.old key now }
@@ -69,7 +72,7 @@ impl Running {
         self.latest = since;
     }
 
-    /// It runs for a key from now on, where it doesn't yet.
+    /// Runs it for a key from now on, where it doesn't run yet.
     pub(crate) fn begin_once(&mut self, key: usize, now: Moment)
         requires { key < self.old.room }
         ensures { self.new ≡ begun_once self.old key now }
@@ -79,7 +82,7 @@ impl Running {
         }
     }
 
-    /// It begins anew for a key, where it runs for it.
+    /// Begins it anew for a key, where it runs.
     pub(crate) fn touch(&mut self, key: usize, now: Moment)
         requires { key < self.old.room }
         ensures { self.new ≡ touched self.old key now }
@@ -89,14 +92,14 @@ impl Running {
         }
     }
 
-    /// It runs no more for a key.
+    /// Stops it for a key.
     pub fn stop(&mut self, key: usize)
         ensures { self.new ≡ stopped self.old key }
     {
         take_out(&mut self.order, key);
     }
 
-    /// The key for which it is over first, where it is over now for any. None only where it is over for none.
+    /// Returns the key for which it expires first, where it has expired now; `None` only where it has for no key.
     pub fn overdue(&self, limit: u64, now: Moment) -> Option<usize>
         ensures { MatchOption result (NoneOverdue limit now self.now.runs) (λ key. IsFirstOverdue limit now self.now.runs key) }
     {
@@ -108,7 +111,8 @@ impl Running {
         }
     }
 
-    /// How many milliseconds are left until it is over for the first of them. None only where it runs for nobody.
+    /// Returns how many milliseconds are left until it expires for the first key; `None` only where
+    /// it runs for no key.
     pub fn patience(&self, limit: u64, now: Moment) -> Option<u64>
         ensures { MatchOption result (self.now.runs ≡ []) (λ millis. IsLeastLeft limit now self.now.runs millis) }
     {

@@ -8,11 +8,12 @@ use std::alloc::{AllocError, Global};
 use std::marker::Model;
 use wait_queues::JoinOrder;
 
-/// Values by tokens, without `Drop`: each is put by value, lent by value, and given back or closed. A slot that was closed is used again, the one that is
-/// free for the longest first, and then it has another token.
+/// A table of values by token, without `Drop`: each value is put in, lent out, and given back or
+/// closed. A slot that was closed is used again, the one that has been free for the longest first,
+/// and gets another token then.
 pub struct Slots<T> {
     values: Vec<Option<T>>,
-    // So often each was closed.
+    // The number of times that each slot was closed.
     generations: Vec<u64>,
     free: JoinOrder,
 }
@@ -28,7 +29,7 @@ impl<T> Model for Slots<T> {
 }
 
 impl<T> Slots<T> {
-    /// So many free slots, and no value. Refused only where memory is short. `O(n)`.
+    /// Makes a table with this number of free slots. Fails only where memory is refused. `O(n)`.
     pub fn with_room(alloc: Global, slots: usize) -> Result<Slots<T>, AllocError>
         requires { slots ≤ 2 ^ 20 }
         ensures { IfOk result (λ made. made ≡ fresh slots) }
@@ -46,7 +47,8 @@ impl<T> Slots<T> {
         })
     }
 
-    /// Puts a value into a free slot, and answers its token, which is nobody's and never was. The value comes back only where no slot is free. `O(1)`.
+    /// Puts a value into a free slot, and returns its token, which is new. The value comes back
+    /// only where no slot is free. `O(1)`.
     pub fn put(&mut self, value: T) -> Result<Token, T>
         ensures token { IfOk result (λ token. IsVacant self.old token) }
         ensures empty { IfOk result (λ token. slice_get self.old.values token.index ≡ Some None) }
@@ -63,7 +65,7 @@ impl<T> Slots<T> {
         Ok(Token { index, generation })
     }
 
-    /// An empty slot, of a token that is nobody's and never was. None only where no slot is free. `O(1)`.
+    /// Returns an empty slot with a new token; `None` only where no slot is free. `O(1)`.
     pub fn open(&mut self) -> Option<Hole>
         ensures token { IfSome result (λ hole. IsVacant self.old hole.token) }
         ensures out { IfSome result (λ hole. IsOut self.new hole.token) }
@@ -81,14 +83,14 @@ impl<T> Slots<T> {
         })
     }
 
-    /// Is no slot free?
+    /// Says whether no slot is free.
     pub fn is_full(&self) -> bool
         ensures { IsTrue result ↔ (self.now.free ≡ []) }
     {
         self.free.first().is_none()
     }
 
-    /// Takes the value of a token out, to be worked with. None exactly where it has none. `O(1)`.
+    /// Lends out the value of a token; `None` exactly where it has none. `O(1)`.
     pub fn lend(&mut self, token: Token) -> Option<(T, Hole)>
         ensures held { MatchOption result ((value : T) → ¬ (Holds self.old token value)) (λ it. Holds self.old token it.0) }
         ensures hole { IfSome result (λ it. it.1.token ≡ token) }
@@ -104,7 +106,7 @@ impl<T> Slots<T> {
         }
     }
 
-    /// The value of a token. None exactly where it has none. `O(1)`.
+    /// Returns the value of a token; `None` exactly where it has none. `O(1)`.
     pub fn get(&self, token: Token) -> Option<&T>
         ensures { MatchOption result ((value : T) → ¬ (Holds self.now token value)) (λ value. Holds self.now token value.now) }
     {
@@ -114,7 +116,8 @@ impl<T> Slots<T> {
         self.values[token.index].as_ref()
     }
 
-    /// Fills the hole of a token again, which keeps its token. The value comes back only where the hole isn't this table's. `O(1)`.
+    /// Gives the value of a token back, which keeps its token. The value comes back only where the
+    /// hole isn't this table's. `O(1)`.
     pub fn fill(&mut self, hole: Hole, value: T) -> Result<(), T>
         ensures ok { OnOk result (IsOut self.old hole.token × (self.new ≡ filled self.old hole.token value)) }
         ensures err { IfErr result (λ back. (back ≡ value) × ¬ (IsOut self.old hole.token) × (self.new ≡ self.old)) }
@@ -128,7 +131,7 @@ impl<T> Slots<T> {
         Ok(())
     }
 
-    /// Closes the hole of a token: the token is gone, and names nothing ever again. `O(1)`.
+    /// Closes the hole of a token: the token never names anything again. `O(1)`.
     pub fn close(&mut self, hole: Hole)
         ensures closed { IsOut self.old hole.token → (self.new ≡ closed self.old hole.token) × IsGone self.new hole.token }
         ensures other { ¬ (IsOut self.old hole.token) → self.new ≡ self.old }
@@ -144,7 +147,7 @@ impl<T> Slots<T> {
         }
     }
 
-    /// The token of the value in a slot, where there is one. `O(1)`.
+    /// Returns the token of the value in a slot, where there is one. `O(1)`.
     pub fn token_of(&self, index: usize) -> Option<Token>
         ensures held { IfSome result (λ token. (value : T) × Holds self.now token value) }
         ensures index { IfSome result (λ token. token.index ≡ index) }
@@ -161,7 +164,7 @@ impl<T> Slots<T> {
         }
     }
 
-    /// All that is in the slots, in their order.
+    /// Returns the contents of all slots, in order.
     pub fn into_values(self) -> Vec<Option<T>>
         ensures { result.items ≡ self.values }
     {
@@ -173,7 +176,7 @@ impl<T> Slots<T> {
         values
     }
 
-    /// Whether a token has a value. `O(1)`.
+    /// Says whether a token has a value. `O(1)`.
     pub fn is_held(&self, token: Token) -> bool
         ensures yes { IsTrue result → (value : T) × Holds self.now token value }
         ensures others { (value : T) → Holds self.now token value → IsTrue result }
@@ -181,14 +184,14 @@ impl<T> Slots<T> {
         self.is_now(token) && self.values[token.index].is_some()
     }
 
-    // Whether the slot of a token wasn't closed since it was given.
+    // Says whether the slot of a token hasn't been closed since the token was given.
     fn is_now(&self, token: Token) -> bool
         ensures now { IsTrue result ↔ IsNow self.now token }
     {
         self.generations.as_slice().get(token.index).copied() == Some(token.generation)
     }
 
-    // Whether the value of a token is lent.
+    // Says whether the value of a token is lent out.
     fn is_out(&self, token: Token) -> bool
         ensures { IsTrue result ↔ IsOut self.now token }
     {

@@ -4,12 +4,12 @@ ghost use Rattle.loop_table.specs.declared.subject.Subject.{Subject};
 
 use crate::token::Token;
 
-/// What an event of a poll is about. A token may be gone by the time of the event: then it is about nobody.
+/// The subject of a poll's event. Its token may be gone by the time of the event: then the event concerns nothing.
 #[derive(Clone, Copy)]
 pub enum Subject {
-    /// Clients come.
+    /// The listener: clients come.
     Listener,
-    /// Other loops wrote.
+    /// The mailbox: other loops wrote.
     Mailbox,
     /// The client's side of a connection.
     Client(Token),
@@ -28,7 +28,7 @@ const PLACES: usize = 4096;
 const TICKETS: u64 = 1 << 40;
 
 impl Subject {
-    /// Its number for the poll. None: its place or its ticket is too large for one.
+    /// Returns its number for the poll; `None` where its place or its ticket is too large.
     pub fn number(self) -> Option<usize>
         ensures { IfSome result (λ number. number ≡ number_of self) }
     {
@@ -48,7 +48,7 @@ impl Subject {
         }
     }
 
-    /// What has this number. None: nothing has.
+    /// Returns the subject with this number, if any.
     pub fn of(number: usize) -> Option<Subject>
         ensures { IfSome result (λ subject. number_of subject ≡ number) }
     {

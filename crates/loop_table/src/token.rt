@@ -1,12 +1,12 @@
 ghost use Rattle.std.specs.Prelude.{◌≡◌, ◌<◌, ◌^◌};
 
-/// The most slots that a table may have.
+/// The most slots of a table.
 pub const MOST_SLOTS: usize = 1 << 20;
 
-/// So often a slot is given away at most.
+/// The most times that a slot is given out.
 pub(crate) const GENERATIONS: u64 = 1 << 40;
 
-/// Names what was put into a slot, and nothing that is put there before or after it.
+/// The name of a value in a slot, and of none that is put there before or after it.
 #[derive(Clone, Copy, Debug, PartialEq, Eq)]
 pub struct Token {
     pub(crate) index: usize,
@@ -15,13 +15,13 @@ pub struct Token {
     ghost generation_fits: { generation < 2 ^ 40 },
 }
 
-/// The slot of a token whose value was taken out to be worked with. It has no `Drop`: it is filled again, or closed.
+/// The slot of a token whose value is lent out. It has no `Drop`: it has to be filled again, or closed.
 pub struct Hole {
     pub(crate) token: Token,
 }
 
 impl Token {
-    /// The number of its slot.
+    /// Returns the number of its slot.
     pub fn index(&self) -> usize
         ensures { result ≡ self.now.index }
     {
@@ -30,7 +30,7 @@ impl Token {
 }
 
 impl Hole {
-    /// The token that it is the slot of.
+    /// Returns its token.
     pub fn token(&self) -> Token
         ensures { result ≡ self.now.token }
     {

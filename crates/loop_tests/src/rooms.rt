@@ -10,7 +10,7 @@ fn at(millis: u64) -> Moment {
     Moment::new(millis).unwrap_or(Moment::zero())
 }
 
-// A guest of this number comes, with a class and an offset.
+// Adds a guest with this number, class and offset.
 fn come(
     room: &mut Room,
     alloc: Global,

@@ -6,7 +6,7 @@ fn at(millis: u64) -> Moment {
     Moment::new(millis).unwrap_or(Moment::zero())
 }
 
-// The key for which a time is over.
+// Returns the key of an expired timeout.
 fn over(limits: &mut Limits) -> Option<usize> {
     match limits.take_overdue() {
         None => None,

@@ -1,8 +1,8 @@
--- A text as it stands in XML.
+-- Texts escaped for XML.
 use Rattle.std.specs.Prelude.{ℕ, List, [], ◌∷◌, ◌==◌, if◌then◌else◌, codes}
 use Rattle.std.specs.List.{flat_map}
 
--- a byte that has a meaning in XML by its name there, and each other as it is
+-- the entity of a byte that has a meaning in XML, and any other byte itself
 abbrev pub escaped_byte : ℕ → List ℕ
 escaped_byte byte =
     if byte == 34 then codes "&quot;" else

@@ -3,8 +3,7 @@ ghost use Rattle.markup_text.specs.Escapes.{escaped};
 
 use std::alloc::AllocError;
 
-/// Writes a text at the end as it stands in an attribute or between the tags of XML: each of `&`, `<`, `>`, `"` and `'` by its
-/// name, and all else as it is.
+/// Appends a text escaped for an attribute or for content of XML: `&`, `<`, `>`, `"` and `'` become entities.
 pub fn push_escaped(text: &mut String, raw: &str) -> Result<(), AllocError>
     ensures { OnOk result (string_bytes text.new ≡ string_bytes text.old ++ escaped raw.now) }
 {

@@ -1,4 +1,4 @@
-//! Texts as they stand in XML: each sign with a meaning there by its name.
+//! Texts escaped for XML: each character with a meaning there becomes an entity.
 #![tactic(auto)]
 
 mod escape;

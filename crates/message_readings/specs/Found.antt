@@ -8,7 +8,7 @@ use Rattle.message_readings.specs.Alike.{AsksAlike}
 use Rattle.message_readings.specs.Messages.{Message, IsMessage, print_message}
 use Rattle.message_readings.specs.Replies.{Reply, IsReply, print_reply}
 
--- the text is one request and no byte more, which asks for the same; and it has this body
+-- the text is one request and no byte more; it asks for the same, and has this body
 pub record FindsRequest (client : Option IpAddr) (r : Request) (body text : List ℕ) : Type 0 where
   pub message : Message
   pub is : IsMessage message
@@ -17,7 +17,8 @@ pub record FindsRequest (client : Option IpAddr) (r : Request) (body text : List
   pub body_is : message.body ≡ body
   pub same : is.text ≡ body
 
--- the text is one answer to a request of this method, with the heads before it, and no byte more; it says the same, and has this body
+-- the text is one answer to a request with this method, with its interim heads, and no byte more;
+-- it says the same, and has this body
 pub record FindsAnswer (method : List ℕ) (a : Answer) (plan : Plan) (body text : List ℕ) : Type 0 where
   pub reply : Reply
   pub is : IsReply method reply

@@ -1,4 +1,4 @@
--- Requests one after another, as whoever reads by the grammar finds them.
+-- Requests one after another, as a reader by the grammar finds them.
 use Rattle.std.specs.Prelude.{◌≡◌, ℕ, true, List, ◌++◌, Some}
 use Rattle.httparse.specs.Grammar.{RequestHead, IsRequestHead, print_request}
 use Rattle.relay_body.specs.Framings.{IsBody}
@@ -11,7 +11,7 @@ pub record Message : Type 0 where
   pub head : RequestHead
   pub body : List ℕ
 
--- it is a head by the grammar, and a whole body as the head frames it
+-- a head by the grammar, and a whole body of the head's framing
 pub record IsMessage (m : Message) : Type 0 where
   pub head : IsRequestHead m.head
   pub framing : Framing

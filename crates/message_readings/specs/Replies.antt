@@ -1,4 +1,4 @@
--- Answers one after another, as a client that reads by the grammar finds them, who knows what it asked.
+-- Answers one after another, as a client finds them that reads by the grammar and knows its requests.
 use Rattle.std.specs.Prelude.{◌≡◌, ◌≢◌, ℕ, true, false, List, [], ◌∷◌, ◌++◌, Some}
 use Rattle.std.specs.List.{AllByRecursion}
 use Rattle.httparse.specs.Grammar.{ResponseHead, IsResponseHead, print_response}
@@ -9,18 +9,18 @@ use Rattle.http_texts.specs.Messages.{print_heads}
 use Rattle.http_texts.specs.declared.plans.Plan.{Plan}
 use Rattle.req_view.specs.Answer.{answer_of}
 
--- heads before an answer, its own, and its body
+-- interim heads, the answer's own head, and its body
 pub record Reply : Type 0 where
   pub interims : List ResponseHead
   pub head : ResponseHead
   pub body : List ℕ
 
--- a head before an answer, by the grammar
+-- an interim head by the grammar
 pub record IsBefore (h : ResponseHead) : Type 0 where
   pub head : IsResponseHead h
   pub interim : is_interim (answer_of h).status ≡ true
 
--- a whole answer to a request of this method, whose end shows
+-- a whole answer to a request with this method, with a marked end
 pub record IsReply (method : List ℕ) (r : Reply) : Type 0 where
   pub before : AllByRecursion IsBefore r.interims
   pub head : IsResponseHead r.head
@@ -35,7 +35,7 @@ pub record IsReply (method : List ℕ) (r : Reply) : Type 0 where
 abbrev pub print_reply : Reply → List ℕ
 print_reply r = print_heads r.interims ++ (print_response r.head ++ r.body)
 
--- one for each method, in order
+-- one answer for each method, in order
 abbrev pub AreReplies : List (List ℕ) → List Reply → Type 0
 AreReplies [] [] = Unit {0}
 AreReplies (method ∷ methods) (r ∷ rs) = IsReply method r × AreReplies methods rs

@@ -21,19 +21,19 @@ ghost use Rattle.message_readings.specs.Replies.{Reply, AreReplies, print_reply}
 
 use std::net::IpAddr;
 
-/// Requests one after another are read in one way only: no byte of one is another's.
+/// A sequence of requests is read in one way only: no byte of one belongs to another.
 pub fn one_reading()
     ensures { (some others : List Message) (rest behind : List ℕ) → AllByRecursion IsMessage some → AllByRecursion IsMessage others
         → flat_map print_message some ++ rest ≡ flat_map print_message others ++ behind → AreComparable some others }
 {}
 
-/// And so are answers, by who knows what was asked.
+/// The same for answers, where the reader knows the requests.
 pub fn one_answering()
     ensures { (methods : List (List ℕ)) (some others : List Reply) (rest behind : List ℕ) → AreReplies methods some → AreReplies methods others
         → flat_map print_reply some ++ rest ≡ flat_map print_reply others ++ behind → (some ≡ others) × (rest ≡ behind) }
 {}
 
-/// Each address meets what the laws below ask of one.
+/// Each address meets the premise of the laws below.
 pub fn what_an_address_keeps(address: IpAddr)
     ensures { IsAddress address }
 {
@@ -47,25 +47,28 @@ pub fn what_an_address_keeps(address: IpAddr)
     }
 }
 
-/// A head that is handed on is read by its server as what it is: one head, which asks for the same and frames its body as the client's did.
+/// A head that is handed on is read by its server as one head, which asks for the same and has the
+/// framing of the client's.
 pub fn a_server_reads_alike()
     ensures { (adds : additions.Additions) (h : RequestHead) (framing : framings.Framing) → IsNamed adds.client → IsRequest h
         → request_framing (request_of h) ≡ Some framing → ReadsAlike adds (request_of h) framing }
 {}
 
-/// And so is an answer's by its client, where its end shows.
+/// The same for an answer's head and its client, where the answer's end is marked.
 pub fn a_client_reads_alike()
     ensures { (says : persistences.Persistence) (framed : Bool) (method : List ℕ) (h : ResponseHead) (plan : plans.Plan) → IsFinal method h plan
         → is_delimited framed plan.body ≡ true → AnswersAlike says framed method (answer_of h) plan }
 {}
 
-/// A request that was handed on whole is one request, with the body that it was sent with, and no byte more. By `one_reading` it is read in no other way.
+/// A request that was handed on whole is one request, with the body that it was sent with, and no
+/// byte more. By `one_reading` it is read in no other way.
 pub fn a_server_finds_the_request()
     ensures { (adds : additions.Additions) (h : RequestHead) (used text : List ℕ) → IsNamed adds.client → IsRequest h
         → (sent : IsForwarded adds (request_of h) used text) → FindsRequest adds.client (request_of h) sent.body text }
 {}
 
-/// And so is an answer, with the leave and the heads before it, where its end shows. By `one_answering` it is read in no other way.
+/// The same for an answer, with the `100` and the interim heads, where its end is marked. By
+/// `one_answering` it is read in no other way.
 pub fn a_client_finds_the_answer()
     ensures { (says : persistences.Persistence) (r : Request) (used text : List ℕ)
         → (told : IsAnswered says r.method (framed_for r.version) used text) → is_delimited (framed_for r.version) told.plan.body ≡ true

@@ -1,4 +1,4 @@
-//! Who reads by the grammar what was handed on finds what was sent: laws alone.
+//! A reader by the grammar finds in the forwarded bytes exactly what was sent: this crate consists of laws alone.
 #![tactic(auto)]
 
 mod laws;

@@ -9,7 +9,7 @@ use std::process::Abort;
 
 const TURNS: u64 = 1_000_000;
 
-/// A pipe, and what takes the body that it hands on.
+/// A pipe, and the sink of the body that it hands on.
 #[derive(Drop)]
 struct Passage {
     pipe: Pipe,
@@ -25,7 +25,7 @@ impl Passage {
     }
 
     fn pass(&mut self, input: &mut Feed<'_>, framing: Framing, framed: bool) -> Result<(), Fault> {
-        // Read here, so that the proof knows how many they can be.
+        // This read tells the proof how many there can be.
         let _turns = self.pipe.turns();
         let mut source = Counted::new(input);
         let mut sink = Counted::new(&mut self.output);
@@ -48,7 +48,7 @@ impl Passage {
     }
 }
 
-/// A body, how it is framed and whether it is told to be, what is written, and what is left behind it or the fault.
+/// A body, its framing and whether that is written, the output, and the rest after it or the fault.
 struct Body {
     bytes: &'static [u8],
     framing: Framing,
@@ -236,19 +236,19 @@ fn broken_bodies_are_refused(rt: HostRuntime) {
     }
 }
 
-/// What stops a body in chunks at a step.
+/// The way to stop a chunked body at a step.
 enum Stop {
-    /// The input ends behind so many bytes.
+    /// The input ends after this number of bytes.
     Cut,
-    /// This read fails, each of one byte.
+    /// The read of this number fails; each read is of one byte.
     Read,
-    /// This write fails, each of one byte.
+    /// The write of this number fails; each write is of one byte.
     Write,
-    /// There are no more turns than so many, and a read takes one for each byte.
+    /// There is only this number of turns, and a read takes one for each byte.
     Turns,
 }
 
-/// How a body in chunks is stopped, and up to which step.
+/// How a chunked body is stopped, and up to which step.
 struct Steps {
     stop: Stop,
     fault: Fault,

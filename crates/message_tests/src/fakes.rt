@@ -1,14 +1,14 @@
-//! What tests read from and write to.
+//! The sources and sinks of the tests.
 use std::alloc::Global;
 use std::io;
 use std::io::{Read, Write};
 
-/// Gives bytes, and behind them their end, or one byte a read for ever.
+/// A source of bytes, after which comes their end, or one byte a read for ever.
 #[derive(Drop)]
 pub(crate) struct Feed<'b> {
     pub(crate) bytes: &'b [u8],
     pub(crate) for_ever: Option<u8>,
-    /// So many bytes at most a read.
+    /// The most bytes of one read.
     pub(crate) most: usize,
     pub(crate) reads: usize,
     /// The read that fails, counted from 1.
@@ -16,7 +16,7 @@ pub(crate) struct Feed<'b> {
 }
 
 impl<'b> Feed<'b> {
-    /// Gives all at once.
+    /// Makes a source that returns all at once.
     pub(crate) fn of(bytes: &'b [u8]) -> Feed<'b> {
         Feed {
             bytes,
@@ -49,11 +49,11 @@ impl Read for Feed<'_> {
     }
 }
 
-/// Takes bytes, and keeps them.
+/// A sink that keeps its bytes.
 #[derive(Drop)]
 pub(crate) struct Log {
     pub(crate) bytes: Vec<u8>,
-    /// So many bytes at most a write.
+    /// The most bytes of one write.
     pub(crate) most: usize,
     pub(crate) writes: usize,
     /// The write that fails, counted from 1.
@@ -61,7 +61,7 @@ pub(crate) struct Log {
 }
 
 impl Log {
-    /// Takes all at once.
+    /// Makes a sink that takes all at once.
     pub(crate) fn new(alloc: Global) -> Log {
         Log {
             bytes: Vec::new(alloc),

@@ -7,7 +7,7 @@ use relay_http::Fault;
 use std::alloc::Global;
 use verdict::{Ending, Verdict};
 
-/// The pass, and the board and the seat to which it goes back. It has no `Drop`, as the pass has none.
+/// The pass, and the board and the seat for its return. It has no `Drop`, since the pass has none.
 pub(crate) struct Held {
     board: Board,
     seat: RelaySeat,

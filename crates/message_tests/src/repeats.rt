@@ -1,8 +1,8 @@
-//! Bytes that are too many to be written out.
+//! Byte strings that are too long to be written out.
 use std::alloc::Global;
 use std::process::Abort;
 
-/// A start, so many times the unit, and an end.
+/// A start, a unit this number of times, and an end.
 pub(crate) struct Repeated {
     pub(crate) start: &'static [u8],
     pub(crate) unit: &'static [u8],

@@ -1,4 +1,4 @@
-//! What is printed of faults.
+//! Tests of the texts of faults.
 
 use crate::assertions::same;
 use relay_body::Fault as BodyFault;
@@ -24,7 +24,7 @@ static OF_MESSAGES: [(Fault, &str); 7] = [
     (Fault::Closed, "closed"),
 ];
 
-// Each has its text.
+// Checks the text of each.
 fn say<T: Display>(rt: &impl Abort, alloc: Global, rows: &[(T, &str)], of: &str) {
     for (it, text) in rows {
         let said = it.to_string(alloc).expect(rt, "memory");

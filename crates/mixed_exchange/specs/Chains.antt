@@ -10,7 +10,8 @@ use Rattle.mixed_exchange.specs.Steps.{IsAt}
 use Rattle.mixed_exchange.specs.declared.exchange.Exchange.{Exchange}
 use Rattle.mixed_exchange.specs.declared.exchange.Exchange.TheVariants.{Asking, Waiting, Dialing, Passing, Settling, Leaving, Telling, Over}
 
--- its client may ask again: both messages were whole, both sides agreed that the connection stays, and the client was sent all of the answer
+-- its client may ask again: both messages were whole, both sides agreed to keep the connection
+-- open, and the client was sent the whole answer
 abbrev pub may_ask_again : Exchange → Bool
 may_ask_again (Asking a) = false
 may_ask_again (Waiting w) = false
@@ -21,14 +22,15 @@ may_ask_again (Leaving l) = false
 may_ask_again (Telling t) = false
 may_ask_again Over = false
 
--- a new exchange, of which these bytes have come and nothing else happened, but that memory for it may be wanting
+-- a new exchange with these bytes from its client, to which nothing else has happened, except that
+-- memory for it may be short
 pub record IsBegun (x : Exchange) (bytes : List ℕ) : Type 0 where
   pub now : History
   pub is : (now ≡ begun bytes) ⊎ (now ≡ signed (begun bytes) Signs.NoMemory)
   pub at : IsAt x now
 
--- The exchange with this history was whole, and its client was sent all that it was to be told and told that it may ask again; the next exchange begins with
--- what came behind its request.
+-- The exchange with this history was whole, and its client was sent all its bytes and told that it
+-- may ask again; the next exchange begins with the bytes after its request.
 pub record IsNext (h : History) (next : Exchange) : Type 0 where
   pub whole : Whole
   pub behind : List ℕ
@@ -38,7 +40,7 @@ pub record IsNext (h : History) (next : Exchange) : Type 0 where
   pub stays : whole.says ≢ Close
   pub begins : IsBegun next behind
 
--- what its client is told is the whole answer of its server
+-- its client is sent the whole answer of its server
 abbrev pub is_answered : Exchange → Bool
 is_answered (Asking a) = false
 is_answered (Waiting w) = false
@@ -49,7 +51,7 @@ is_answered (Leaving l) = l.whole
 is_answered (Telling t) = false
 is_answered Over = false
 
--- nothing came of its client yet
+-- no byte has come from its client yet
 abbrev pub is_silent : Exchange → Bool
 is_silent (Asking a) = is_none a.held.items
 is_silent (Waiting w) = false
@@ -60,8 +62,8 @@ is_silent (Leaving l) = false
 is_silent (Telling t) = false
 is_silent Over = false
 
--- its server's connection can be used again: both messages were whole, all of the request was sent, nothing came behind the answer, and both sides agreed that
--- the connection stays
+-- its server's connection can be used again: both messages were whole, the request was sent whole,
+-- nothing came after the answer, and both sides agreed to keep the connection open
 abbrev pub is_clean : Exchange → Bool
 is_clean (Asking a) = false
 is_clean (Waiting w) = false
@@ -72,7 +74,7 @@ is_clean (Leaving l) = l.clean
 is_clean (Telling t) = false
 is_clean Over = false
 
--- its request may go out on a connection that was used before
+-- its request may go out on a used connection
 abbrev pub takes_used : Exchange → Bool
 takes_used (Asking a) = false
 takes_used (Waiting w) = false

@@ -1,4 +1,4 @@
--- The passes of an exchange: those that it holds, those that came, and those that went out.
+-- The passes of an exchange: those that it holds, those that were handed in, and those that it gave away.
 use Rattle.std.specs.Prelude.{ℕ, zero, suc, List, [], ◌∷◌}
 use Rattle.grant_board.specs.Views.{Grant}
 use Rattle.mixed_exchange.specs.declared.event.Event.{Event}
@@ -8,7 +8,7 @@ use Rattle.mixed_exchange.specs.declared.exchange.Exchange.TheVariants.{Asking, 
 use Rattle.mixed_exchange.specs.declared.exchange.Outcome.{Outcome}
 use Rattle.mixed_exchange.specs.declared.exchange.Outcome.TheVariants as Outcomes
 
--- those that it holds: one at most
+-- the passes that it holds: at most one
 abbrev pub held_by : Exchange → List Grant
 held_by (Asking a) = []
 held_by (Waiting w) = []
@@ -19,12 +19,12 @@ held_by (Leaving l) = []
 held_by (Telling t) = []
 held_by Over = []
 
--- the pass where it counts as taken
+-- the pass where it was taken
 abbrev pub if_taken : ℕ → Grant → List Grant
 if_taken zero pass = []
 if_taken (suc n) pass = pass ∷ []
 
--- those that came with an event, of which so much was taken
+-- the passes handed in with an event, of which the exchange took this many
 abbrev pub came_with : Event → ℕ → List Grant
 came_with (Events.ClientBytes input) used = []
 came_with (Events.ServerBytes input) used = []
@@ -41,7 +41,7 @@ came_with Events.ServerFailed used = []
 came_with Events.ServerDeaf used = []
 came_with (Events.TimeOver clock) used = []
 
--- those that are to be posted
+-- the passes that are to be posted
 abbrev pub gone_with : Outcome → List Grant
 gone_with Outcomes.Quiet = []
 gone_with (Outcomes.Posts pass ending) = pass ∷ []

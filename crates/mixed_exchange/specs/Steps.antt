@@ -1,4 +1,4 @@
--- What an exchange is after a history, and what an event makes of a history.
+-- The state of an exchange after a history, and the effect of an event on a history.
 use Rattle.std.specs.Prelude.{◌≡◌, ◌≤◌, ℕ, zero, suc, Bool, true, false, ◌||◌, not, if◌then◌else◌, List, [], ◌∷◌, length, take, Option, Some, None}
 use Rattle.body_coder.specs.Stops.{is_done}
 use Rattle.grant_board.specs.Views.{Grant}
@@ -30,11 +30,11 @@ IsAt (Leaving l) h = IsLeaving l h
 IsAt (Telling t) h = IsTelling t h
 IsAt Over h = IsOver h
 
--- there is a history that it is at: by the law of an exchange what was sent and told in it is sound
+-- it is the state after some history: by the law of an exchange that history is sound
 abbrev pub HasHistory : Exchange → Type 0
 HasHistory x = ∥ ((h : History) × IsAt x h) ∥₁
 
--- what its client is to be sent next
+-- the bytes that its client is to be sent next
 abbrev pub to_client : Exchange → List ℕ
 to_client (Asking a) = []
 to_client (Waiting w) = []
@@ -45,7 +45,7 @@ to_client (Leaving l) = l.out.out
 to_client (Telling t) = t.rest.now
 to_client Over = []
 
--- and its server
+-- and those for its server
 abbrev pub to_server : Exchange → List ℕ
 to_server (Asking a) = []
 to_server (Waiting w) = []
@@ -56,7 +56,7 @@ to_server (Leaving l) = []
 to_server (Telling t) = []
 to_server Over = []
 
--- more of what its client sends is taken
+-- more of the client's bytes are taken
 abbrev pub reads_client : Exchange → Bool
 reads_client (Asking a) = true
 reads_client (Waiting w) = false
@@ -67,7 +67,7 @@ reads_client (Leaving l) = false
 reads_client (Telling t) = false
 reads_client Over = false
 
--- more of what its server sends is taken
+-- more of the server's bytes are taken
 abbrev pub reads_server : Exchange → Bool
 reads_server (Asking a) = false
 reads_server (Waiting w) = false
@@ -78,7 +78,7 @@ reads_server (Leaving l) = false
 reads_server (Telling t) = false
 reads_server Over = false
 
--- something is to be sent to a server that takes it
+-- bytes are to be sent to a server that takes them
 abbrev pub writes_server : Exchange → Bool
 writes_server (Asking a) = false
 writes_server (Waiting w) = false
@@ -89,13 +89,13 @@ writes_server (Leaving l) = false
 writes_server (Telling t) = false
 writes_server Over = false
 
--- no more is taken of an event than there is
+-- no more of an event is taken than there is
 abbrev pub IsWithin : Event → ℕ → Type 0
 IsWithin (Events.ClientBytes input) used = used ≤ length input.now
 IsWithin (Events.ServerBytes input) used = used ≤ length input.now
 IsWithin event used = Unit {0}
 
--- an exchange is over whose client sends no more: where its request isn't whole, and else where the configuration says so
+-- an exchange ends when its client sends no more: where its request isn't whole, or where the rules say so
 abbrev pub is_left : Bool → Exchange → Bool
 is_left aborts (Asking a) = true
 is_left aborts (Waiting w) = aborts
@@ -106,12 +106,13 @@ is_left aborts (Leaving l) = false
 is_left aborts (Telling t) = false
 is_left aborts Over = false
 
--- a client that sends no more is left, or nothing changes
+-- a client that sends no more is given up, or nothing changes
 pub record IsRuled (aborts : Bool) (x : Exchange) (event : Event) (next : Exchange) : Type 0 where
   pub leaves : event ≡ Events.ClientEnd → is_left aborts x ≡ true → next ≡ Over
   pub stays : event ≡ Events.ClientEnd → is_left aborts x ≡ false → next ≡ x
 
--- which limit's time runs where both sides go on, by whether anything waits for each, and whether the request is whole: that of the side that is waited for
+-- which timeout runs where both sides are active, by whether bytes wait for each, and whether the
+-- request is whole: that of the side that is waited for
 abbrev pub passing_clock : Bool → Bool → Bool → Clock
 passing_clock true for_server asked = Clocks.Client
 passing_clock false true asked = Clocks.Server
@@ -122,7 +123,7 @@ abbrev pub waits : List ℕ → Bool
 waits [] = false
 waits (b ∷ bytes) = true
 
--- which limit's time runs
+-- which timeout runs
 abbrev pub clock_of : Exchange → Option Clock
 clock_of (Asking a) = Some Clocks.Client
 clock_of (Waiting w) = Some Clocks.Queue
@@ -133,7 +134,7 @@ clock_of (Leaving l) = Some Clocks.Client
 clock_of (Telling t) = Some Clocks.Client
 clock_of Over = None
 
--- the sign that a time is over
+-- the sign of an expired timeout
 abbrev pub over : Clock → Sign
 over Clocks.Client = Signs.ClientOver
 over Clocks.Queue = Signs.QueueOver
@@ -145,12 +146,12 @@ abbrev pub came_pass : ℕ → Grant → History → History
 came_pass zero pass h = h
 came_pass (suc n) pass h = granted h pass
 
--- what is added to a request for a connection counts where its head was made for it
+-- the additions to a request for a connection count where its head was made for it
 abbrev pub connected_with : ℕ → Additions → History → History
 connected_with zero adds h = h
 connected_with (suc n) adds h = connected_on h adds
 
--- the history, with what an event told, of which so much was taken; what a side took it took
+-- the history after an event of which this much was taken; the bytes that a side took count as sent
 abbrev pub heard : Exchange → Event → ℕ → History → History
 heard x (Events.ClientBytes input) used h = client_came h (take used input.now)
 heard x (Events.ServerBytes input) used h = server_came h (take used input.now)
@@ -167,7 +168,7 @@ heard x Events.ServerFailed used h = signed h Signs.ServerFailed
 heard x Events.ServerDeaf used h = signed h Signs.ServerDeaf
 heard x (Events.TimeOver clock) used h = signed h (over clock)
 
--- and with what was given away
+-- the history after an outcome
 abbrev pub ended : Outcome → History → History
 ended Outcomes.Quiet h = h
 ended (Outcomes.Posts pass ending) h = posted h pass ending
@@ -176,7 +177,8 @@ ended (Outcomes.StarvedPosts pass ending) h = posted (signed h Signs.NoMemory) p
 ended Outcomes.Retries h = retried h
 ended (Outcomes.Returns pass) h = h
 
--- a pass goes back as failed just where another one is waited for, and none comes back that was handed in
+-- a pass is posted as failed exactly where another one is waited for, and no pass that was just
+-- handed in is returned
 abbrev pub FailsInTurn : Outcome → Exchange → Type 0
 FailsInTurn (Outcomes.Posts pass Failed) (Waiting w) = Unit {0}
 FailsInTurn (Outcomes.Posts pass Failed) x = ⊥
@@ -185,17 +187,17 @@ FailsInTurn (Outcomes.StarvedPosts pass Failed) x = ⊥
 FailsInTurn (Outcomes.Returns pass) x = ⊥
 FailsInTurn outcome x = Unit {0}
 
--- none comes back that was handed in
+-- no pass that was just handed in is returned
 abbrev pub IsOwn : Outcome → Type 0
 IsOwn (Outcomes.Returns pass) = ⊥
 IsOwn outcome = Unit {0}
 
--- one that was handed in may come back
+-- a pass that was just handed in may be returned
 abbrev pub MayReturn : Outcome → Exchange → Type 0
 MayReturn (Outcomes.Returns pass) x = Unit {0}
 MayReturn outcome x = FailsInTurn outcome x
 
--- the same by what was told
+-- the same, by the event
 abbrev pub TellsInTurn : Event → Outcome → Exchange → Type 0
 TellsInTurn (Events.Granted pass) outcome x = MayReturn outcome x
 TellsInTurn event outcome x = FailsInTurn outcome x

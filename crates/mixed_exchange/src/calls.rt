@@ -29,7 +29,7 @@ fn quiet(next: Exchange, used: usize) -> Step
     }
 }
 
-// Nothing of what is told moves it.
+// The event changes nothing.
 fn unmoved(exchange: Exchange) -> Step
     ensures same { result.next ≡ exchange }
     ensures none { result.used ≡ 0 }
@@ -175,7 +175,7 @@ fn take_answer(passing: &mut Passing, input: &[u8]) -> usize
     }
 }
 
-// So many bytes, or all of them.
+// Returns `count`, or the number of waiting bytes where that is less.
 fn fitting(count: usize, waiting: &[u8]) -> usize
     ensures within { result ≤ length waiting.now }
     ensures same { take result waiting.now ≡ take count waiting.now }
@@ -290,7 +290,7 @@ pub(crate) fn connected(exchange: Exchange, alloc: Global, terms: Terms) -> Step
     }
 }
 
-// On a connection in place of one that broke what waits goes out as it stands.
+// On a connection in place of one that broke the waiting bytes are sent as they are.
 fn reconnected(mut passing: Passing, alloc: Global, terms: Terms) -> Step
     ensures at { (h : History) → IsPassing passing h
         → steps.IsAt result.next (steps.ended result.outcome (steps.connected_with result.used terms.adds h)) }
@@ -357,7 +357,7 @@ pub(crate) fn unreachable(exchange: Exchange, sign: Sign) -> Step
     }
 }
 
-// Where no byte reached a server another pass may be waited for; else its client is told.
+// Where no byte reached a server the exchange may wait for another pass; otherwise its client is told.
 fn unreached_at_first(dialing: Dialing, sign: Sign) -> Step
     requires { told_for sign ≡ Some codes.Code.Unavailable }
     ensures at { (h : History) → IsDialing dialing h → steps.IsAt result.next (steps.ended result.outcome (signed h sign)) }
@@ -395,7 +395,7 @@ fn unreached(passing: Passing, sign: Sign) -> Step
     }
 }
 
-/// The client has gone: nothing more is written, and a pass goes back as done.
+/// The client has left: nothing more is written, and a pass is posted as done.
 pub(crate) fn gone(exchange: Exchange, sign: Sign) -> Step
     ensures over { result.next ≡ Exchange.Over }
     ensures at { (h : History) → steps.IsAt exchange h → steps.IsAt result.next (steps.ended result.outcome (signed h sign)) }
@@ -440,7 +440,7 @@ pub(crate) fn client_ended(exchange: Exchange, aborts: bool) -> Step
     }
 }
 
-// Is an exchange over whose client sends no more?
+// Says whether an exchange ends when its client sends no more.
 fn is_left(exchange: &Exchange, aborts: bool) -> bool
     ensures { result ≡ steps.is_left aborts exchange.now }
 {
@@ -475,7 +475,7 @@ pub(crate) fn server_ended(exchange: Exchange, alloc: Global, sign: Sign) -> Ste
     }
 }
 
-// Did the server's input come to its end, and not break?
+// Says whether the server's input came to its end without an error.
 fn is_end(sign: Sign) -> bool
     ensures end { IsTrue result → sign ≡ Sign.ServerEnded }
     ensures each { sign ≡ Sign.ServerEnded → IsTrue result }
@@ -528,7 +528,7 @@ fn client_over(exchange: Exchange) -> Step
     }
 }
 
-// Who said nothing at all is told nothing.
+// A client that sent nothing at all is told nothing.
 fn asked_late(asking: Asking) -> Step
     ensures at { (h : History) → IsAsking asking h → steps.IsAt result.next (steps.ended result.outcome (signed h Sign.ClientOver)) }
     ensures fails { steps.FailsInTurn result.outcome result.next }

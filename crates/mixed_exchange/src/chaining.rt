@@ -1,4 +1,4 @@
-//! Requests one after another on a client's connection and on a server's: how an exchange ended, and the next one.
+//! Requests one after another on a client's and on a server's connection: how an exchange ended, and the next one.
 
 ghost use Rattle.std.specs.Prelude.{◌≡◌, ◌++◌, ℕ, List, [], true, false, IfOk, IfErr, IsTrue};
 ghost use Rattle.exchange_machine.specs.Answerings.{TellsAnswer};
@@ -15,7 +15,8 @@ use http_texts::Fault;
 use std::alloc::Global;
 
 impl Exchange {
-    /// Is what its client is told, and was told, the whole answer of its server, and no refusal, nor an answer that broke off?
+    /// Says whether its client is or was sent the whole answer of its server, and not a refusal or
+    /// an answer that broke off.
     pub fn is_answered(&self) -> bool
         ensures answered { result ≡ chains.is_answered self.now }
         ensures whole { IsTrue result → (h : History) → steps.IsAt self.now h
@@ -33,7 +34,7 @@ impl Exchange {
         }
     }
 
-    /// Did nothing come of its client yet?
+    /// Says whether no byte has come from its client yet.
     pub fn is_silent(&self) -> bool
         ensures silent { result ≡ chains.is_silent self.now }
         ensures none { IsTrue result → (h : History) → steps.IsAt self.now h → (h.client_in ≡ []) × (h.to_client ≡ []) × (h.grants ≡ []) }
@@ -50,8 +51,9 @@ impl Exchange {
         }
     }
 
-    /// Can its server's connection be used again? Both messages were whole, all of the request was sent, nothing came behind the answer, and both sides agreed
-    /// that the connection stays.
+    /// Says whether its server's connection can be used again: both messages were whole, the
+    /// request was sent whole, nothing came after the answer, and both sides agreed to keep the
+    /// connection open.
     pub fn is_clean(&self) -> bool
         ensures clean { result ≡ chains.is_clean self.now }
         ensures ends { IsTrue result → (h : History) → steps.IsAt self.now h → EndsClean h (steps.to_client self.now) }
@@ -68,7 +70,8 @@ impl Exchange {
         }
     }
 
-    /// May its request go out on a server's connection that was used before? It waits for one, has no body, and may be served twice.
+    /// Says whether its request may go out on a used connection of a server: it waits for a
+    /// connection, has no body, and is idempotent.
     pub fn takes_used(&self) -> bool
         ensures { result ≡ chains.takes_used self.now }
     {
@@ -84,7 +87,8 @@ impl Exchange {
         }
     }
 
-    /// May its client ask again? Both messages were whole, both sides agreed that the connection stays, and the client was sent all of the answer.
+    /// Says whether its client may ask again: both messages were whole, both sides agreed to keep
+    /// the connection open, and the client was sent the whole answer.
     pub fn may_ask_again(&self) -> bool
         ensures { result ≡ chains.may_ask_again self.now }
     {
@@ -100,7 +104,8 @@ impl Exchange {
         }
     }
 
-    /// The next exchange of a client that may ask again. It begins with what came behind the request, and so may wait for a pass at once, or be refused.
+    /// Makes the next exchange of a client that may ask again. It begins with the bytes after the
+    /// request, so it may wait for a pass at once, or be refused.
     pub fn ask_again(self, alloc: Global) -> Result<Exchange, Exchange>
         ensures next { IfOk result (λ next. (h : History) → steps.IsAt self h → chains.IsNext h next) }
         ensures history { IfOk result (λ next. steps.HasHistory next) }

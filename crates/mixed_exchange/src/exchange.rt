@@ -13,17 +13,17 @@ use grant_board::Pass;
 use std::alloc::Global;
 use verdict::Ending;
 
-/// One request and its answer, how far they are.
+/// One request and its answer, in their stage.
 pub enum Exchange {
     Asking(Asking),
     Waiting(Waiting),
     Dialing(Dialing),
     Passing(Passing),
-    /// Both messages were whole, and its client may ask again once all is told.
+    /// Both messages were whole, and its client may ask again once all is sent.
     Settling(Settling),
-    /// Its client is left once all is told.
+    /// Its client's connection is closed once all is sent.
     Leaving(Leaving),
-    /// It is told a refusal, and left.
+    /// Its client is sent a refusal, and its connection closed.
     Telling(Telling),
     /// Nothing more is done.
     Over,
@@ -36,7 +36,7 @@ pub enum Outcome {
     Posts(Pass, Ending),
     /// There is no memory for the request.
     Starved,
-    /// There is no memory or no room for its head or its answer's: the pass is to be posted.
+    /// There is no memory or no room for the request's or the answer's head: the pass is to be posted.
     StarvedPosts(Pass, Ending),
     /// The server's connection is to be given up, and another one opened on the same pass.
     Retries,
@@ -44,14 +44,14 @@ pub enum Outcome {
     Returns(Pass),
 }
 
-/// What became of an exchange that was told something, and how much of it was taken.
+/// The result of an event: the exchange, what it gave away, and how much of the event it took.
 pub struct Step {
     pub next: Exchange,
     pub used: usize,
     pub outcome: Outcome,
 }
 
-/// Which bytes it waits for, which it has for a side that takes them, and which limit's time runs.
+/// The bytes that it waits for, those that it has for a side that takes them, and the timeout that runs.
 #[derive(Clone, Copy, Debug, PartialEq, Eq)]
 pub struct Wants {
     pub clock: Option<Clock>,
@@ -62,14 +62,14 @@ pub struct Wants {
 }
 
 impl Exchange {
-    /// Of whom no pass, no connection and no byte was told yet.
+    /// Makes an exchange without a pass, a connection or a byte.
     pub fn new(alloc: Global) -> Exchange
         ensures { steps.IsAt result nothing_yet }
     {
         Exchange::Asking(Asking::new(alloc))
     }
 
-    /// What its client is to be sent next.
+    /// Returns the bytes that its client is to be sent next.
     pub fn to_client(&self) -> &[u8]
         ensures { result.now ≡ steps.to_client self.now }
     {
@@ -84,7 +84,7 @@ impl Exchange {
         }
     }
 
-    /// What its server is to be sent next.
+    /// Returns the bytes that its server is to be sent next.
     pub fn to_server(&self) -> &[u8]
         ensures { result.now ≡ steps.to_server self.now }
     {
@@ -100,7 +100,7 @@ impl Exchange {
         }
     }
 
-    /// Which bytes it waits for.
+    /// Returns which bytes it waits for.
     pub fn wants(&self) -> Wants
         ensures reads_client { result.reads_client ≡ steps.reads_client self.now }
         ensures writes_client { IsFalse result.writes_client → steps.to_client self.now ≡ [] }
@@ -163,7 +163,7 @@ impl Exchange {
         }
     }
 
-    /// About how many bytes of its client it takes at once, where it takes any.
+    /// Returns about how many bytes of its client it takes at once, where it takes any.
     pub fn request_room(&self) -> usize {
         match self {
             Exchange::Asking(asking) => asking.room(),
@@ -172,7 +172,7 @@ impl Exchange {
         }
     }
 
-    /// About how many bytes of its server it takes at once, where it takes any.
+    /// Returns about how many bytes of its server it takes at once, where it takes any.
     pub fn answer_room(&self) -> usize {
         match self {
             Exchange::Passing(passing) => passing.answer_room(),
@@ -180,7 +180,7 @@ impl Exchange {
         }
     }
 
-    // Which limit's time runs: that of the side that is waited for.
+    // Returns the timeout that runs: that of the side that is waited for.
     fn clock(&self) -> Option<Clock>
         ensures { result ≡ steps.clock_of self.now }
     {
@@ -196,7 +196,7 @@ impl Exchange {
         }
     }
 
-    /// Of a client's request, whatever happens: what is true of the history before is true of it with this event.
+    /// Handles any event at any stage: where the history before is sound, so is the history with this event.
     pub fn step(self, alloc: Global, rules: Rules, event: Event) -> Step
         ensures at { (h : History) → steps.IsAt self h → steps.IsAt result.next (steps.after self event.entry result.used result.outcome h) }
         ensures history { steps.HasHistory self → steps.HasHistory result.next }

@@ -6,8 +6,8 @@ ghost use Rattle.mixed_exchange.specs.declared.event.Event as events;
 ghost use Rattle.mixed_exchange.specs.declared.exchange.Exchange as exchanges;
 ghost use Rattle.mixed_exchange.specs.declared.exchange.Outcome as outcomes;
 
-/// With what a step ensures: the pass that it holds and the one that came are those that it gives away and still holds. So none is lost, and none is posted but
-/// one that was handed in.
+/// With the clauses of a step: the pass that it held and the one that was handed in are those that
+/// it gives away and still holds. So none is lost, and only a pass that was handed in is posted.
 pub fn passes_go_on()
     ensures { (x y : exchanges.Exchange) (h : History) (event : events.Event) (used : ℕ) (outcome : outcomes.Outcome) → IsAt x h
         → IsAt y (after x event used outcome h) → held_by x ++ came_with event used ≡ gone_with outcome ++ held_by y }

@@ -15,13 +15,13 @@ use http_texts::Code;
 use std::alloc::Global;
 use verdict::Ending;
 
-/// How an exchange goes on, and what it gives away.
+/// The next exchange, and what it gives away.
 pub(crate) struct Turned {
     pub(crate) next: Exchange,
     pub(crate) outcome: Outcome,
 }
 
-/// What is held goes on as far as it may, and where the server's side is over it is judged.
+/// Uses the held bytes as far as it may, and judges the server's side where it is over.
 pub(crate) fn go_on(mut passing: Passing, alloc: Global) -> Turned
     ensures at { (h : History) → IsPassing passing h → steps.IsAt result.next (steps.ended result.outcome h) }
     ensures fails { steps.FailsInTurn result.outcome result.next }
@@ -58,7 +58,7 @@ fn stays(passing: Passing) -> Turned
     }
 }
 
-// A head's text waits for room, where anything is to be sent before it; else there is never room for it.
+// A head's text waits for room, where bytes are to be sent before it; otherwise there is never room for it.
 fn no_room(passing: Passing) -> Turned
     ensures at { (h : History) → IsPassing passing h → steps.IsAt result.next (steps.ended result.outcome h) }
     ensures fails { steps.FailsInTurn result.outcome result.next }
@@ -89,7 +89,7 @@ fn head_goes_on(passing: Passing) -> Turned
     breaks_off(passing)
 }
 
-// What waits for the server goes out on another connection as it stands.
+// The bytes that wait for the server are sent on another connection as they are.
 fn redials(mut passing: Passing) -> Turned
     requires { IsUntouched passing }
     ensures at { (h : History) → IsPassing passing h → steps.IsAt result.next (steps.ended result.outcome h) }
@@ -102,7 +102,7 @@ fn redials(mut passing: Passing) -> Turned
     }
 }
 
-// The server's input came to its end before the answer's.
+// The server's input ended before the answer did.
 fn breaks_off(passing: Passing) -> Turned
     requires { passing.ended ≡ true }
     ensures at { (h : History) → IsPassing passing h → steps.IsAt result.next (steps.ended result.outcome h) }
@@ -171,7 +171,7 @@ fn body_goes_on(mut passing: Passing) -> Turned
     breaks_off(passing)
 }
 
-// What came behind the answer's head is no body.
+// The bytes after the answer's head can't be its body.
 fn answered_badly(passing: Passing) -> Turned
     requires body { passing.phase ≡ Down.Body }
     requires bad { is_bad passing.down.coding ≡ true }
@@ -202,7 +202,7 @@ fn settles(passing: Passing) -> Turned
     }
 }
 
-/// The answer can't go on: what was handed on of it still goes out.
+/// The answer can't go on: the part that was handed on is still sent.
 pub(crate) fn ends(passing: Passing) -> Turned
     ensures at { (h : History) → IsPassing passing h → steps.IsAt result.next (steps.ended result.outcome h) }
     ensures fails { steps.FailsInTurn result.outcome result.next }
@@ -245,7 +245,7 @@ pub(crate) fn refused_late(passing: Passing) -> Turned
     left(passing.refuse(Code::BadGateway))
 }
 
-/// No connection came about in place of one that broke, for this reason.
+/// No connection was made in place of one that broke, for this reason.
 pub(crate) fn not_redialed(passing: Passing, sign: Sign) -> Turned
     requires { told_for sign ≡ Some codes.Code.Unavailable }
     ensures at { (h : History) → IsPassing passing h → steps.IsAt result.next (steps.ended result.outcome (signed h sign)) }

@@ -1,4 +1,4 @@
-//! What is counted of a proxy, as Prometheus is told it.
+//! Tests of a proxy's counters, as Prometheus gets them.
 
 use dispatch_log::{Arrival, Entry, Queue};
 use due_key::{Class, Due, Moment, Offset};
@@ -16,7 +16,7 @@ fn moment(rt: &impl Abort, number: u64) -> Moment {
     Moment::new(number).expect(rt, "a moment")
 }
 
-// A request of a class that comes at a moment and is due at another.
+// A request of a class that arrives at a moment and is due at another.
 fn arrive(rt: &impl Abort, ticket: u64, class: i64, times: (u64, i64)) -> Entry {
     let (at, due) = times;
     let arrival = Arrival {

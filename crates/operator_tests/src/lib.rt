@@ -1,5 +1,6 @@
-//! Tests of what operators steer `run` with and watch it by: commands and their socket, lines of requests and of windows, pages. A crate of their own, so that
-//! what they test isn't proved once more with them.
+//! Tests of the means to steer and watch `run`: commands and their socket, lines of requests and of
+//! windows, pages. They are a crate of their own, so that the crates under test aren't proved a
+//! second time with them.
 #![tactic(auto)]
 
 #[cfg(test)]

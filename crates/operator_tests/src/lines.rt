@@ -8,7 +8,7 @@ fn moment(rt: &impl Abort, number: u64) -> Moment {
     Moment::new(number).expect(rt, "a moment")
 }
 
-// Each reference at one lifetime.
+// This gives all references one lifetime.
 fn line_of<'x>(account: &'x Account, numbers: Option<&'x Numbers>, names: &'x Names) -> Line<'x> {
     let load = Load { all: 2, own: 1 };
     Line {

@@ -8,7 +8,7 @@ fn moment(rt: &impl Abort, number: u64) -> Moment {
     Moment::new(number).expect(rt, "a moment")
 }
 
-// A request of class 0 that comes at a moment and is due at another.
+// A request of class 0 that arrives at a moment and is due at another.
 fn arrive(rt: &impl Abort, ticket: u64, at: u64, due: i64) -> Entry {
     let arrival = Arrival {
         ticket,

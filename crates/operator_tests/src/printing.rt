@@ -9,7 +9,7 @@ use std::thread;
 use std::thread::Threads;
 use window_printer::{Handed, WindowPrinter};
 
-// A window in which the only server was given so many requests when they came.
+// A window in which the only server was given this number of requests on arrival.
 fn window(rt: &impl Abort, alloc: Global, direct: usize) -> Window {
     let line = ServerLine {
         up: true,
@@ -50,7 +50,7 @@ fn a_full_queue_counts_what_it_leaves_out(rt: HostRuntime) {
     assert_eq!(rt; line.direct, 38);
 }
 
-// Hands three windows over while a thread prints them, and returns once it has ended.
+// Hands three windows over while a thread prints them, and returns once the thread has ended.
 fn print_three<R: Print + Eprint + Wait + Threads + Abort + Sync>(
     rt: &R,
     alloc: Global,

@@ -8,7 +8,7 @@ use std::net::Shutdown;
 use std::os::unix::net::UnixStream;
 use std::test::Fail;
 
-/// Answers each line with itself, and is over after so many rounds.
+/// A service that answers each line with itself, and ends after this number of rounds.
 #[derive(Drop)]
 struct Echo {
     alloc: Global,

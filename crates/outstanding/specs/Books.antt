@@ -1,4 +1,5 @@
--- A dispatcher beside a board's keeper: what is out at the board is what is outstanding of the log's state.
+-- A dispatcher beside a board's keeper: the verdicts that are out at the board are those that are
+-- outstanding in the log's state.
 use Rattle.std.specs.Prelude.{◌≡◌, ℕ, ◌+◌, List, ◌++◌, map}
 use Rattle.verdict.specs.declared.Ending.{Ending}
 use Rattle.verdict.specs.declared.Verdict.{Verdict}
@@ -13,7 +14,7 @@ use Rattle.dispatch_log.specs.Histories.{History, state_of}
 use Rattle.outstanding.specs.Outstanding.{outstanding, grants_of}
 use Rattle.outstanding.specs.Verdicts.{verdicts, endings}
 
--- the terms of the board that a setup asks for: its places, and its servers' limits
+-- the terms of the board for a setup: its places, and its servers' limits
 abbrev pub terms_of : Setup → Terms
 terms_of setup = terms setup.places (map (λ server. server.limit) setup.servers)
 
@@ -21,15 +22,16 @@ terms_of setup = terms setup.places (map (λ server. server.limit) setup.servers
 abbrev pub mark_by : Allowance → ℕ
 mark_by it = mark_of (bound_by it)
 
--- grants and returns without their places
+-- grants, and returns, without their places
 abbrev pub unplaced : List Grant → List (ℕ × Verdict)
 unplaced grants = map (λ g. (g.ticket, g.verdict)) grants
 
 abbrev pub returned : List Return → List (ℕ × Ending)
 returned returns = map (λ back. (back.ticket, back.ending)) returns
 
--- between calls: the board has the setup's terms and the marks of the state's bounds; what is out weighs what is outstanding, whatever
--- each grant weighs; and the offers end with the window's verdicts, the returns with its endings
+-- between calls: the board has the setup's terms and the marks of the state's bounds; the grants
+-- that are out are those that are outstanding, under every weight function; and the offers end with
+-- the window's verdicts, the returns with its endings
 pub record IsBook (history : History) (view : KeeperView) : Type 0 where
   pub terms : view.terms ≡ terms_of history.setup
   pub bounds : view.bounds ≡ map mark_by (state_of history).limits

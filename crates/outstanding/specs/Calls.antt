@@ -13,7 +13,7 @@ use Rattle.dispatch_log.specs.Legal.{AddsEvent}
 use Rattle.outstanding.specs.Outstanding.{grants_of}
 use Rattle.outstanding.specs.Verdicts.{verdicts}
 
--- a dispatcher's history, and what the keeper of its board knows
+-- a dispatcher's history, and the keeper's view of its board
 pub record Booked : Type 0 where
   pub history : History
   pub view : KeeperView
@@ -22,7 +22,7 @@ pub record Booked : Type 0 where
 abbrev pub added : History → History → List Entry
 added old new = drop (length old.log) new.log
 
--- entries' verdicts, at the places where their requests stand in the end
+-- the verdicts of entries, at the places where their requests are in the end
 abbrev pub grants_in : History → List Entry → List Grant
 grants_in history entries = grants_of (state_of history).rows (verdicts entries)
 
@@ -30,16 +30,16 @@ grants_in history entries = grants_of (state_of history).rows (verdicts entries)
 abbrev pub with_offers : KeeperView → List Grant → KeeperView
 with_offers view grants = record view { out = view.out ++ grants; offers = view.offers ++ grants }
 
--- a set of places has those of these grants from now on, and no other
+-- a set of places gets those of these grants, and no others
 abbrev pub Wakes : List Grant → List ℕ → List ℕ → Type 0
 Wakes grants old new = (place : ℕ) → Has new place ↔ (Contains (map (λ g. g.place) grants) place ⊎ Has old place)
 
--- an event's verdicts are offered, and their places are added to a set; nothing came back meanwhile
+-- an event's verdicts are offered, and their places are added to a set; nothing is collected meanwhile
 pub record CarriesOut (old new : Booked) (woken woken_then : List ℕ) : Type 0 where
   pub view : new.view ≡ with_offers old.view (grants_in new.history (added old.history new.history))
   pub wakes : Wakes (grants_in new.history (added old.history new.history)) woken woken_then
 
--- the event that a return is: its exchange is over, or its connection failed
+-- the event of a return: the exchange is over, or its connection failed
 abbrev pub ended_by : Ending → ℕ → ℕ → Entry
 ended_by ending.Done moment ticket = Done moment ticket
 ended_by ending.Failed moment ticket = Fail moment ticket
@@ -47,7 +47,7 @@ ended_by ending.Failed moment ticket = Fail moment ticket
 abbrev pub event_of : ℕ → Return → Entry
 event_of moment back = ended_by back.ending moment back.ticket
 
--- a return was collected at a place and is the next event, whose verdicts are offered
+-- a return is collected at a place and becomes the next event, whose verdicts are offered
 pub record TakesBack (old new : Booked) (place moment : ℕ) (back : Return) (woken woken_then : List ℕ) : Type 0 where
   pub between : KeeperView
   pub collects : Collects old.view between place back

@@ -1,4 +1,4 @@
--- What is outstanding: place by place, the requests that have a slot or were told why not, until they end.
+-- The outstanding verdicts: place by place, the requests that have a slot or were told why not, until they end.
 use Rattle.std.specs.Prelude.{ℕ, suc, List, [], ◌∷◌, ◌++◌, Option, None, Some, map, if◌then◌else◌}
 use Rattle.verdict.specs.declared.Verdict.{Verdict}
 use Rattle.verdict.specs.declared.Verdict.TheVariants as verdict
@@ -8,7 +8,7 @@ use Rattle.dispatch_log.specs.declared.row.Phase.TheVariants.{Loose, Waiting, Se
 use Rattle.dispatch_log.specs.declared.row.Row.{Row}
 use Rattle.dispatch_log.specs.Rows.{Rows, has_ticket}
 
--- the verdict that a request in a phase was given; none yet where it waits or is in no place
+-- the verdict that a request in this phase was given; none yet where it waits or has no phase
 abbrev pub verdict_at : Phase → Option Verdict
 verdict_at (Serving server) = Some (verdict.Serve server)
 verdict_at (Told cause) = Some (verdict.Told cause)
@@ -19,12 +19,12 @@ abbrev pub granted : ℕ → ℕ → Option Verdict → List Grant
 granted place ticket None = []
 granted place ticket (Some it) = grant place ticket it ∷ []
 
--- what is outstanding at a place
+-- the verdict that is outstanding at a place
 abbrev pub grants_at : ℕ → Option Row → List Grant
 grants_at place None = []
 grants_at place (Some row) = granted place row.key.ticket (verdict_at row.phase)
 
--- what is outstanding at places of which the first has this number
+-- the verdicts that are outstanding at places, the first of which has this number
 abbrev pub outstanding_from : ℕ → Rows → List Grant
 outstanding_from place [] = []
 outstanding_from place (cell ∷ rows) = grants_at place cell ++ outstanding_from (suc place) rows
@@ -32,7 +32,7 @@ outstanding_from place (cell ∷ rows) = grants_at place cell ++ outstanding_fro
 abbrev pub outstanding : Rows → List Grant
 outstanding rows = outstanding_from 0 rows
 
--- the place of a ticket's row: the first that has it
+-- the place of a ticket's row: the first one that has it
 abbrev pub place_in : ℕ → Rows → ℕ
 place_in ticket [] = 0
 place_in ticket (cell ∷ rows) = if has_ticket ticket cell then 0 else suc (place_in ticket rows)

@@ -1,4 +1,4 @@
--- The verdicts and the endings that a log's entries are.
+-- The verdicts and the endings among a log's entries.
 use Rattle.std.specs.Prelude.{ℕ, List, Option, None, Some}
 use Rattle.std.specs.List.{filter_map}
 use Rattle.verdict.specs.declared.Ending.{Ending}
@@ -22,7 +22,7 @@ ending_in (Done moment ticket) = Some (ticket, ending.Done)
 ending_in (Fail moment ticket) = Some (ticket, ending.Failed)
 ending_in entry = None
 
--- those of a log, in order
+-- the verdicts, and the endings, of a log, in order
 abbrev pub verdicts : List Entry → List (ℕ × Verdict)
 verdicts log = filter_map verdict_in log
 

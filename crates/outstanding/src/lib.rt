@@ -1,6 +1,7 @@
-//! What a dispatcher has outstanding: the requests that have a slot or were told why not and that haven't ended, place by place; the verdicts
-//! that the entries of its log are, and the endings that came back. Whoever keeps a dispatcher beside a board, or judges one that does,
-//! speaks in these words.
+//! The outstanding verdicts of a dispatcher: the requests that have a slot or were told why not and
+//! that haven't ended, place by place; the verdicts among the entries of its log, and the endings
+//! that came back. Crates that keep a dispatcher beside a board, or judge one, use these
+//! definitions.
 #![tactic(auto)]
 
 mod verdicts;

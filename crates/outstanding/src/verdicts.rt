@@ -4,8 +4,8 @@ ghost use Rattle.outstanding.specs.Verdicts.{verdict_in};
 use dispatch_log::Entry;
 use verdict::Verdict;
 
-/// The verdict that an entry is, with its ticket: a request takes a slot, or keeps it for another try, or is told why it isn't served. None where
-/// the entry is no verdict.
+/// Returns the verdict of an entry, with its ticket: a request takes a slot, or keeps it for
+/// another try, or is told why it isn't served. `None` where the entry isn't a verdict.
 pub fn verdict_in(entry: Entry) -> Option<(u64, Verdict)>
     ensures { result ≡ verdict_in entry }
 {

@@ -1,4 +1,4 @@
--- What a seat without a pass is after it asked for a ticket: a seat, and what that was told.
+-- The result for a seat without a pass that asked for a ticket: the seat, and the answer.
 use Rattle.grant_board.specs.declared.board.BoardName.{Ghosts}
 use Rattle.grant_board.specs.RelayCalls.{Relay}
 use Rattle.grant_board.specs.declared.pass.Taking.{Taking}

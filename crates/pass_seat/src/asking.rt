@@ -8,16 +8,16 @@ use crate::idle::Idle;
 use grant_board::{Board, BoardName, Taking};
 use std::marker::PhantomData;
 
-/// What a seat without a pass is after it asked for a ticket.
+/// The result for a seat without a pass that asked for a ticket.
 pub enum Asked<N: BoardName> {
     /// It has the pass.
     Held(Held<N>),
-    /// The ticket wasn't found offered, or another seat was faster.
+    /// The ticket isn't offered, or another seat was faster.
     NotYet(Idle<N>),
 }
 
 impl<N: BoardName> Idle<N> {
-    /// Takes the pass of the ticket, if it is found offered at the place. Two steps at most, and no memory.
+    /// Takes the pass of the ticket, if it is offered at the place. At most two steps, without allocating.
     pub fn take(self, board: &Board, place: usize, ticket: u64) -> Asked<N>
         requires same_board { board.now ≡ N.board }
         requires in_range { place < N.terms.places }

@@ -8,8 +8,8 @@ use grant_board::{Board, BoardName, Pass, RelaySeat};
 use std::marker::PhantomData;
 use verdict::{Ending, Verdict};
 
-/// A relay's seat of the board that N names, with its pass, which is the only one that it has. It has no `Drop`, as the pass has none: it is posted, or
-/// taken apart.
+/// A relay's seat of the board that N names, with its pass, which is its only one. It has no
+/// `Drop`, since the pass has none: it has to be posted, or taken apart.
 pub struct Held<N: BoardName> {
     pub(crate) seat: RelaySeat,
     pub(crate) pass: Pass,
@@ -20,7 +20,7 @@ pub struct Held<N: BoardName> {
 }
 
 impl<N: BoardName> Held<N> {
-    /// A seat and its pass, the only one that it has.
+    /// Joins a seat and its pass, the only one that it has.
     pub fn new(seat: RelaySeat, pass: Pass) -> Held<N>
         requires named { seat.board ≡ N.board }
         requires terms { seat.view.terms ≡ N.terms }
@@ -53,14 +53,14 @@ impl<N: BoardName> Held<N> {
         self.pass.verdict()
     }
 
-    /// The pass, to be lent to calls that ask for one. While it is lent it can't be posted.
+    /// Returns the pass, for calls that ask for one. While it is borrowed it can't be posted.
     pub fn pass(&self) -> &Pass
         ensures { result.now ≡ self.now.pass }
     {
         &self.pass
     }
 
-    /// Spends the pass: says how its exchange ended. One step, and no memory.
+    /// Posts the pass, with how its exchange ended. One step, without allocating.
     pub fn post(self, board: &Board, ending: Ending) -> Idle<N>
         requires same_board { board.now ≡ N.board }
         requires may_end { MayEnd self.pass.verdict ending }
@@ -72,7 +72,7 @@ impl<N: BoardName> Held<N> {
         Idle::new(seat)
     }
 
-    /// The seat and its pass, as they are, for a call that spends the pass. `Idle::new` is the way back.
+    /// Separates the seat and its pass, for a call that takes the pass. `Idle::new` is the way back.
     pub fn into_parts(self) -> (RelaySeat, Pass)
         ensures seat { result.0 ≡ self.seat }
         ensures pass { result.1 ≡ self.pass }

@@ -26,7 +26,7 @@ impl<N: BoardName> Idle<N> {
         }
     }
 
-    /// The seat, as it is.
+    /// Returns the seat.
     pub fn seat(self) -> RelaySeat
         ensures seat { result ≡ self.seat }
         ensures named { result.board ≡ N.board }

@@ -1,7 +1,7 @@
-//! Seats that go from thread to thread: one without a pass, and one with the pass that it took.
+//! Seats that move between threads: one without a pass, and one with the pass that it took.
 //!
-//! A pass can only be posted by the seat that has it. So the two are one value here, and what takes it over may post it, whichever
-//! thread that is.
+//! Only the seat that has a pass can post it. So the two are one value here, and any thread that
+//! takes the value over may post the pass.
 #![tactic(auto)]
 
 mod asking;

@@ -1,7 +1,8 @@
-//! Pending queues: pairs of a key and a value, of which the least key comes first.
+//! Pending queues: pairs of a key and a value, with the least key first.
 //!
-//! A queue has room for a number of pairs that is fixed when it is made, and a pair takes its memory when its node is
-//! made. So adding, removing and merging take no memory and cannot fail.
+//! A queue has room for a number of pairs that is fixed when it is made, and the memory of a pair
+//! is allocated when its node is made. So adding, removing and merging allocate nothing and can't
+//! fail.
 #![tactic(auto)]
 
 mod list_queue;

@@ -6,13 +6,13 @@ use crate::queue::PendQueue;
 use std::alloc::{AllocError, AllocFailed, Global};
 use std::marker::Model;
 
-/// A queue as a sorted `Vec`, whose memory is taken once.
+/// A queue as a sorted `Vec`, whose memory is allocated once.
 ///
-/// `first` and `pop` are `O(1)`. `push` and `remove` compare `O(log n)` keys and move up to `n` pairs, and `merge` is a
-/// `push` of each pair.
+/// `first` and `pop` are `O(1)`. `push` and `remove` compare `O(log n)` keys and move up to `n`
+/// pairs, and `merge` is a `push` of each pair.
 #[derive(Drop)]
 pub struct ListQueue<K: Ord, V> {
-    // By falling key, so that the least leaves at the end.
+    // By falling key, so that the least one is removed at the end.
     items: Vec<(K, V)>,
 }
 
@@ -29,7 +29,7 @@ impl<K: Ord, V> Model for ListQueue<K, V> {
 }
 
 impl<K: Ord, V> ListQueue<K, V> {
-    /// The value of a key, by `O(log n)` comparisons. `None` only where no pair has the key.
+    /// Returns the value of a key, by `O(log n)` comparisons; `None` only where no pair has the key.
     pub fn get(&self, key: &K) -> Option<&V>
         ensures { option_copied result ≡ option_map (λ p. p.1) (pair_at K.cmp key.now self.now.pairs) }
     {
@@ -138,7 +138,7 @@ fn put<K: Ord + Drop, V: Drop>(items: &mut Vec<(K, V)>, pair: (K, V))
     }
 }
 
-// Takes the pair of a key out.
+// Takes out the pair of a key.
 fn take_out<K: Ord, V>(items: &mut Vec<(K, V)>, key: &K) -> Option<(K, V)>
     requires { IsAscending K.cmp (reverse items.old.items) }
     ensures value { result ≡ pair_at K.cmp key.now (reverse items.old.items) }
@@ -151,7 +151,7 @@ fn take_out<K: Ord, V>(items: &mut Vec<(K, V)>, key: &K) -> Option<(K, V)>
     }
 }
 
-// Where the key stands, or where it would.
+// Returns the place of the key, or the place where it would go.
 fn place_of<K: Ord, V>(items: &[(K, V)], key: &K) -> Result<usize, usize>
     requires { IsAscending K.cmp (reverse items.now) }
     ensures found { IfOk result (IsAt K.cmp key.now items.now) }

@@ -3,46 +3,46 @@ ghost use Rattle.pend_queue.specs.Pairs.{IsAscending, IsAbsent, HaveNoCommonKey,
 
 use std::alloc::{AllocError, AllocFailed, Global};
 
-/// A queue of pairs of a key and a value, by rising key, with a room that stays.
+/// A queue of pairs of a key and a value, by rising key, with a fixed room.
 ///
-/// Only [`with_room`](PendQueue::with_room) and [`node`](PendQueue::node) take memory.
+/// Only [`with_room`](PendQueue::with_room) and [`node`](PendQueue::node) allocate.
 pub trait PendQueue<K: Ord, V>: Drop {
-    /// A pair with all the memory that it takes in a queue.
+    /// A pair with all the memory that it needs in a queue.
     type Node: Drop;
 
     /// The pairs, by rising key.
     ghost pairs: { Self → List (K × V) };
 
-    /// How many pairs it may hold.
+    /// The most pairs that it may hold.
     ghost room: { Self → ℕ };
 
     ghost pair_of: { Self.Node → K × V };
 
-    /// How often it has linked two trees of pairs. A queue without trees never does.
+    /// The number of times that it has linked two trees of pairs; 0 for a queue without trees.
     ghost links: { Self → ℕ };
 
-    /// How many links a merge of so many pairs and so many makes.
+    /// The number of links of a merge of two queues with these numbers of pairs.
     ghost links_of_merge: { ℕ → ℕ → ℕ };
 
-    /// An empty queue. Fails only where memory for the room is refused.
+    /// Makes an empty queue. Fails only where memory for the room is refused.
     fn with_room(alloc: Global, places: usize) -> Result<Self, AllocError>
         ensures empty { IfOk result (λ queue. pairs queue ≡ []) }
         ensures room { IfOk result (λ queue. room queue ≡ places) };
 
-    /// Fails only where memory is refused, and hands the pair back then.
+    /// Makes a node. Fails only where memory is refused, and returns the pair then.
     fn node(alloc: Global, key: K, value: V) -> Result<Self::Node, AllocFailed<(K, V)>>
         ensures ok { IfOk result (λ node. pair_of node ≡ (key, value)) }
         ensures err { IfErr result (λ refused. refused.value ≡ (key, value)) };
 
-    /// The pair of a node.
+    /// Returns the pair of a node.
     fn pair(node: &Self::Node) -> (&K, &V)
         ensures { pair_of node.now ≡ (result.0.now, result.1.now) };
 
-    /// The pair of a node that is used up.
+    /// Takes the pair out of a node.
     fn into_pair(node: Self::Node) -> (K, V)
         ensures { result ≡ pair_of node };
 
-    /// How many pairs it holds.
+    /// Returns the number of pairs.
     fn len(&self) -> usize
         ensures len { result ≡ length (pairs self.now) }
         ensures ascending { IsAscending K.cmp (pairs self.now) }
@@ -51,34 +51,34 @@ pub trait PendQueue<K: Ord, V>: Drop {
     fn is_empty(&self) -> bool
         ensures { IsTrue result ↔ (pairs self.now ≡ []) };
 
-    /// The least key. `None` only where the queue is empty.
+    /// Returns the least key; `None` only where the queue is empty.
     fn first(&self) -> Option<&K>
         ensures { option_copied result ≡ option_map (λ p. p.0) (slice_get (pairs self.now) 0) };
 
-    /// Puts a pair in.
+    /// Inserts a pair.
     fn push(&mut self, node: Self::Node)
         requires room { length (pairs self.old) < room self.old }
         requires absent { IsAbsent K.cmp (pair_of node).0 (pairs self.old) }
         ensures pairs { pairs self.new ≡ inserted K.cmp (pair_of node) (pairs self.old) }
         ensures room { room self.new ≡ room self.old }
 
-        // What that means: the old pairs and the new one, by rising key.
+        // The old pairs and the new one, by rising key.
         ensures ascending { IsAscending K.cmp (pairs self.new) }
         ensures permutation { IsPermutation (pair_of node ∷ pairs self.old) (pairs self.new) };
 
-    /// Takes the pair of the least key out. `None` only where the queue is empty.
+    /// Takes out the pair of the least key; `None` only where the queue is empty.
     fn pop(&mut self) -> Option<Self::Node>
         ensures value { option_map pair_of result ≡ slice_get (pairs self.old) 0 }
         ensures pairs { pairs self.new ≡ drop 1 (pairs self.old) }
         ensures room { room self.new ≡ room self.old };
 
-    /// Takes the pair of a key out. `None` only where no pair has the key.
+    /// Takes out the pair of a key; `None` only where no pair has the key.
     fn remove(&mut self, key: &K) -> Option<Self::Node>
         ensures value { option_map pair_of result ≡ pair_at K.cmp key.now (pairs self.old) }
         ensures pairs { pairs self.new ≡ without K.cmp key.now (pairs self.old) }
         ensures room { room self.new ≡ room self.old }
 
-        // What that means: the pair that is answered and the rest, still by rising key, are the old pairs.
+        // The returned pair and the rest, still by rising key, are the old pairs.
         ensures ascending { IsAscending K.cmp (pairs self.new) }
         ensures permutation { IsPermutation (pairs self.old) (option_to_list (option_map pair_of result) ++ pairs self.new) };
 
@@ -91,11 +91,11 @@ pub trait PendQueue<K: Ord, V>: Drop {
         ensures emptied { pairs other.new ≡ [] }
         ensures other_room { room other.new ≡ room other.old }
 
-        // No other call says how many links it makes, so nothing else than one merge gives these.
+        // No other call says how many links it makes, so only one merge gives this number.
         ensures links { links self.new ≡ links self.old + links_of_merge (length (pairs self.old)) (length (pairs other.old)) }
         ensures other_links { links other.new ≡ links other.old }
 
-        // What that means: the pairs of both, by rising key.
+        // The pairs of both queues, by rising key.
         ensures ascending { IsAscending K.cmp (pairs self.new) }
         ensures permutation { IsPermutation (pairs self.old ++ pairs other.old) (pairs self.new) };
 }

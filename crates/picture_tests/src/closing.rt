@@ -1,4 +1,4 @@
-//! A request that waits at a server which is closed: its story, and the server's lane.
+//! Tests of a request that waits at a closed server: its story, and the server's lane.
 use crate::assertions::{holds, same};
 use crate::samples::{picture_of, told, trace_of};
 use ticket_story::{Telling, push_story};
@@ -54,7 +54,7 @@ fn a_closed_server_is_hatched(rt: HostRuntime) {
         trace_of(&rt, rt.alloc(), SCRIPT).as_slice(),
     );
     let picture = picture_of(&rt, rt.alloc(), &trace);
-    // From 2 to 6 of 8 milliseconds, of which each is 150 pixels wide.
+    // From 2 to 6 of 8 milliseconds, each 150 pixels wide.
     holds(
         &rt,
         picture

@@ -1,5 +1,6 @@
-//! Tests of traces that are read back, of pictures and of stories, those of pseudo-random scripts among them: a crate of their own, so that what they
-//! test isn't proved once more with them.
+//! Tests of traces that are read back, of pictures and of stories, with pseudo-random scripts among
+//! them. They are a crate of their own, so that the crates under test aren't proved a second time
+//! with them.
 #![tactic(auto)]
 
 #[cfg(test)]

@@ -1,4 +1,4 @@
-//! A request that a later one overtakes: its trace, its picture and its story.
+//! Tests of a request that a later one overtakes: its trace, its picture and its story.
 use crate::assertions::{holds, same};
 use crate::samples::{picture_of, told, written_again};
 use ticket_story::{Telling, push_story};
@@ -20,7 +20,7 @@ pub const ENTRIES: &str = "0 arrive 1 0 0
   grant 2 * s1
 ";
 
-// The same with the line of the report behind them.
+// The same with the line of the report after them.
 const REPORTED: &str = "0 arrive 1 0 0
   direct 1 s1
 1 arrive 2 0 1

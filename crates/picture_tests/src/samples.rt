@@ -1,11 +1,11 @@
-//! Traces, what is read from them and what is made of it.
+//! Traces, what is read from them and what is made of them.
 use log_drawing::{Subject, push_drawing};
 use script::push_entries;
 use std::alloc::Global;
 use std::process::Abort;
 use trace_lines::{Trace, read_trace};
 
-/// The trace that replaying a script writes.
+/// Returns the trace that replaying a script writes.
 pub fn trace_of(rt: &impl Abort, alloc: Global, script: &str) -> Vec<u8> {
     let mut rest = script.as_bytes();
     let mut trace = Vec::new(alloc);
@@ -13,19 +13,19 @@ pub fn trace_of(rt: &impl Abort, alloc: Global, script: &str) -> Vec<u8> {
     trace
 }
 
-/// What a trace tells.
+/// Reads a trace.
 pub fn told(rt: &impl Abort, alloc: Global, trace: &[u8]) -> Trace {
     read_trace(alloc, Vec::new(alloc), trace).expect(rt, "a trace")
 }
 
-/// The lines of the entries of a trace, written again.
+/// Returns the lines of the entries of a trace, written again.
 pub fn written_again(rt: &impl Abort, alloc: Global, trace: &Trace) -> String {
     let mut text = String::new(alloc);
     push_entries(&mut text, &trace.names, trace.entries.as_slice()).expect(rt, "memory");
     text
 }
 
-/// The picture of a trace.
+/// Returns the picture of a trace.
 pub fn picture_of(rt: &impl Abort, alloc: Global, trace: &Trace) -> String {
     let mut text = String::new(alloc);
     let subject = Subject {

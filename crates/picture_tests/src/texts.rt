@@ -1,4 +1,4 @@
-//! What is printed of faults.
+//! Tests of the texts of faults.
 
 use crate::assertions::same;
 use std::alloc::Global;
@@ -78,7 +78,7 @@ static OF_STORIES: [(TellFault, &str); 3] = [
     (TellFault::NoTicket, "no request has this ticket"),
 ];
 
-// Each has its text.
+// Checks the text of each.
 fn say<T: Display>(rt: &impl Abort, alloc: Global, rows: &[(T, &str)]) {
     for (it, text) in rows {
         let said = it.to_string(alloc).expect(rt, "memory");

@@ -22,7 +22,7 @@ fn a_script_is_no_trace(rt: HostRuntime) {
     }
 }
 
-// What a text is, the text, and its first faulty line and what is wrong with that.
+// The name of a text, the text, and its first faulty line and what is wrong with that.
 static FAULTS: [(&str, &str, Option<(usize, TraceCause)>); 26] = [
     ("nothing", "", None),
     ("lines that are skipped", "# 1\n\n \t\r\n", None),
@@ -165,7 +165,7 @@ fn a_trace_has_64_servers_at_most(rt: HostRuntime) {
     same(&rt, found, fault(Some((66, TraceCause::Servers))));
 }
 
-// The first line is at fault, so that no other is looked at.
+// The first line has a fault, so that no other is read.
 #[test]
 fn a_trace_has_64_mebibytes_at_most(rt: HostRuntime) {
     let mut text = Vec::new(rt.alloc());

@@ -30,7 +30,7 @@ fn a_script_and_its_trace_have_one_picture(rt: HostRuntime) {
     }
 }
 
-// Gives a text, and behind it its end or a failure.
+// A reader that returns a text, and then its end or a failure.
 #[derive(Drop)]
 struct Source<'a> {
     rest: &'a [u8],
@@ -46,7 +46,7 @@ impl<'a> Read for Source<'a> {
     }
 }
 
-// Takes so many bytes, and then none.
+// A writer that takes this number of bytes, and then none.
 #[derive(Drop)]
 struct Sink {
     taken: Vec<u8>,
@@ -68,7 +68,8 @@ impl Write for Sink {
 
 const ROOM: usize = 65_536;
 
-/// What is asked for, of a text behind which reading may fail, for a writer with so much room; and why it isn't drawn.
+/// What is asked for of a text, whether reading it fails at the end, and the writer's room; and why
+/// it isn't drawn.
 struct Undrawn {
     name: &'static str,
     input: &'static str,
@@ -180,7 +181,7 @@ fn asked(rt: &impl Abort, alloc: Global, queue: Option<&str>) -> Option<Only> {
     }
 }
 
-// Why it isn't drawn. Nothing is written.
+// Returns why it isn't drawn. Nothing is written.
 fn fault_of(rt: &impl Abort, alloc: Global, row: &Undrawn) -> Option<DrawFault> {
     let mut source = Source {
         rest: row.input.as_bytes(),
@@ -204,8 +205,8 @@ fn what_cannot_be_drawn_is_named(rt: HostRuntime) {
     }
 }
 
-/// A ticket, whether reading fails behind the script, and how much room the writer has; how telling ends, and how what is written begins, which is all of
-/// it where telling fails.
+/// A ticket, whether reading the script fails at the end, and the writer's room; how the telling
+/// ends, and how the output begins, which is all of it where the telling fails.
 struct Tale {
     name: &'static str,
     ticket: u64,

@@ -1,4 +1,4 @@
--- Sets of places: a set is a list of words, and a place is one of its bits.
+-- Sets of places: a set is a list of words, and each bit is a place.
 use Rattle.std.specs.Prelude.{◌≡◌, ℕ, ◌-◌, ◌/◌, ◌%◌, ◌<◌, ◌≤◌, List, slice_index}
 use Rattle.std.specs.Int.{bit_at}
 
@@ -13,7 +13,7 @@ pub record IsNext (words : List ℕ) (from place : ℕ) : Type 0 where
   pub no_lower : from ≤ place
   pub first : (other : ℕ) → from ≤ other → other < place → Has words other → ⊥
 
--- places that a walk has still to come to: those of a number's bits, of which the first bit is this place's
+-- the places that a walk hasn't come to yet: the bits of a number, whose first bit is this place's
 pub record Ahead : Type 0 where
   pub first : ℕ
   pub bits : ℕ

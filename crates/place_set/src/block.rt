@@ -3,7 +3,7 @@ ghost use Rattle.place_set.specs.Sets.{HasAhead, IsFirstAhead};
 
 use std::marker::Model;
 
-/// Of 64 places that follow one another, those that a walk has still to come to.
+/// The places of a set among 64 consecutive ones that a walk hasn't come to yet.
 #[derive(Debug, Drop)]
 pub struct Block {
     pub(crate) first: usize,
@@ -22,7 +22,7 @@ impl Model for Block {
 }
 
 impl Block {
-    /// Takes its first place. `O(1)`.
+    /// Takes out its first place. `O(1)`.
     pub fn take_first(&mut self) -> Option<usize>
         ensures none { IfNone result ((place : ℕ) → HasAhead self.old place → ⊥) }
         ensures some { IfSome result (IsFirstAhead self.old) }

@@ -1,4 +1,5 @@
-//! Sets of places, of which there are at most 4,096: a bit for each, in an array of its own size, so that a set takes no memory.
+//! Sets of places, of which there are at most 4,096: one bit each, in an array of fixed size, so
+//! that a set allocates nothing.
 #![tactic(auto)]
 
 mod block;

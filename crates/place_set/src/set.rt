@@ -21,14 +21,14 @@ impl Model for PlaceSet {
 }
 
 impl PlaceSet {
-    /// No place.
+    /// Makes an empty set.
     pub fn new() -> PlaceSet
         ensures { (place : ℕ) → Has result place → ⊥ }
     {
         PlaceSet { words: [0; WORDS] }
     }
 
-    /// Whether it has a place. `O(1)`.
+    /// Says whether it contains a place. `O(1)`.
     pub fn contains(&self, place: usize) -> bool
         ensures { IsTrue result ↔ Has self.now place }
     {
@@ -38,7 +38,7 @@ impl PlaceSet {
         }
     }
 
-    /// The place is in it from now on. `O(1)`.
+    /// Adds a place. `O(1)`.
     pub fn insert(&mut self, place: usize)
         requires { place < 4096 }
         ensures { (other : ℕ) → Has self.new other ↔ ((other ≡ place) ⊎ Has self.old other) }
@@ -46,7 +46,7 @@ impl PlaceSet {
         self.words[place / 64] |= 1 << (place % 64);
     }
 
-    /// The place isn't in it any more. `O(1)`.
+    /// Removes a place. `O(1)`.
     pub fn remove(&mut self, place: usize)
         requires { place < 4096 }
         ensures { (other : ℕ) → Has self.new other ↔ ((other ≢ place) × Has self.old other) }
@@ -54,7 +54,7 @@ impl PlaceSet {
         self.words[place / 64] &= !(1 << (place % 64));
     }
 
-    /// Those of its places from 64 times a number on, as far as the next 63. `O(1)`.
+    /// Returns its places among the 64 that begin at 64 times a number. `O(1)`.
     pub fn block(&self, number: usize) -> Block
         requires { number < 64 }
         ensures { (place : ℕ) → HasAhead result place ↔ ((place / 64 ≡ number) × Has self.now place) }
@@ -65,7 +65,7 @@ impl PlaceSet {
         }
     }
 
-    /// The first of its places that isn't below a number. At most 64 words are looked at.
+    /// Returns the first of its places that isn't below a number. It reads at most 64 words.
     pub fn next(&self, from: usize) -> Option<usize>
         ensures { MatchOption result ((place : ℕ) → from ≤ place → Has self.now place → ⊥) (IsNext self.now from) }
     {
@@ -79,7 +79,7 @@ impl PlaceSet {
         self.next_word(from / 64 + 1)
     }
 
-    // The first of its places whose word isn't before this one.
+    // Returns the first of its places from this word on.
     fn next_word(&self, first: usize) -> Option<usize>
         requires { first ≤ 64 }
         ensures { MatchOption result ((place : ℕ) → 64 * first ≤ place → Has self.now place → ⊥) (IsNext self.now (64 * first)) }

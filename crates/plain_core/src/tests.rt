@@ -35,7 +35,7 @@ fn probed(limit: u32, maxqueue: u32, weight: u32, rise: u32, fall: u32) -> Serve
     it
 }
 
-// Each server that balancing may choose is checked, so that there are times without one.
+// Each server that balancing may choose is checked, so there are times without one.
 fn many_checks(rt: &impl Abort, alloc: Global) -> Setup {
     let list = [
         probed(2, 3, 2, 2, 3),
@@ -55,7 +55,7 @@ fn many_checks(rt: &impl Abort, alloc: Global) -> Setup {
     }
 }
 
-// A server has no limit at first, one isn't checked, and what waits stays where it is.
+// One server has no limit at first, one isn't checked, and waiting requests stay where they are.
 fn few_checks(rt: &impl Abort, alloc: Global) -> Setup {
     let list = [
         probed(0, 4, 1, 3, 1),
@@ -73,7 +73,7 @@ fn few_checks(rt: &impl Abort, alloc: Global) -> Setup {
     }
 }
 
-// Each entry that was written is the one that the definitions say, and none is missing.
+// Checks that the written entries are exactly those that the definitions demand.
 fn follow(rt: &impl Abort, plain: &mut Plain, event: Entry, written: &[Entry]) {
     holds(rt, plain.has_place_for(&event));
     let mut stage = Stage::Granting;
@@ -87,7 +87,7 @@ fn follow(rt: &impl Abort, plain: &mut Plain, event: Entry, written: &[Entry]) {
     same(rt, expected, None);
 }
 
-// A call is answered as the definitions say.
+// Checks that a call is answered as the definitions demand.
 fn agree<Q: PendQueue<Key, usize>>(
     rt: &impl Abort,
     alloc: Global,
@@ -112,7 +112,7 @@ fn agree<Q: PendQueue<Key, usize>>(
     }
 }
 
-// Whether the log's base has the requests that are there.
+// Says whether the log's base has the present requests.
 fn has_base(log: &Log, plain: &Plain) -> bool {
     let mut base = log.base().iter();
     for place in &plain.rows {
@@ -139,7 +139,7 @@ struct Course {
 }
 
 impl Course {
-    // The window ends here, and the next one begins with what it leaves.
+    // Ends the window, and begins the next one with the state that it leaves.
     fn roll<Q: PendQueue<Key, usize>>(
         &mut self,
         rt: &impl Abort,
@@ -158,7 +158,8 @@ impl Course {
     }
 }
 
-// So many calls are, and before each of them it is told whether a stay has expired. Now and then the next window begins.
+// Compares this number of calls, and before each of them whether a stay has expired. Now and then
+// the next window begins.
 fn agree_on_all<Q: PendQueue<Key, usize>>(
     rt: &impl Abort,
     alloc: Global,
@@ -184,7 +185,7 @@ fn agree_on_all<Q: PendQueue<Key, usize>>(
     course
 }
 
-// So many calls are answered by a dispatcher of a setup, which is given twice, as the definitions say.
+// Compares this number of calls to dispatchers of a setup, which is given twice.
 fn both_agree<Q: PendQueue<Key, usize>>(
     rt: &impl Abort,
     alloc: Global,
@@ -231,7 +232,7 @@ fn is_of(entry: &Entry, kind: Kind) -> bool {
     }
 }
 
-// A log with no decision of the kind stops the test.
+// Fails the test where a log has no decision of the kind.
 fn has_kind(rt: &impl Abort, log: &[Entry], kind: Kind) {
     let mut found = false;
     for entry in log {
@@ -240,7 +241,7 @@ fn has_kind(rt: &impl Abort, log: &[Entry], kind: Kind) {
     holds(rt, found);
 }
 
-// The log has decisions of every kind.
+// Checks that the log has decisions of every kind.
 fn has_every_kind(rt: &impl Abort, log: &[Entry]) {
     has_kind(rt, log, Kind::Direct);
     has_kind(rt, log, Kind::JoinedServer);
@@ -253,7 +254,7 @@ fn has_every_kind(rt: &impl Abort, log: &[Entry]) {
     has_kind(rt, log, Kind::Closed);
 }
 
-// A log in which no queue was moved because its server was closed stops the test.
+// Fails the test where no queue was moved in the log because its server was closed.
 fn has_emptied_queue(rt: &impl Abort, log: &[Entry]) {
     let mut closed = false;
     let mut found = false;
@@ -264,7 +265,7 @@ fn has_emptied_queue(rt: &impl Abort, log: &[Entry]) {
     holds(rt, found);
 }
 
-// Of servers that are checked, over such queues.
+// Compares dispatchers of checked servers, over this kind of queue.
 fn follows_the_definitions<Q: PendQueue<Key, usize>>(rt: &impl Abort, alloc: Global) {
     let (setup, copy) = (many_checks(rt, alloc), many_checks(rt, alloc));
     let course = both_agree::<Q>(rt, alloc, setup, copy, 50_000);
@@ -284,7 +285,7 @@ fn follows_the_definitions<Q: PendQueue<Key, usize>>(rt: &impl Abort, alloc: Glo
     drop(course);
 }
 
-// Where logs fill, over such queues.
+// Compares dispatchers whose logs fill, over this kind of queue.
 fn fills_logs<Q: PendQueue<Key, usize>>(rt: &impl Abort, alloc: Global) {
     let (setup, copy) = (few_checks(rt, alloc), few_checks(rt, alloc));
     let course = both_agree::<Q>(rt, alloc, setup, copy, 10_000);

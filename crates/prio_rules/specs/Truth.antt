@@ -1,4 +1,4 @@
--- What holds of a request.
+-- The tests of a configuration, applied to a request.
 use Rattle.std.specs.Prelude.{ℕ, Bool, true, false, ◌==◌, not, if◌then◌else◌, List, [], ◌∷◌, Option, Some, None}
 use Rattle.std.specs.List.{slice_get, list_any, list_all, cons_option, ends_with}
 use Rattle.std.specs.Str.{bytes_eq, str_to_ascii_lowercase}
@@ -16,7 +16,7 @@ use Rattle.req_view.specs.Request.{Request}
 use Rattle.req_view.specs.Target.{begins, path_of}
 use Rattle.prio_rules.specs.FieldValues.{field_values}
 
--- what a test looks at: the path, where there is one; the method; or the values of a field
+-- the texts that a test looks at: the path, where there is one; the method; or the values of a field
 abbrev pub texts : Subject → Request → List (List ℕ)
 texts Path request = cons_option (path_of request.target) []
 texts PathBegin request = cons_option (path_of request.target) []
@@ -24,7 +24,7 @@ texts PathEnd request = cons_option (path_of request.target) []
 texts Method request = request.method ∷ []
 texts (Header name) request = field_values name request
 
--- the text begins with the value, ends with it, or is the value
+-- the text begins with the value, ends with it, or equals it
 abbrev pub fits : Subject → List ℕ → List ℕ → Bool
 fits PathBegin text value = begins value text
 fits PathEnd text value = ends_with (λ a b. a == b) text value
@@ -32,7 +32,7 @@ fits Path text value = bytes_eq text value
 fits Method text value = bytes_eq text value
 fits (Header name) text value = bytes_eq text value
 
--- ASCII letters in either case become the same, where case is ignored
+-- ASCII letters in lower case, where case is ignored
 abbrev pub folded : Bool → List ℕ → List ℕ
 folded ignore_case text = if ignore_case then str_to_ascii_lowercase text else text
 
@@ -40,7 +40,7 @@ folded ignore_case text = if ignore_case then str_to_ascii_lowercase text else t
 abbrev pub one_fits : Test → List ℕ → Bool
 one_fits test text = list_any (λ value. fits test.subject (folded test.ignore_case text) (folded test.ignore_case value)) test.values
 
--- one of the texts has a value that fits it: where there is no text, nothing holds
+-- a value fits one of the texts: where there is no text, nothing holds
 abbrev pub test_holds : Request → Test → Bool
 test_holds request test = list_any (one_fits test) (texts test.subject request)
 
@@ -48,7 +48,7 @@ test_holds request test = list_any (one_fits test) (texts test.subject request)
 abbrev pub acl_holds : Request → Acl → Bool
 acl_holds request acl = list_any (test_holds request) acl.tests
 
--- the ACL at an index holds: one that isn't there doesn't
+-- the ACL at an index holds; one that doesn't exist doesn't
 abbrev pub named_holds : Request → Option Acl → Bool
 named_holds request None = false
 named_holds request (Some acl) = acl_holds request acl

@@ -1,4 +1,4 @@
--- What the rules of a configuration wish for a request. Each rule is asked of the request as it came.
+-- What the rules of a configuration wish for a request. Each rule is applied to the request as it came.
 use Rattle.std.specs.Prelude.{ℕ, ℤ, pos, Bool, true, false, ◌&&◌, if◌then◌else◌, List, Option, Some, None, option_map, unwrap_or}
 use Rattle.std.specs.Option.{option_and_then}
 use Rattle.std.specs.List.{filter_map, find, last_or}
@@ -22,7 +22,7 @@ use Rattle.prio_rules.specs.declared.wish.Wish.{Wish}
 abbrev pub last_value : List ℕ → Request → Option (List ℕ)
 last_value name request = last_or None (field_values name request)
 
--- an integer, or the last value of a field where it is one, of at most 18 digits
+-- an integer, or the last value of a field where that is a number of at most 18 digits
 abbrev pub number_of : Request → Expression → Option ℤ
 number_of request (Int number) = Some number
 number_of request (HeaderValue name) = option_and_then (signed_numeral 18) (last_value name request)
@@ -33,11 +33,11 @@ is_same SetPriorityClass SetPriorityOffset = false
 is_same SetPriorityOffset SetPriorityClass = false
 is_same SetPriorityOffset SetPriorityOffset = true
 
--- the number that a rule's action sets, if it is this action and is done: the rule applies, and there is a number
+-- the number that a rule sets, if its action is this one and takes effect: the rule applies, and there is a number
 abbrev pub set_by : Action → List Acl → Request → Rule → Option ℤ
 set_by action acls request rule = if is_same rule.action action && applies acls request rule.guard then number_of request rule.value else None
 
--- of the actions of one kind that are done the last one's number stands, and 0 where none is
+-- the number of the last action of a kind that takes effect, and 0 where none does
 abbrev pub standing : Action → Config → Request → ℤ
 standing action config request = unwrap_or (last_or None (filter_map (set_by action config.acls request) config.rules)) (pos 0)
 
@@ -45,7 +45,7 @@ standing action config request = unwrap_or (last_or None (filter_map (set_by act
 abbrev pub pinned : Config → Request → Option ℕ
 pinned config request = option_map (λ pin. pin.server) (find (λ pin. guard_holds config.acls request pin.guard) config.pins)
 
--- a class and an offset out of range become the nearer end
+-- a class and an offset out of range become the nearer end of the range
 abbrev pub wish : Config → Request → Wish
 wish config request = record {
   class = nearest LOWEST_CLASS HIGHEST_CLASS (standing SetPriorityClass config request);

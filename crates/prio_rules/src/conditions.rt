@@ -1,4 +1,4 @@
-//! Conditions of a request.
+//! The conditions of a configuration, applied to a request.
 
 ghost use Rattle.std.specs.Prelude.{◌≡◌};
 ghost use Rattle.std.specs.List.{list_all};

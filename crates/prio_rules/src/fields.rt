@@ -1,4 +1,4 @@
-//! The values of a field: the parts between commas of each field of its name.
+//! The values of a field: the comma-separated parts of each field with its name.
 
 ghost use Rattle.std.specs.Prelude.{◌≡◌, None};
 ghost use Rattle.std.specs.List.{last_or};
@@ -9,7 +9,7 @@ ghost use Rattle.prio_rules.specs.Wishes as rules;
 use proxy_words::Parts;
 use req_view::View;
 
-/// `O(n)` in the bytes of the fields of that name.
+/// Returns the last value of a field. `O(n)` in the bytes of the fields with that name.
 pub(crate) fn last_value<'v>(view: &'v View, name: &[u8]) -> Option<&'v [u8]>
     ensures { option_copied result ≡ rules.last_value name.now view.now }
 {
@@ -21,7 +21,7 @@ pub(crate) fn last_value<'v>(view: &'v View, name: &[u8]) -> Option<&'v [u8]>
     last
 }
 
-// The last part of a value, or else what came before it.
+// Returns the last part of a value, or else the one before it.
 fn last_part<'v>(value: &'v [u8], before: Option<&'v [u8]>) -> Option<&'v [u8]>
     ensures { option_copied result ≡ last_or (option_copied before.entry) (parts value.now) }
 {

@@ -15,8 +15,8 @@ ghost use Rattle.req_view.specs.Target.{path_of};
 ghost use Rattle.prio_rules.specs.Truth.{test_holds, term_holds, guard_holds};
 ghost use Rattle.prio_rules.specs.Wishes.{set_by, standing, pinned};
 
-/// Of the actions of one kind the last that is done stands, whatever rules are before it; where none is done it
-/// is 0.
+/// The last action of a kind that takes effect decides, whatever rules come before it; where none
+/// takes effect the number is 0.
 pub fn the_last_done_action_stands()
     ensures last { (action : Action) (config : Config) (request : Request) (before after : List Rule) (rule : Rule) (number : ℤ) →
         config.rules ≡ before ++ rule ∷ after → set_by action config.acls request rule ≡ Some number →
@@ -25,8 +25,8 @@ pub fn the_last_done_action_stands()
         All (λ rule. set_by action config.acls request rule ≡ None) config.rules → standing action config request ≡ pos 0 }
 {}
 
-/// The first `use-server` rule that applies gives the pin, whatever rules are behind it; where none applies
-/// there is no pin.
+/// The first `use-server` rule that applies gives the pin, whatever rules come after it; where
+/// none applies there is no pin.
 pub fn the_first_pin_stands()
     ensures first { (config : Config) (request : Request) (before after : List Pin) (pin : Pin) →
         config.pins ≡ before ++ pin ∷ after → guard_holds config.acls request pin.guard ≡ true →
@@ -35,7 +35,7 @@ pub fn the_first_pin_stands()
         All (λ pin. guard_holds config.acls request pin.guard ≡ false) config.pins → pinned config request ≡ None }
 {}
 
-/// `if` asks for the requests for which each term of one of the alternatives holds, and `unless` for all others.
+/// `if` selects the requests for which each term of one of the alternatives holds, and `unless` all others.
 pub fn unless_is_the_rest()
     ensures alternatives { (acls : List Acl) (request : Request) (condition : Condition) →
         (guard_holds acls request (If condition) ≡ true) ↔ Any (λ terms. All (λ term. term_holds acls request term ≡ true) terms) condition.alternatives }

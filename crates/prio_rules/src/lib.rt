@@ -1,6 +1,6 @@
 //! What a configuration's rules wish for a request: its class, its offset and its server.
 //!
-//! Nothing here takes memory or copies a part of the request.
+//! Nothing here allocates or copies a part of the request.
 #![tactic(auto)]
 
 mod conditions;

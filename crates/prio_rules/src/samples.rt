@@ -1,4 +1,4 @@
-//! Tests of a request.
+//! The tests of a configuration, applied to a request.
 
 ghost use Rattle.std.specs.Prelude.{◌≡◌, ◌==◌};
 ghost use Rattle.std.specs.List.{list_any, ends_with};

@@ -14,16 +14,17 @@ use req_view::View;
 pub struct Wish {
     pub class: Class,
     pub offset: Offset,
-    /// The server at this index of the configuration's is to serve it.
+    /// The index of the configuration's server that is to serve it.
     pub pin: Option<usize>,
 }
 
-/// What the rules of a configuration wish for a request: `http-request set-priority-class`,
-/// `http-request set-priority-offset` and `use-server` in the file's order, each asked of the request as it
-/// came.
+/// Returns what the rules of a configuration wish for a request: `http-request set-priority-class`,
+/// `http-request set-priority-offset` and `use-server` in the file's order, each applied to the
+/// request as it came.
 ///
-/// It costs `O(n)` in the rules, each times the values of its tests and the bytes of the fields that they
-/// name, and copies nothing. A `use-server` rule past the first that applies isn't asked.
+/// The cost is `O(n)` in the rules, each times the values of its tests and the bytes of the fields
+/// that they name, and nothing is copied. No `use-server` rule after the first one that applies is
+/// tried.
 pub fn decide(config: &Config, view: &View) -> Wish
     ensures exact { result ≡ rules.wish config.now view.now }
     // A pin is a server of the configuration.
@@ -36,7 +37,7 @@ pub fn decide(config: &Config, view: &View) -> Wish
     }
 }
 
-// The number of the last action of a kind that is done, or 0.
+// Returns the number of the last action of a kind that takes effect, or 0.
 fn standing(action: Action, config: &Config, view: &View) -> i64
     ensures { result ≡ rules.standing action config.now view.now }
 {

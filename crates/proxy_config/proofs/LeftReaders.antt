@@ -15,7 +15,7 @@ pub data Blame {A : Type 0} (read : List (List ℕ) → Result A FaultCause) (wo
   stands : CannotStand read words cause → Blame read words cause
   always : ((others : List (List ℕ)) → read others ≡ Err cause) → Blame read words cause
 
--- a reader of at most so many words
+-- a reader of at most this many words
 pub record LeftReader {A : Type 0} (n : ℕ) (read : List (List ℕ) → Result A FaultCause) : Type 0 where
   pub blame : (words : List (List ℕ)) (cause : FaultCause) → length words ≤ n → read words ≡ Err cause → Blame read words cause
 

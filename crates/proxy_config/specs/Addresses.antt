@@ -21,20 +21,20 @@ is_dot byte = byte == 46
 abbrev pub is_octet : List ℕ → Bool
 is_octet part = is_numeral 9 part && nat_le (value_of part) 255
 
--- four numbers from 0 to 255 between three dots
+-- four numbers from 0 to 255 with three dots between them
 abbrev pub ip : List ℕ → Option (List ℕ)
 ip word =
     let parts = slice_split is_dot word in
     if length parts == 4 && list_all is_octet parts then Some (map value_of parts) else None
 
--- what stands before the first colon, and after it
+-- the text before the first colon, and the text after it
 abbrev pub around_colon : List ℕ → Option (List ℕ × List ℕ)
 around_colon word = option_map (λ n. (take n word, drop (n + 1) word)) (position (λ byte. byte == 58) word)
 
 abbrev pub port : List ℕ → Option ℕ
 port word = number_in 1 65535 word
 
--- an IPv4 address, or nothing or `*` for each of this machine
+-- an IPv4 address, or nothing or `*` for all addresses of this machine
 abbrev pub bind_ip : List ℕ → Option (Option (List ℕ))
 bind_ip word = if bytes_eq word (codes "") then Some None else if bytes_eq word (codes "*") then Some None
     else option_map Some (ip word)

@@ -1,4 +1,4 @@
--- What a condition is, as words: by concatenation alone, with no order of reading.
+-- The grammar of conditions over words: by concatenation alone, without an order of reading.
 use Rattle.std.specs.Prelude.{◌≡◌, ◌⊎◌, ◌<◌, ℕ, Bool, true, false, List, [], ◌∷◌, ◌++◌, length, Some, codes, IsTrue}
 use Rattle.std.specs.List.{list_any}
 use Rattle.proxy_config.specs.declared.parts.Acl.{Acl}
@@ -16,7 +16,7 @@ abbrev pub flag : Bool → List (List ℕ)
 flag true = codes "-i" ∷ []
 flag false = []
 
--- a test: its subject, `-i` or not, and one value or more, none of which begins with `-`
+-- a test: its subject, `-i` or not, and one or more values, none of which begins with `-`
 pub record IsTest (words : List (List ℕ)) (test : Test) : Type 0 where
   pub subject : List ℕ
   pub known : subject_of subject ≡ Some test.subject
@@ -24,7 +24,7 @@ pub record IsTest (words : List (List ℕ)) (test : Test) : Type 0 where
   pub some : 0 < length test.values
   pub plain : list_any is_dashed test.values ≡ false
 
--- the name of an ACL, or between braces a test without a closing brace among its values
+-- the name of an ACL, or a test in braces without a closing brace among its values
 abbrev pub IsOperand : List Acl → List (List ℕ) → Operand → Type 0
 IsOperand acls words (operands.Acl index) = (name : List ℕ) × (words ≡ name ∷ []) × IsTrue (is_acl_name name) × (acl_index name acls ≡ Some index)
 IsOperand acls words (operands.Test test) = (inside : List (List ℕ)) × (words ≡ (codes "{" ∷ inside) ++ codes "}" ∷ [])
@@ -35,7 +35,7 @@ abbrev pub with_sign : List (List ℕ) → List (List ℕ)
 with_sign [] = codes "!" ∷ []
 with_sign (word ∷ words) = (33 ∷ word) ∷ words
 
--- an operand, with one `!` before it where it is negated, joined to it or a word of its own
+-- an operand, where it is negated with one `!` before it, joined to it or as a word of its own
 abbrev pub IsSigned : Bool → List Acl → List (List ℕ) → Operand → Type 0
 IsSigned false acls words operand = IsOperand acls words operand
 IsSigned true acls words operand = (unsigned : List (List ℕ)) × IsOperand acls unsigned operand
@@ -44,7 +44,7 @@ IsSigned true acls words operand = (unsigned : List (List ℕ)) × IsOperand acl
 abbrev pub IsTerm : List Acl → List (List ℕ) → Term → Type 0
 IsTerm acls words term = IsSigned term.negated acls words term.operand
 
--- terms in a row
+-- a row of terms
 abbrev pub AreTerms : List Acl → List (List ℕ) → List Term → Type 0
 AreTerms acls words [] = words ≡ []
 AreTerms acls words (term ∷ terms) = (front : List (List ℕ)) × (rest : List (List ℕ)) × (words ≡ front ++ rest) × IsTerm acls front term
@@ -62,6 +62,6 @@ abbrev pub NoneEmpty : List (List Term) → Type 0
 NoneEmpty [] = Unit {0}
 NoneEmpty (terms ∷ more) = (0 < length terms) × NoneEmpty more
 
--- The words are a condition: rows of terms with separators between them, none of which is empty.
+-- The words are a condition: rows of terms with separators between them, none of them empty.
 abbrev pub IsCondition : List Acl → List (List ℕ) → Condition → Type 0
 IsCondition acls words condition = AreSeparated acls words condition.alternatives × NoneEmpty condition.alternatives

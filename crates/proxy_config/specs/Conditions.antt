@@ -20,7 +20,7 @@ use Rattle.proxy_config.specs.Samples.{test_in_braces}
 abbrev pub is_or : List ℕ → Bool
 is_or word = bytes_eq word (codes "or") || bytes_eq word (codes "||")
 
--- which of the ACLs has the name
+-- the index of the ACL with this name
 abbrev pub acl_index : List ℕ → List Acl → Option ℕ
 acl_index name acls = position (λ acl. bytes_eq acl.name name) acls
 
@@ -35,7 +35,7 @@ operand_at acls negated word words =
       index ← ok_or (acl_index word acls) causes.Unknown
       Ok (record { negated = negated; operand = operands.Acl index }, words)
 
--- the same with a `!` before it, joined to it or a word of its own, or none
+-- the same with a `!` before it, joined to it or as a word of its own, or with none
 unfoldable pub term_at : List Acl → List ℕ → List (List ℕ) → Result (Term × List (List ℕ)) FaultCause
 term_at acls [] words = operand_at acls false [] words
 term_at acls (byte ∷ []) words = if byte == 33 then (word_at words >>= λ next. operand_at acls true next.0 next.1)
@@ -43,8 +43,8 @@ term_at acls (byte ∷ []) words = if byte == 33 then (word_at words >>= λ next
 term_at acls (byte ∷ second ∷ rest) words = if byte == 33 then operand_at acls true (second ∷ rest) words
     else operand_at acls false (byte ∷ second ∷ rest) words
 
--- Alternatives of one term or more, to the end of the line. An alternative that begins has no term yet.
--- The number is that of the words, and so never too small.
+-- Alternatives of one or more terms, to the end of the line. An alternative that begins has no term
+-- yet. The number is that of the words, so it is never too small.
 unfoldable pub alternatives : ℕ → List Acl → Bool → List (List ℕ) → Result (List (List Term)) FaultCause
 alternatives n acls begins [] = if begins then Err causes.Words else Ok ([] ∷ [])
 alternatives zero acls begins (word ∷ words) = Err causes.Words

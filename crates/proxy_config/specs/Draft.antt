@@ -1,4 +1,4 @@
--- What one line of the file does.
+-- The effect of one line of the file.
 use Rattle.std.specs.Prelude.{ℕ, ◌+◌, Bool, true, false, ◌&&◌, nat_le, if◌then◌else◌, not, is_some, List}
 use Rattle.std.specs.Prelude.{[], ◌∷◌, ◌++◌, length, Option, Some, None, Result, Ok, Err}
 use Rattle.std.specs.Option.{ok_or}
@@ -26,7 +26,7 @@ use Rattle.proxy_config.specs.Values as values
 use Rattle.proxy_config.specs.Rules.{acl_line, rule_line, server_index}
 use Rattle.proxy_config.specs.Wishes.{wish_line}
 
--- before the first line
+-- the draft before the first line
 abbrev pub start : Draft
 start = record {
   section = sections.Outside;
@@ -40,7 +40,7 @@ start = record {
   rules = [];
 }
 
--- how many servers, ACL lines and rules there may be
+-- the most servers, ACL lines and rules
 abbrev pub most_servers : ℕ
 most_servers = 64
 
@@ -56,12 +56,12 @@ global_line d words = do
   end ← end_at words
   Ok (record d { section = sections.Global })
 
--- a name, or none
+-- a name or nothing
 unfoldable pub optional_name : List (List ℕ) → Result (Unit {0}) FaultCause
 optional_name [] = Ok tt
 optional_name (name ∷ words) = unless (not (is_name name)) causes.Name >>= λ named. end_at words
 
--- `defaults`, and a name or none: all values are built in again
+-- `defaults`, and a name or nothing: all values get their built-in defaults again
 unfoldable pub defaults_line : Draft → List (List ℕ) → Result Draft FaultCause
 defaults_line d words = do
   name ← optional_name words
@@ -85,7 +85,7 @@ value_line d shared words = elim d.section [
   | sections.Listen ↦ values.shared_line shared d.values words >>= λ v. Ok (record d { values = v })
 ]
 
--- a line that `listen` alone takes stands there
+-- the section takes lines that only `listen` takes
 abbrev pub in_listen : Section → Bool
 in_listen sections.Listen = true
 in_listen other = false
@@ -103,7 +103,7 @@ bind_line d words = do
 abbrev pub server_of : List ℕ → Address → Settings → Server
 server_of name address s = record { name = name; address = address; maxconn = s.maxconn; maxqueue = s.maxqueue; weight = s.weight; check = server.checks s }
 
--- `server NAME A:PORT`, and settings
+-- `server NAME A:PORT`, and its settings
 unfoldable pub server_line : Draft → List (List ℕ) → Result Draft FaultCause
 server_line d words = do
   place ← unless (not (in_listen d.section)) causes.Place
@@ -124,11 +124,11 @@ test_line d words = do
   acls ← acl_line d.acls words
   Ok (record d { acls = acls; acl_lines = d.acl_lines + 1 })
 
--- room for a rule beside those of the draft and so many pins
+-- there is room for one more rule beside those of the draft and this number of pins
 abbrev pub has_room : ℕ → Draft → Result (Unit {0}) FaultCause
 has_room pins d = unless (nat_le most_rules (length d.rules + pins)) causes.Limit
 
--- `http-request ..`, behind so many pins
+-- `http-request ..`, after this number of pins
 unfoldable pub request_line : ℕ → Draft → List (List ℕ) → Result Draft FaultCause
 request_line pins d words = do
   place ← unless (not (in_listen d.section)) causes.Place
@@ -136,7 +136,7 @@ request_line pins d words = do
   rule ← rule_line d.acls words
   Ok (record d { rules = d.rules ++ rule ∷ [] })
 
--- `use-server ..`, behind so many pins: it asks for one more
+-- `use-server ..`, after this number of pins: it asks for one more
 unfoldable pub use_line : ℕ → Draft → ℕ → List (List ℕ) → Result Wish FaultCause
 use_line pins d n words = do
   place ← unless (not (in_listen d.section)) causes.Place
@@ -147,7 +147,7 @@ use_line pins d n words = do
 abbrev pub plain : Result Draft FaultCause → Result (Draft × Option Wish) FaultCause
 plain read = read >>= λ d. Ok (d, None)
 
--- a line by its keyword, its number and its other words: the draft that it leaves, and the pin that it asks for
+-- a line by its keyword, its number and its other words: the draft after it, and the pin that it asks for
 abbrev pub keyword_line : ℕ → Draft → ℕ → Keyword → List (List ℕ) → Result (Draft × Option Wish) FaultCause
 keyword_line pins d n keywords.Global words = plain (global_line d words)
 keyword_line pins d n keywords.Defaults words = plain (defaults_line d words)
@@ -178,7 +178,7 @@ is_ignored section (word ∷ words) = in_global section && not (is_some (section
 abbrev pub is_quoting : ℕ → Bool
 is_quoting byte = is_in (34 ∷ 39 ∷ 92 ∷ []) byte
 
--- what a line makes of the draft, by its number and whether the file is too long in it, behind so many pins
+-- the draft after a line, by its number and whether the file becomes too long in it, after this number of pins
 unfoldable pub step : ℕ → Bool → Draft → ℕ → List ℕ → Result (Draft × Option Wish) FaultCause
 step pins too_long d n line =
     if is_ignored d.section (words (uncommented line)) then (unless too_long causes.Limit >>= λ short. Ok (d, None))

@@ -1,4 +1,4 @@
--- Where each cause stands that the words of a line decide: the words that have it, whatever words follow them.
+-- The positions of each cause that the words of a line decide: the words that have it, whatever words follow them.
 use Rattle.std.specs.Prelude.{◌≡◌, ℕ, ◌+◌, ◌<◌, ◌==◌, ◌||◌, Bool, nat_le, true, false, is_some, List, [], ◌∷◌, ◌++◌, length, Option, Some, None, codes}
 use Rattle.std.specs.Str.{bytes_eq}
 use Rattle.proxy_words.specs.Names.{is_name}
@@ -32,19 +32,20 @@ use Rattle.proxy_config.specs.Samples.{expression_of}
 use Rattle.proxy_config.specs.Settings.{is_check, setting_of}
 use Rattle.proxy_config.specs.Values.{switch_of, timeout_of}
 
--- a line of rules may stand here: in the `listen`, and there is room for one more
+-- a line of rules may stand here: the section is the `listen`, and there is room for one more
 pub record TakesRule (r : Resolved) : Type 0 where
   pub place : in_listen r.draft.section ≡ true
   pub room : nat_le most_rules (length r.draft.rules + length r.pins) ≡ false
 
--- a server of this name may stand here: in the `listen`, and there is room for it and no other of its name
+-- a server with this name may stand here: the section is the `listen`, there is room for it, and no
+-- other server has its name
 pub record TakesServer (d : Draft) (name : List ℕ) : Type 0 where
   pub place : in_listen d.section ≡ true
   pub room : nat_le most_servers (length d.servers) ≡ false
   pub named : is_name name ≡ true
   pub fresh : is_some (server_index name d.servers) ≡ false
 
--- the number or the time that a word is for a setting
+-- the number or the time that a word means for a setting
 abbrev pub value_in : Setting → List ℕ → Option ℕ
 value_in Weight word = number_in 0 256 word
 value_in Maxconn word = numeral 9 word
@@ -53,7 +54,7 @@ value_in Inter word = time_from 1 word
 value_in Rise word = number_from 1 word
 value_in Fall word = number_from 1 word
 
--- a `!` begins it
+-- the word begins with `!`
 abbrev pub has_sign : List ℕ → Bool
 has_sign [] = false
 has_sign (byte ∷ word) = byte == 33
@@ -67,19 +68,20 @@ LastMayBeEmpty [] = Unit {0}
 LastMayBeEmpty (terms ∷ []) = Unit {0}
 LastMayBeEmpty (terms ∷ next ∷ more) = (0 < length terms) × LastMayBeEmpty (next ∷ more)
 
--- words behind which a term of a condition may stand: rows of terms with separators between them
+-- words after which a term of a condition may stand: rows of terms with separators between them
 pub record IsFront (acls : List Acl) (words : List (List ℕ)) : Type 0 where
   pub rows : List (List Term)
   pub spelled : AreSeparated acls words rows
   pub begun : LastMayBeEmpty rows
 
--- A word can't stand where a term may: the name of an ACL without a line before, or what is no name, no brace, has no `!` and separates nothing.
+-- A word can't stand where a term may: it is the name of an ACL without an earlier line, or it is
+-- no name, no brace, no separator, and has no `!`.
 pub data NoTerm (acls : List Acl) (word : List ℕ) : FaultCause → Type 0 where
   undeclared : is_acl_name word ≡ true → acl_index word acls ≡ None → NoTerm acls word causes.Unknown
   no_name : is_acl_name word ≡ false → has_sign word ≡ false → bytes_eq word (codes "{") ≡ false → is_or word ≡ false → NoTerm acls word causes.Condition
 
 pub data HasFault (servers : List Server) (r : Resolved) : List (List ℕ) → FaultCause → Type 0 where
-  -- `keyword`: a first word that is none; another mode or balance; an option, a timeout, an action or a setting that isn't one
+  -- `keyword`: an unknown first word; another mode or balance; an unknown option, timeout, action or setting
   no_keyword : (word : List ℕ) (more : List (List ℕ)) → keyword_of word ≡ None → HasFault servers r (word ∷ more) causes.Keyword
   another_mode : (word mode : List ℕ) (more : List (List ℕ)) → keyword_of word ≡ Some (keywords.Shared shared.Mode) → in_values r.draft.section ≡ true
       → bytes_eq mode (codes "http") ≡ false
@@ -98,7 +100,7 @@ pub data HasFault (servers : List Server) (r : Resolved) : List (List ℕ) → F
   no_setting : (word name at : List ℕ) (address : Address) (setting value : List ℕ) (more : List (List ℕ)) → keyword_of word ≡ Some keywords.Server
       → TakesServer r.draft name → address_of at ≡ Some address
       → is_check setting ≡ false → setting_of setting ≡ None → HasFault servers r (word ∷ name ∷ at ∷ setting ∷ value ∷ more) causes.Keyword
-  -- `words`: one too few at the end, or one too many
+  -- `words`: one word too few at the end, or one too many
   no_number : (word : List ℕ) → keyword_of word ≡ Some (keywords.Shared shared.Retries) → in_values r.draft.section ≡ true
       → HasFault servers r (word ∷ []) causes.Words
   no_time : (word timeout : List ℕ) (which : Timeout) → keyword_of word ≡ Some (keywords.Shared shared.Timeout) → in_values r.draft.section ≡ true
@@ -110,7 +112,7 @@ pub data HasFault (servers : List Server) (r : Resolved) : List (List ℕ) → F
   behind_a_number : (word digits surplus : List ℕ) (number : ℕ) (more : List (List ℕ)) → keyword_of word ≡ Some (keywords.Shared shared.Retries)
       → in_values r.draft.section ≡ true → numeral 9 digits ≡ Some number
       → HasFault servers r (word ∷ digits ∷ surplus ∷ more) causes.Words
-  -- `number`: a number or a time that isn't one, or is out of its range
+  -- `number`: a word that isn't a number or a time, or one out of range
   no_retries : (word digits : List ℕ) (more : List (List ℕ)) → keyword_of word ≡ Some (keywords.Shared shared.Retries) → in_values r.draft.section ≡ true
       → numeral 9 digits ≡ None
       → HasFault servers r (word ∷ digits ∷ more) causes.Number
@@ -121,14 +123,14 @@ pub data HasFault (servers : List Server) (r : Resolved) : List (List ℕ) → F
       → keyword_of word ≡ Some keywords.Server → TakesServer r.draft name → address_of at ≡ Some address
       → is_check setting ≡ false → setting_of setting ≡ Some which → value_in which value ≡ None
       → HasFault servers r (word ∷ name ∷ at ∷ setting ∷ value ∷ more) causes.Number
-  -- `address`: one that isn't one
+  -- `address`: a word that isn't an address
   no_bind_address : (word at : List ℕ) (more : List (List ℕ)) → keyword_of word ≡ Some keywords.Bind → in_listen r.draft.section ≡ true
       → is_some r.draft.bind ≡ false
       → bind_of at ≡ None
       → HasFault servers r (word ∷ at ∷ more) causes.Address
   no_server_address : (word name at : List ℕ) (more : List (List ℕ)) → keyword_of word ≡ Some keywords.Server → TakesServer r.draft name → address_of at ≡ None
       → HasFault servers r (word ∷ name ∷ at ∷ more) causes.Address
-  -- `name`: one that isn't one
+  -- `name`: a word that isn't a name
   no_defaults_name : (word name : List ℕ) (more : List (List ℕ)) → keyword_of word ≡ Some keywords.Defaults → is_name name ≡ false
       → HasFault servers r (word ∷ name ∷ more) causes.Name
   no_listen_name : (word name : List ℕ) (more : List (List ℕ)) → keyword_of word ≡ Some keywords.Listen → is_some r.draft.listen ≡ false → is_name name ≡ false
@@ -147,18 +149,19 @@ pub data HasFault (servers : List Server) (r : Resolved) : List (List ℕ) → F
   server_again : (word name : List ℕ) (more : List (List ℕ)) → keyword_of word ≡ Some keywords.Server → in_listen r.draft.section ≡ true
       → nat_le most_servers (length r.draft.servers) ≡ false → is_name name ≡ true
       → is_some (server_index name r.draft.servers) ≡ true → HasFault servers r (word ∷ name ∷ more) causes.Twice
-  -- `unknown`: a server that none of the file's is
+  -- `unknown`: a server that isn't one of the file's
   no_server : (word name : List ℕ) (more : List (List ℕ)) → keyword_of word ≡ Some keywords.UseServer → TakesRule r → is_name name ≡ true
       → server_index name servers ≡ None
       → HasFault servers r (word ∷ name ∷ more) causes.Unknown
-  -- `condition`: an expression that isn't one; another word than `if` or `unless`
+  -- `condition`: a word that isn't an expression; another word than `if` or `unless`
   no_expression : (word action value : List ℕ) (which : Action) (more : List (List ℕ)) → keyword_of word ≡ Some keywords.HttpRequest → TakesRule r
       → action_of action ≡ Some which → expression_of value ≡ None
       → HasFault servers r (word ∷ action ∷ value ∷ more) causes.Condition
   no_guard : (word name other : List ℕ) (index : ℕ) (more : List (List ℕ)) → keyword_of word ≡ Some keywords.UseServer → TakesRule r → is_name name ≡ true
       → server_index name servers ≡ Some index
       → bytes_eq other (codes "if") ≡ false → bytes_eq other (codes "unless") ≡ false → HasFault servers r (word ∷ name ∷ other ∷ more) causes.Condition
-  -- `unknown` and `condition`: in a condition, behind whatever terms, an ACL without a line before, or a word that no term has
+  -- `unknown` and `condition`: in a condition, after any terms, an ACL without an earlier line, or
+  -- a word that can't begin a term
   no_term_of_rule : (word action value guard : List ℕ) (which : Action) (expression : Expression) (front : List (List ℕ)) (term : List ℕ)
       (more : List (List ℕ)) (cause : FaultCause) → keyword_of word ≡ Some keywords.HttpRequest → TakesRule r → action_of action ≡ Some which
       → expression_of value ≡ Some expression → is_guard guard ≡ true → IsFront r.draft.acls front → NoTerm r.draft.acls term cause

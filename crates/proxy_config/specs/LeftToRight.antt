@@ -1,4 +1,4 @@
--- Which word of a line is at fault.
+-- The word of a line that is at fault.
 use Rattle.std.specs.Prelude.{◌≡◌, ◌⊎◌, ℕ, List, ◌∷◌, ◌++◌, Result, Err}
 use Rattle.proxy_config.specs.declared.faults.FaultCause.{FaultCause}
 use Rattle.proxy_config.specs.declared.faults.FaultCause.TheVariants as causes

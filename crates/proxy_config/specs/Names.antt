@@ -1,11 +1,11 @@
--- Which words are names, beside those of sections and servers.
+-- The words that are names, beside those of sections and servers.
 use Rattle.std.specs.Prelude.{ℕ, Bool, ◌||◌, ◌&&◌, ◌==◌, not, List, length, codes}
 use Rattle.std.specs.List.{list_all}
 use Rattle.std.specs.Char.{is_ascii_alphanumeric}
 use Rattle.std.specs.Str.{bytes_eq}
 use Rattle.proxy_words.specs.Names.{is_in, is_name}
 
--- the name of an ACL: `or` is none, since it separates alternatives
+-- the name of an ACL; `or` isn't one, since it separates alternatives
 abbrev pub is_acl_name : List ℕ → Bool
 is_acl_name word = is_name word && not (bytes_eq word (codes "or"))
 

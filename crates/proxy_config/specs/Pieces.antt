@@ -11,19 +11,19 @@ abbrev pub word_at : List (List ℕ) → Result (List ℕ × List (List ℕ)) Fa
 word_at [] = Err causes.Words
 word_at (word ∷ words) = Ok (word, words)
 
--- no word more
+-- the end of the line
 abbrev pub end_at : List (List ℕ) → Result (Unit {0}) FaultCause
 end_at [] = Ok tt
 end_at (word ∷ words) = Err causes.Words
 
--- a number within these ends
+-- a number within these bounds
 abbrev pub number_in : ℕ → ℕ → List ℕ → Option ℕ
 number_in least most word = option_and_then (λ n. if nat_lt n least then None else if nat_lt most n then None else Some n) (numeral 9 word)
 
--- a number of so much or more
+-- a number that is at least this one
 abbrev pub number_from : ℕ → List ℕ → Option ℕ
 number_from least word = option_and_then (λ n. if nat_lt n least then None else Some n) (numeral 9 word)
 
--- a time of so many milliseconds or more
+-- a time of at least this number of milliseconds
 abbrev pub time_from : ℕ → List ℕ → Option ℕ
 time_from least word = option_and_then (λ t. if nat_lt t least then None else Some t) (time word)

@@ -1,4 +1,4 @@
--- What is known once some lines were read, and what they and the servers of the whole file come to.
+-- The knowledge after some lines, and its result together with the servers of the whole file.
 use Rattle.std.specs.Prelude.{ℕ, Bool, List, [], ◌∷◌, ◌++◌, length, Option, Some, None, Result, Ok, Err}
 use Rattle.proxy_config.specs.declared.faults.FaultCause.{FaultCause}
 use Rattle.proxy_config.specs.declared.faults.ConfigFault.{ConfigFault}
@@ -13,11 +13,11 @@ use Rattle.proxy_config.specs.File.{keyword_in, after_fault, then_lines}
 use Rattle.proxy_config.specs.Resolved.{Resolved}
 use Rattle.proxy_config.specs.Wishes.{pin_of}
 
--- before the first line
+-- the knowledge before the first line
 abbrev pub start : Progress
 start = record { draft = draft.start; wishes = []; fault = None }
 
--- a line's outcome, with its number and its keyword: past a fault no pin counts, and no other fault
+-- a line's outcome, with its number and its keyword: after a fault no pin counts, and no other fault
 abbrev pub took : Option ConfigFault → Progress → ℕ → Option Keyword → Result (Draft × Option Wish) FaultCause → Progress
 took None p n keyword (Ok (d, None)) = record p { draft = d }
 took None p n keyword (Ok (d, Some wish)) = record p { draft = d; wishes = p.wishes ++ wish ∷ [] }
@@ -33,16 +33,16 @@ abbrev pub unless_known : {A : Type 0} → Option ConfigFault → Result A Confi
 unless_known None more = more
 unless_known (Some fault) more = Err fault
 
--- all pins that are asked for, or the first line that asks for none, and what comes after them
+-- all pins that are asked for, or the first line whose pin is faulty, and what comes after them
 abbrev pub with_pins : {A : Type 0} → List Server → List Wish → (List Pin → Result A ConfigFault) → Result A ConfigFault
 with_pins servers [] more = more []
 with_pins servers (wish ∷ wishes) more = then_lines wish.line (pin_of servers wish) (λ pin. with_pins servers wishes (λ pins. more (pin ∷ pins)))
 
--- what is known comes to this, by the servers of the whole file
+-- the result of the knowledge, by the servers of the whole file
 abbrev pub settled : List Server → Progress → Result Resolved ConfigFault
 settled servers p = with_pins servers p.wishes (λ pins. unless_known p.fault (Ok (record { draft = p.draft; pins = pins })))
 
--- the fault that no server changes: behind no pin that asks for one
+-- the fault that no later server changes: there is no pin before it
 abbrev pub decided : List Wish → Option ConfigFault → Option ConfigFault
 decided [] fault = fault
 decided (wish ∷ wishes) fault = None

@@ -1,4 +1,4 @@
--- The lines that decide where a request goes, and when.
+-- The lines of ACLs and rules.
 use Rattle.std.specs.Prelude.{ℕ, if◌then◌else◌, List, [], ◌∷◌, ◌++◌, not, position, Option, Some, None, Result, Ok, codes}
 use Rattle.std.specs.Option.{ok_or}
 use Rattle.std.specs.Str.{bytes_eq}
@@ -16,7 +16,7 @@ use Rattle.proxy_config.specs.Pieces.{word_at}
 use Rattle.proxy_config.specs.Samples.{test_to_end, expression_of}
 use Rattle.proxy_config.specs.Conditions.{optional_guard}
 
--- the ACLs with one alternative more of this name
+-- the ACLs with one more alternative for this name
 abbrev pub with_test : List ℕ → Test → List Acl → List Acl
 with_test name test [] = record { name = name; tests = test ∷ [] } ∷ []
 with_test name test (acl ∷ acls) = if bytes_eq acl.name name then record acl { tests = acl.tests ++ test ∷ [] } ∷ acls
@@ -36,7 +36,7 @@ action_of word =
     else if bytes_eq word (codes "set-priority-offset") then Some SetPriorityOffset
     else None
 
--- `http-request ACTION EXPRESSION`, and a guard or none
+-- `http-request ACTION EXPRESSION`, and a guard or nothing
 unfoldable pub rule_line : List Acl → List (List ℕ) → Result Rule FaultCause
 rule_line acls words = do
   first ← word_at words
@@ -46,6 +46,6 @@ rule_line acls words = do
   guard ← optional_guard acls second.1
   Ok (record { action = action; value = value; guard = guard })
 
--- which of the servers has the name
+-- the index of the server with this name
 abbrev pub server_index : List ℕ → List Server → Option ℕ
 server_index name servers = position (λ server. bytes_eq server.name name) servers

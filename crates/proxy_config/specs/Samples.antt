@@ -15,15 +15,15 @@ use Rattle.proxy_config.specs.Outcomes.{◌>>=◌, unless}
 use Rattle.proxy_config.specs.Names.{is_token}
 use Rattle.proxy_config.specs.Pieces.{word_at}
 
--- what stands behind an opening text
+-- the text after an opening text
 abbrev pub behind : List ℕ → List ℕ → Option (List ℕ)
 behind opening word = if bytes_eq (take (length opening) word) opening then Some (drop (length opening) word) else None
 
--- what stands before a closing parenthesis at the end
+-- the text before a closing parenthesis at the end
 abbrev pub before_close : List ℕ → Option (List ℕ)
 before_close word = if slice_index word (length word - 1) == 41 then Some (take (length word - 1) word) else None
 
--- what stands between an opening text and a closing parenthesis
+-- the text between an opening text and a closing parenthesis
 abbrev pub enclosed : List ℕ → List ℕ → Option (List ℕ)
 enclosed opening word = option_and_then before_close (behind opening word)
 
@@ -46,12 +46,12 @@ expression_of word = elim (enclosed (codes "int(") word) [
   | None ↦ option_map HeaderValue (field_in (codes "req.hdr_val(") word)
 ]
 
--- a word that begins with `-` is no value
+-- a word that begins with `-` can't be a value
 abbrev pub is_dashed : List ℕ → Bool
 is_dashed [] = false
 is_dashed (byte ∷ word) = byte == 45
 
--- What a test looks at, and whether it ignores case; its first value, and the words after that.
+-- the subject of a test, and whether it ignores case; its first value, and the words after that
 unfoldable pub head_at : List (List ℕ) → Result (Subject × Bool × List ℕ × List (List ℕ)) FaultCause
 head_at words = do
   first ← word_at words
@@ -85,7 +85,7 @@ values_to_brace [] = Err causes.Words
 values_to_brace (word ∷ words) = if is_brace word then Ok ([], words)
     else value_of word >>= λ value. values_to_brace words >>= λ more. Ok (value ∷ more.0, more.1)
 
--- a test in braces, behind the opening one, and the words after the closing one: its first value is no brace
+-- a test in braces, after the opening one, and the words after the closing one: its first value isn't a brace
 unfoldable pub test_in_braces : List (List ℕ) → Result (Test × List (List ℕ)) FaultCause
 test_in_braces words = do
   head ← head_at words
@@ -94,7 +94,7 @@ test_in_braces words = do
   more ← values_to_brace head.3
   Ok (record { subject = head.0; ignore_case = head.1; values = first ∷ more.0 }, more.1)
 
--- what was read before, and what is still read
+-- a value before the ones that are read next
 abbrev pub onto : List (List ℕ) → Result (List (List ℕ)) FaultCause → Result (List (List ℕ)) FaultCause
 onto front read = read >>= λ more. Ok (front ++ more)
 

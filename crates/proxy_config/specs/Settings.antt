@@ -12,7 +12,7 @@ use Rattle.proxy_config.specs.declared.parts.Checks.{Checks}
 use Rattle.proxy_config.specs.Outcomes.{◌>>=◌}
 use Rattle.proxy_config.specs.Pieces.{number_in, number_from, time_from}
 
--- where a line sets none
+-- the settings of a line that sets none
 abbrev pub built_in : Settings
 built_in = record { weight = 1; maxconn = 0; maxqueue = 0; check = false; inter = 2000; rise = 2; fall = 3 }
 
@@ -38,7 +38,7 @@ set Inter word s = ok_or (time_from 1 word) causes.Number >>= λ t. Ok (record s
 set Rise word s = ok_or (number_from 1 word) causes.Number >>= λ n. Ok (record s { rise = n })
 set Fall word s = ok_or (number_from 1 word) causes.Number >>= λ n. Ok (record s { fall = n })
 
--- the settings on a line, one after the other: of one that is repeated, the last stands
+-- the settings of a line, one after the other: where one is repeated, the last one counts
 abbrev pub settings : Settings → List (List ℕ) → Result Settings FaultCause
 settings s [] = Ok s
 settings s (word ∷ []) = if is_check word then Ok (record s { check = true })

@@ -1,4 +1,4 @@
--- What holds of each configuration that is accepted.
+-- The facts that hold for each accepted configuration.
 use Rattle.std.specs.Prelude.{ℕ, ◌+◌, ◌<◌, ◌≤◌, ◌^◌, length, All, IfSome}
 use Rattle.proxy_config.specs.declared.parts.Checks.{Checks}
 use Rattle.proxy_config.specs.declared.parts.Condition.{Condition}
@@ -19,7 +19,7 @@ pub record IsSoundServer (server : Server) : Type 0 where
   pub weight : server.weight ≤ 256
   pub check : IfSome server.check IsSoundCheck
 
--- of so many ACLs, each index is that of one
+-- an index of an ACL is below their number
 abbrev pub IsSoundOperand : ℕ → Operand → Type 0
 IsSoundOperand acls (operands.Acl index) = index < acls
 IsSoundOperand acls (operands.Test test) = Unit {0}
@@ -31,7 +31,7 @@ abbrev pub IsSoundGuard : ℕ → Guard → Type 0
 IsSoundGuard acls (guards.If condition) = IsSoundCondition acls condition
 IsSoundGuard acls (guards.Unless condition) = IsSoundCondition acls condition
 
--- a time that is set: not 0, and few enough milliseconds for a dispatcher
+-- a time that is set: it isn't 0, and small enough for a dispatcher
 pub record IsSoundTime (milliseconds : ℕ) : Type 0 where
   pub some : 0 < milliseconds
   pub within : milliseconds < 2 ^ 62

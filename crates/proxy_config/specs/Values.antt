@@ -1,4 +1,4 @@
--- The lines that stand in `defaults` and in `listen`.
+-- The lines of `defaults` and `listen`.
 use Rattle.std.specs.Prelude.{ℕ, true, false, if◌then◌else◌, not, nat_lt, List, Option, Some, None, Result, Ok, codes}
 use Rattle.std.specs.Option.{ok_or}
 use Rattle.std.specs.Str.{bytes_eq}
@@ -16,7 +16,7 @@ use Rattle.proxy_config.specs.declared.values.Switch.TheVariants as switches
 use Rattle.proxy_config.specs.Outcomes.{◌>>=◌, unless}
 use Rattle.proxy_config.specs.Pieces.{word_at, end_at}
 
--- before any line
+-- the values before any line
 abbrev pub built_in : Values
 built_in = record { retries = 3; redispatch = false; abortonclose = false; queue = 0; connect = 0; client = 0; server = 0 }
 
@@ -90,10 +90,10 @@ shared_line shared.Option v words = option_line v words
 shared_line shared.Timeout v words = timeout_line v words
 shared_line shared.Note v words = Ok v
 
--- a time that is set; 0 is none
+-- a time that is set; 0 is no limit
 abbrev pub set_time : ℕ → Option ℕ
 set_time t = if nat_lt 0 t then Some t else None
 
--- the longest stay in a queue: without a time of its own that of a connect, and 0 is none
+-- the longest stay in a queue: without a value of its own that of a connect, and 0 is no limit
 abbrev pub queue_timeout : Values → Option ℕ
 queue_timeout v = if nat_lt 0 v.queue then Some v.queue else set_time v.connect

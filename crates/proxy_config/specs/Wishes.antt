@@ -1,4 +1,4 @@
--- What a `use-server` line asks for before all servers are known: it names its server.
+-- The pin that a `use-server` line asks for before all servers are known: it names its server.
 use Rattle.std.specs.Prelude.{ℕ, not, List, Result, Ok}
 use Rattle.std.specs.Option.{ok_or}
 use Rattle.proxy_config.specs.declared.faults.FaultCause.{FaultCause}
@@ -14,7 +14,7 @@ use Rattle.proxy_config.specs.Pieces.{word_at}
 use Rattle.proxy_config.specs.Conditions.{guard_at}
 use Rattle.proxy_config.specs.Rules.{server_index}
 
--- a guard that has to stand there
+-- a guard that is required
 abbrev pub guard_of : List Acl → List (List ℕ) → Result Guard FaultCause
 guard_of acls words = word_at words >>= λ first. guard_at acls first.0 first.1
 

@@ -14,7 +14,7 @@ use crate::pieces::{is, number_in};
 use list_facts::Items;
 use std::alloc::Global;
 
-/// Where to listen: `A:PORT`, A empty, `*` or an IPv4 address.
+/// Reads the address to listen at: `A:PORT`, where A is empty, `*` or an IPv4 address.
 pub(crate) fn bind(word: &[u8]) -> Option<Bind>
     ensures { result ≡ addresses.bind_of word.now }
 {
@@ -24,7 +24,7 @@ pub(crate) fn bind(word: &[u8]) -> Option<Bind>
     Some(Bind { ip, port })
 }
 
-/// Where to connect: `A:PORT`, A an IPv4 address or a host's name.
+/// Reads an address to connect to: `A:PORT`, where A is an IPv4 address or a host name.
 pub(crate) fn address(alloc: Global, word: &[u8]) -> Result<Address, LineError>
     ensures { Gives (λ x. x) result (ok_or (addresses.address_of word.now) causes.Address) }
 {
@@ -74,7 +74,7 @@ fn octet(part: &[u8]) -> Option<u8>
     Some(number_in(0, 255, part)? as u8)
 }
 
-// What stands before the first dot, and after it.
+// Returns the text before the first dot, and the text after it.
 fn around_dot(word: &[u8]) -> Option<(&[u8], &[u8])>
     ensures none { IfNone result (slice_split addresses.is_dot word.now ≡ word.now ∷ []) }
     ensures some { IfSome result (λ x.

@@ -15,7 +15,7 @@ use proxy_words::Words;
 use std::alloc::Global;
 use std::mem;
 
-/// A guard, or the end of the line.
+/// Reads a guard, or the end of the line.
 #[tactic(auto, unfolding(crate::specs::Conditions::optional_guard))]
 pub(crate) fn optional_guard(
     alloc: Global,
@@ -30,7 +30,7 @@ pub(crate) fn optional_guard(
     }
 }
 
-/// `if` or `unless`, and a condition.
+/// Reads `if` or `unless`, and a condition.
 #[tactic(auto, unfolding(crate::specs::Conditions::guard_at))]
 pub(crate) fn guard(
     alloc: Global,
@@ -85,7 +85,7 @@ fn alternatives(
     Ok(alternatives)
 }
 
-// A term whose first word was read, and the words after it.
+// Reads a term whose first word was read, and returns the words after it too.
 #[tactic(auto, unfolding(crate::specs::Conditions::term_at))]
 fn term<'a>(
     alloc: Global,

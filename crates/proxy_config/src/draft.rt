@@ -1,4 +1,4 @@
-//! What the lines read so far say.
+//! The meaning of the lines that were read so far.
 
 ghost use Rattle.std.specs.Prelude.{◌≡◌, ◌∷◌, ◌++◌, [], length, Result, Ok};
 ghost use Rattle.std.specs.List.{list_any};
@@ -69,8 +69,8 @@ impl Draft {
         }
     }
 
-    /// Takes a line in, by its number and whether the file is too long in it, behind so many pins. The pin of a
-    /// `use-server` line is returned as its wish. An error changes nothing.
+    /// Takes a line, by its number and whether the file becomes too long in it, after this number
+    /// of pins. The pin of a `use-server` line is returned as its wish. An error changes nothing.
     #[tactic(auto, unfolding(crate::specs::Draft::step))]
     pub(crate) fn step(
         &mut self,
@@ -97,8 +97,8 @@ impl Draft {
         self.take_words(alloc, pins, number, Words::new(text))
     }
 
-    /// Leaves the `listen` where a faulty line begins a section that is refused, or a second `listen`: what follows
-    /// belongs to no section that counts.
+    /// Leaves the `listen` where a faulty line begins a section that the profile leaves out, or a
+    /// second `listen`: what follows belongs to no section that counts.
     pub(crate) fn leave_behind(&mut self, line: &[u8])
         ensures { self.new ≡ file.after_fault self.old (file.keyword_in line.now) }
     {

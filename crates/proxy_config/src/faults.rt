@@ -5,7 +5,7 @@ ghost use Rattle.std.specs.Prelude.{◌≡◌};
 use std::alloc::{AllocError, AllocFailed};
 use thiserror::Error;
 
-/// What is wrong with a line.
+/// The cause of a line's fault.
 #[derive(Clone, Copy, Debug, PartialEq, Eq, Error)]
 pub enum FaultCause {
     /// A quote or a backslash before the comment.
@@ -24,13 +24,13 @@ pub enum FaultCause {
     /// Too few words, or too many.
     #[error("words")]
     Words,
-    /// A number or a time that isn't one, or is out of range.
+    /// A word that isn't a number or a time, or one out of range.
     #[error("number")]
     Number,
-    /// An address that isn't one.
+    /// A word that isn't an address.
     #[error("address")]
     Address,
-    /// The name of a section, a server or an ACL that isn't one.
+    /// A word that isn't the name of a section, a server or an ACL.
     #[error("name")]
     Name,
     /// A second `bind`, or a server's name again.
@@ -39,13 +39,13 @@ pub enum FaultCause {
     /// An ACL or a server that isn't declared.
     #[error("unknown")]
     Unknown,
-    /// A condition, a test or an expression that isn't one.
+    /// Words that aren't a condition, a test or an expression.
     #[error("condition")]
     Condition,
     /// No `listen`, or one without a `bind` or a server.
     #[error("missing")]
     Missing,
-    /// One server, ACL line or rule too many, or the file is too long.
+    /// One server, ACL line or rule too many, or a file that is too long.
     #[error("limit")]
     Limit,
 }
@@ -61,7 +61,7 @@ pub struct ConfigFault {
 /// Why a configuration wasn't read.
 #[derive(Clone, Copy, Debug, PartialEq, Eq, Error)]
 pub enum ReadError {
-    /// A growth was refused.
+    /// The system refused memory.
     #[error("no memory")]
     NoMemory,
     #[error("{0}")]

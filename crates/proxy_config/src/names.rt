@@ -1,4 +1,4 @@
-//! Which words are names, beside those of sections and servers.
+//! The words that are names, beside those of sections and servers.
 
 ghost use Rattle.std.specs.Prelude.{◌≡◌};
 ghost use Rattle.std.specs.List.{list_all};

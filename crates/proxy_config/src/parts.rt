@@ -1,25 +1,25 @@
-//! What a configuration says, part by part.
+//! The parts of a configuration.
 
 use list_facts::Items;
 
 /// A text, as its bytes.
 pub type Text = Items<u8>;
 
-/// What a configuration says.
+/// A configuration.
 #[derive(Debug, Drop)]
 pub struct Config {
-    /// Where clients connect.
+    /// The address where clients connect.
     pub bind: Bind,
-    /// One server or more, and at most 64, in the file's order.
+    /// The servers, 1 to 64, in the file's order.
     pub servers: Items<Server>,
-    /// How often a request is tried again after a failure.
+    /// The number of further tries for a request after a failed connection.
     pub retries: u32,
     /// `option redispatch`.
     pub redispatch: bool,
     /// `option abortonclose`: a client's end of input while it waits is an abort.
     pub abortonclose: bool,
-    /// The longest stay in a queue, in milliseconds; never 0, and below 2^57. Without a time of its own that of a
-    /// connect (HAProxy's `timeout queue`).
+    /// The longest stay in a queue, in milliseconds; never 0, and below 2^57 (HAProxy's `timeout
+    /// queue`, or `timeout connect` where that isn't set).
     pub queue_timeout: Option<u64>,
     /// The longest wait for a connection to a server, in milliseconds; never 0 (`timeout connect`).
     pub connect_timeout: Option<u64>,
@@ -27,7 +27,7 @@ pub struct Config {
     pub client_timeout: Option<u64>,
     /// The same of a server (`timeout server`).
     pub server_timeout: Option<u64>,
-    /// In the order of their first lines.
+    /// The ACLs, in the order of their first lines.
     pub acls: Items<Acl>,
     /// The `http-request` rules in the file's order.
     pub rules: Items<Rule>,
@@ -38,7 +38,7 @@ pub struct Config {
 /// An address to listen at.
 #[derive(Clone, Copy, Debug, PartialEq, Eq)]
 pub struct Bind {
-    /// An IPv4 address, or each of this machine.
+    /// An IPv4 address; `None` for all addresses of this machine.
     pub ip: Option<[u8; 4]>,
     pub port: u16,
 }
@@ -53,7 +53,7 @@ pub struct Address {
 #[derive(Debug, Drop)]
 pub enum Host {
     Ip([u8; 4]),
-    /// A name to look up at each connect.
+    /// A host name, which is looked up while the proxy runs.
     Name(Text),
 }
 
@@ -61,24 +61,24 @@ pub enum Host {
 pub struct Server {
     pub name: Text,
     pub address: Address,
-    /// The greatest number of requests at once; 0 is no limit.
+    /// The most requests at once; 0 is no limit.
     pub maxconn: u32,
-    /// The greatest length of the server's own queue; 0 is no limit.
+    /// The most requests in the server's own queue; 0 is no limit.
     pub maxqueue: u32,
     /// At most 256. A server of weight 0 takes no part in balancing.
     pub weight: u32,
-    /// With `check` alone.
+    /// The checks, where the line has `check`.
     pub check: Option<Checks>,
 }
 
-/// How a server's health is checked.
+/// The health checks of a server.
 #[derive(Clone, Copy, Debug, PartialEq, Eq)]
 pub struct Checks {
     /// Milliseconds from one check to the next; never 0.
     pub inter: u64,
-    /// So many successes in a row bring a server up; never 0.
+    /// The number of successes in a row that bring a server up; never 0.
     pub rise: u32,
-    /// So many failures in a row take it down; never 0.
+    /// The number of failures in a row that take it down; never 0.
     pub fall: u32,
 }
 
@@ -89,35 +89,35 @@ pub struct Acl {
     pub tests: Items<Test>,
 }
 
-/// A test holds where one of its values fits the subject, of a field one of the field's values.
+/// A test holds where one of its values fits its subject; where that is a field, one of the field's values.
 #[derive(Debug, Drop)]
 pub struct Test {
     pub subject: Subject,
-    /// ASCII letters in either case are the same.
+    /// ASCII letters match in either case.
     pub ignore_case: bool,
-    /// One or more.
+    /// The values, one or more.
     pub values: Items<Text>,
 }
 
-/// What a test looks at.
+/// The subject of a test.
 #[derive(Debug, Drop)]
 pub enum Subject {
-    /// The path is the value.
+    /// The path equals the value.
     Path,
     /// The path begins with the value.
     PathBegin,
     /// The path ends with the value.
     PathEnd,
-    /// The method is the value.
+    /// The method equals the value.
     Method,
-    /// The field of this name has the value.
+    /// A value of the field with this name equals the value.
     Header(Text),
 }
 
 /// A condition holds where each term of one of the alternatives does.
 #[derive(Debug, Drop)]
 pub struct Condition {
-    /// One or more, each of one term or more.
+    /// The alternatives, one or more, each of one or more terms.
     pub alternatives: Items<Items<Term>>,
 }
 
@@ -130,12 +130,12 @@ pub struct Term {
 
 #[derive(Debug, Drop)]
 pub enum Operand {
-    /// The ACL at this index of the configuration's.
+    /// The index of one of the configuration's ACLs.
     Acl(usize),
     Test(Test),
 }
 
-/// When a rule applies.
+/// The guard of a rule: when it applies.
 #[derive(Debug, Drop)]
 pub enum Guard {
     If(Condition),
@@ -147,7 +147,7 @@ pub enum Guard {
 pub struct Rule {
     pub action: Action,
     pub value: Expression,
-    /// None where the rule always applies.
+    /// `None` where the rule always applies.
     pub guard: Option<Guard>,
 }
 
@@ -160,14 +160,14 @@ pub enum Action {
 #[derive(Debug, Drop)]
 pub enum Expression {
     Int(i64),
-    /// The last of the values of the field of this name, as a number.
+    /// The last of the values of the field with this name, as a number.
     HeaderValue(Text),
 }
 
 /// A `use-server` rule.
 #[derive(Debug, Drop)]
 pub struct Pin {
-    /// The server at this index of the configuration's.
+    /// The index of one of the configuration's servers.
     pub server: usize,
     pub guard: Guard,
 }

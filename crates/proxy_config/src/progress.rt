@@ -1,4 +1,4 @@
-//! What is known once some lines were read.
+//! The knowledge after some lines.
 
 ghost use Rattle.std.specs.Prelude.{◌≡◌, OnOk, IfErr};
 ghost use Rattle.proxy_config.specs.File as file;
@@ -16,9 +16,9 @@ use std::alloc::Global;
 #[derive(Drop)]
 pub(crate) struct Progress {
     pub draft: Draft,
-    /// The pins, their servers by name.
+    /// The pins, with their servers by name.
     pub wishes: Items<Wish>,
-    /// The first line that is faulty wherever the servers stand. From there on only servers count.
+    /// The first line that is faulty whichever servers follow. After it only servers count.
     pub fault: Option<ConfigFault>,
 }
 
@@ -33,7 +33,7 @@ impl Progress {
         }
     }
 
-    /// Takes a line in, by its number and whether the file is too long in it.
+    /// Takes a line, by its number and whether the file becomes too long in it.
     pub(crate) fn take(
         &mut self,
         alloc: Global,
@@ -62,7 +62,7 @@ impl Progress {
         Ok(())
     }
 
-    /// The fault, if no server that stands later can change it.
+    /// Returns the fault, if no later server can change it.
     pub(crate) fn decided(&self) -> Option<ConfigFault>
         ensures { result ≡ grammar.decided self.now.wishes self.now.fault }
     {
@@ -73,7 +73,7 @@ impl Progress {
         }
     }
 
-    /// The configuration or its first fault, once all lines are read.
+    /// Returns the configuration or its first fault, once all lines are read.
     #[tactic(auto, using(crate::proofs::OnePass::settled_err))]
     pub(crate) fn finish(self, alloc: Global) -> Result<Config, ReadError>
         ensures { Answers result (file.finished (grammar.settled self.draft.servers self)) }
@@ -91,7 +91,7 @@ impl Progress {
     }
 }
 
-// The configuration, if the lines have all that it needs.
+// Returns the configuration, if the lines have all that it needs.
 fn whole(draft: Draft, pins: Items<Pin>) -> Result<Config, ReadError>
     ensures { Answers result (file.whole draft.listen draft.bind (record { draft = draft; pins = pins })) }
 {

@@ -1,4 +1,4 @@
-//! What a whole file says.
+//! The reading of a whole file.
 
 ghost use Rattle.std.specs.Prelude.{◌≡◌, ◌≤◌, length, count_by, IfOk, IfErr};
 ghost use Rattle.proxy_words.specs.Text.{is_line_feed};
@@ -17,14 +17,15 @@ pub const MOST_BYTES: usize = 1_048_576;
 
 /// Reads a configuration, in time linear in its bytes.
 ///
-/// The lines are gone through once. A `use-server` may name a server that stands later: until all lines are read
-/// it is kept with the name, in at most 256 texts of 32 bytes. Other memory is taken for what the configuration keeps.
+/// Each line is read once. A `use-server` line may name a server that stands later: until all lines
+/// are read it is kept with the name, in at most 256 texts of 32 bytes. All other memory is for the
+/// configuration itself.
 pub fn read(alloc: Global, bytes: &[u8]) -> Result<Config, ReadError>
-    // What each line means decides the answer, but for memory.
+    // The meaning of each line decides the answer, except for want of memory.
     ensures exact { grammar.Answers result (grammar.reading bytes.now) }
     // An accepted file has no faulty line.
     ensures says { IfOk result (Says bytes.now) }
-    // What is accepted is within the limits: callers need no test of their own.
+    // An accepted configuration is within the limits, so callers need no test of their own.
     ensures sound { IfOk result IsSoundConfig }
     // A fault is that of the first faulty line, whatever follows it; only where there is none, something
     // is missing.
@@ -50,7 +51,7 @@ fn read_lines(alloc: Global, bytes: &[u8]) -> Result<Config, ReadError>
     progress.finish(alloc)
 }
 
-// The number of the line in which the byte past the last allowed one stands.
+// Returns the number of the line with the first byte past the limit.
 fn long_line(bytes: &[u8]) -> Option<u64>
     ensures { result ≡ grammar.long_line bytes.now }
 {

@@ -1,4 +1,4 @@
-//! The lines that decide where a request goes, and when.
+//! The lines of ACLs and rules.
 
 ghost use Rattle.std.specs.Prelude.{◌≡◌, ◌∷◌, [], Ok, IfOk, position};
 ghost use Rattle.std.specs.Str.{bytes_eq};
@@ -15,7 +15,7 @@ use list_facts::Items;
 use proxy_words::Words;
 use std::alloc::{AllocError, Global};
 
-/// `acl NAME TEST`.
+/// Reads `acl NAME TEST`.
 #[tactic(auto, unfolding(crate::specs::Rules::acl_line))]
 pub(crate) fn acl_line(alloc: Global, acls: &mut Items<Acl>, words: Words) -> Result<(), LineError>
     ensures { Becomes result acls.old acls.new (grammar.acl_line acls.old words.entry) }
@@ -28,7 +28,7 @@ pub(crate) fn acl_line(alloc: Global, acls: &mut Items<Acl>, words: Words) -> Re
     add_test(alloc, acls, name, test)
 }
 
-/// `http-request ACTION EXPRESSION`, and a guard or none.
+/// Reads `http-request ACTION EXPRESSION`, and a guard or nothing.
 #[tactic(auto, unfolding(crate::specs::Rules::rule_line))]
 pub(crate) fn rule_line(alloc: Global, acls: &Items<Acl>, words: Words) -> Result<Rule, LineError>
     ensures { Gives (λ x. x) result (grammar.rule_line acls.now words.entry) }
@@ -45,7 +45,7 @@ pub(crate) fn rule_line(alloc: Global, acls: &Items<Acl>, words: Words) -> Resul
     })
 }
 
-// One alternative more of an ACL, or a new one.
+// Adds one more alternative to an ACL, or a new ACL.
 fn add_test(alloc: Global, acls: &mut Items<Acl>, name: &[u8], test: Test) -> Result<(), LineError>
     ensures { Becomes result acls.old acls.new (Ok (grammar.with_test name.now test acls.old)) }
 {
@@ -59,7 +59,7 @@ fn add_test(alloc: Global, acls: &mut Items<Acl>, name: &[u8], test: Test) -> Re
     Ok(())
 }
 
-// An ACL of one alternative.
+// Makes an ACL with one alternative.
 fn acl_of(alloc: Global, name: &[u8], test: Test) -> Result<Acl, AllocError>
     ensures { IfOk result (λ acl. acl ≡ record { name = name.now; tests = test ∷ [] }) }
 {

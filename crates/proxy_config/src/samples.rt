@@ -14,7 +14,7 @@ use list_facts::Items;
 use proxy_words::{Words, signed_long_number};
 use std::alloc::Global;
 
-/// A test that goes to the end of the line.
+/// Reads a test that goes to the end of the line.
 #[tactic(auto, unfolding(crate::specs::Samples::test_to_end))]
 pub(crate) fn test_to_end(alloc: Global, words: Words) -> Result<Test, LineError>
     ensures { Gives (λ x. x) result (grammar.test_to_end words.entry) }
@@ -29,7 +29,7 @@ pub(crate) fn test_to_end(alloc: Global, words: Words) -> Result<Test, LineError
     })
 }
 
-/// A test in braces, behind the opening one, and the words after the closing one.
+/// Reads a test in braces, after the opening one, and returns the words after the closing one too.
 #[tactic(auto, unfolding(crate::specs::Samples::test_in_braces))]
 pub(crate) fn test_in_braces(
     alloc: Global,
@@ -53,7 +53,7 @@ pub(crate) fn test_in_braces(
     ))
 }
 
-/// An integer, or where one is found.
+/// Reads an integer, or the field that has one.
 pub(crate) fn expression(alloc: Global, word: &[u8]) -> Result<Expression, LineError>
     ensures { Gives (λ x. x) result (ok_or (grammar.expression_of word.now) causes.Condition) }
 {
@@ -65,7 +65,8 @@ pub(crate) fn expression(alloc: Global, word: &[u8]) -> Result<Expression, LineE
     Ok(Expression::HeaderValue(Items::copied(alloc, name)?))
 }
 
-// What a test looks at, whether it ignores case, its first value, and the words after that.
+// Reads the subject of a test, whether it ignores case, and its first value, and returns the words
+// after that too.
 #[tactic(auto, unfolding(crate::specs::Samples::head_at))]
 fn head<'a>(
     alloc: Global,
@@ -102,7 +103,7 @@ fn subject(alloc: Global, word: &[u8]) -> Result<Subject, LineError>
     Ok(Subject::Header(Items::copied(alloc, name)?))
 }
 
-// The name of a field between an opening text and a closing parenthesis.
+// Returns the name of a field between an opening text and a closing parenthesis.
 fn field_in<'a>(opening: &str, word: &'a [u8]) -> Option<&'a [u8]>
     ensures { option_copied result ≡ grammar.field_in opening.now word.now }
 {
@@ -112,7 +113,7 @@ fn field_in<'a>(opening: &str, word: &'a [u8]) -> Option<&'a [u8]>
     }
 }
 
-// What stands between an opening text and a closing parenthesis.
+// Returns the text between an opening text and a closing parenthesis.
 fn enclosed<'a>(opening: &str, word: &'a [u8]) -> Option<&'a [u8]>
     ensures { option_copied result ≡ grammar.enclosed opening.now word.now }
 {
@@ -154,7 +155,7 @@ fn only(alloc: Global, value: Text) -> Result<Items<Text>, LineError>
     Ok(values)
 }
 
-// These values, and those to the end of the line.
+// Returns these values, and those to the end of the line.
 fn values_to_end(alloc: Global, start: Items<Text>, words: Words) -> Result<Items<Text>, LineError>
     ensures { Gives (λ x. x) result (grammar.onto start (grammar.values_to_end words.entry)) }
 {
@@ -167,7 +168,7 @@ fn values_to_end(alloc: Global, start: Items<Text>, words: Words) -> Result<Item
     Ok(values)
 }
 
-// These values, those up to the closing brace, and the words after it.
+// Returns these values, those up to the closing brace, and the words after it.
 fn values_to_brace<'a>(
     alloc: Global,
     start: Items<Text>,

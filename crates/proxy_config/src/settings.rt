@@ -10,7 +10,7 @@ use crate::parts::Checks;
 use crate::pieces::{is, number_from, number_in, time_from};
 use proxy_words::{Words, number};
 
-/// What a `server` line sets, or what is built in.
+/// The settings of a `server` line, or their defaults.
 #[derive(Clone, Copy)]
 pub(crate) struct Settings {
     pub weight: u32,
@@ -61,7 +61,7 @@ impl Settings {
     }
 }
 
-/// The settings to the end of a line.
+/// Reads the settings to the end of a line.
 pub(crate) fn settings_to_end(start: Settings, words: Words) -> Result<Settings, FaultCause>
     ensures { Sees (λ x. x) result (grammar.settings start words.entry) }
 {

@@ -1,4 +1,4 @@
-//! The lines that stand in `defaults` and in `listen`.
+//! The lines of `defaults` and `listen`.
 
 ghost use Rattle.std.specs.Prelude.{◌≡◌};
 ghost use Rattle.proxy_config.specs.Outcomes.{Sees};
@@ -8,19 +8,19 @@ use crate::faults::FaultCause;
 use crate::pieces::{end, is, word};
 use proxy_words::{Words, milliseconds, number};
 
-/// What `defaults` sets, and `listen` after it.
+/// The values that `defaults` sets, and `listen` after it.
 #[derive(Clone, Copy)]
 pub(crate) struct Values {
     pub retries: u32,
     pub redispatch: bool,
     pub abortonclose: bool,
-    /// Milliseconds; 0 where it is unset.
+    /// In milliseconds; 0 where it isn't set.
     pub queue: u64,
-    /// Milliseconds; 0 where it is unset.
+    /// In milliseconds; 0 where it isn't set.
     pub connect: u64,
-    /// Milliseconds; 0 where it is unset.
+    /// In milliseconds; 0 where it isn't set.
     pub client: u64,
-    /// Milliseconds; 0 where it is unset.
+    /// In milliseconds; 0 where it isn't set.
     pub server: u64,
 }
 
@@ -66,7 +66,7 @@ impl Values {
         }
     }
 
-    /// The longest stay in a queue, if there is one.
+    /// Returns the longest stay in a queue, if there is a limit.
     pub(crate) fn queue_timeout(self) -> Option<u64>
         ensures { result ≡ grammar.queue_timeout self }
     {
@@ -78,14 +78,14 @@ impl Values {
     }
 }
 
-/// A time that is set; 0 is none.
+/// Returns a time that is set; 0 is no limit.
 pub(crate) fn set_time(time: u64) -> Option<u64>
     ensures { result ≡ grammar.set_time time }
 {
     if time > 0 { Some(time) } else { None }
 }
 
-/// The values after a line, by its first word and the others.
+/// Returns the values after a line, by its first word and the others.
 pub(crate) fn shared_line(
     shared: Shared,
     values: Values,

@@ -15,7 +15,7 @@ use list_facts::Items;
 use proxy_words::{Words, is_name};
 use std::alloc::Global;
 
-/// A `use-server` line as long as not all servers are known.
+/// A `use-server` line before all servers are known.
 #[derive(Drop)]
 pub(crate) struct Wish {
     pub line: u64,
@@ -25,7 +25,7 @@ pub(crate) struct Wish {
     pub guard: Result<Guard, FaultCause>,
 }
 
-/// `use-server NAME` and a guard, in the line of this number.
+/// Reads `use-server NAME` and a guard, in the line with this number.
 #[tactic(auto, unfolding(crate::specs::Wishes::wish_line))]
 pub(crate) fn wish_line(
     alloc: Global,
@@ -70,7 +70,7 @@ fn guard_to_end(alloc: Global, acls: &Items<Acl>, words: Words) -> Result<Guard,
     guard(alloc, acls, first, words)
 }
 
-/// The pins, once all servers are known.
+/// Returns the pins, once all servers are known.
 pub(crate) fn pins_of(
     alloc: Global,
     servers: &Items<Server>,

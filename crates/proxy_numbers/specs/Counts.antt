@@ -5,15 +5,15 @@ use Rattle.std.specs.BTreeMap.{is_at}
 use Rattle.std.specs.Map.{lookup}
 use Rattle.std.specs.Option.{unwrap_or}
 
--- a count that stays at its greatest value
+-- a counter that saturates at its greatest value
 abbrev pub one_more : ℕ → ℕ
 one_more count = min (count + 1) (2 ^ 64 - 1)
 
--- how often a number was counted
+-- the number of times that a number was counted
 abbrev pub times : List (ℤ × ℕ) → ℤ → ℕ
 times counts number = unwrap_or (lookup (is_at (int_cmp number)) counts) 0
 
--- a number was counted so often, and every other one as often as before
+-- a number was counted this many times, and every other one as often as before
 pub record ChangesOnly (old new : List (ℤ × ℕ)) (number : ℤ) (count : ℕ) : Type 0 where
   pub this_number : times new number ≡ count
   pub other_numbers : (other : ℤ) → other ≢ number → times new other ≡ times old other

@@ -1,14 +1,14 @@
--- The lateness of slots, a second at a time.
+-- The lateness of slots, second by second.
 use Rattle.std.specs.Prelude.{ℕ, ◌+◌, ◌-◌, ◌^◌, ◌/◌, ◌%◌, ◌&&◌, ◌==◌, min, ℤ, pos, Option, None, Some, List, get_or, int_lt, nat_le, nat_lt, if◌then◌else◌}
 use Rattle.std.specs.Option.{option_map_or}
 use Rattle.proxy_numbers.specs.Counts.{one_more}
 use Rattle.proxy_numbers.specs.declared.minute.Second.{Second}
 
--- a sum that stays at its greatest value
+-- a sum that saturates at its greatest value
 abbrev pub capped : ℕ → ℕ
 capped sum = min sum (2 ^ 64 - 1)
 
--- a second in which no slot was given
+-- a second without a slot
 abbrev pub no_slot : ℕ → Second
 no_slot number = record { number = number; slots = 0; late = 0; worst = None }
 
@@ -16,12 +16,12 @@ no_slot number = record { number = number; slots = 0; late = 0; worst = None }
 abbrev pub later : ℤ → ℤ → ℤ
 later one other = if int_lt one other then other else one
 
--- the greatest lateness so far, with one more
+-- the greatest lateness so far, with one more slot
 abbrev pub worst_with : Option ℤ → ℤ → ℤ
 worst_with None lateness = lateness
 worst_with (Some worst) lateness = later worst lateness
 
--- a second with one slot more
+-- a second with one more slot
 abbrev pub with_slot : Second → ℤ → Second
 with_slot second lateness = record second {
   slots = one_more second.slots;
@@ -29,14 +29,14 @@ with_slot second lateness = record second {
   worst = Some (worst_with second.worst lateness);
 }
 
--- the place of a second among sixty
+-- the position of a second among sixty
 abbrev pub place_of : ℕ → ℕ
 place_of number = number % 60
 
--- what is held of a second at its place: nothing, where that is of another one
+-- the contents for a second at its position: nothing, where they belong to another second
 abbrev pub held_of : ℕ → Second → Second
 held_of number second = if second.number == number then second else no_slot number
 
--- the second at a place
+-- the second at a position
 abbrev pub second_at : List Second → ℕ → Second
 second_at seconds place = get_or seconds place (no_slot 0)

@@ -1,4 +1,4 @@
--- Requests that weren't served, and what was left out.
+-- Requests that weren't served, and what was left uncounted.
 use Rattle.std.specs.Prelude.{ℕ, ◌+◌, ◌^◌, min}
 use Rattle.verdict.specs.declared.cause.Cause.{Cause}
 use Rattle.verdict.specs.declared.cause.Cause.TheVariants.{Aborted, Timeout, Retries, NoServer}
@@ -7,7 +7,7 @@ use Rattle.proxy_numbers.specs.Lateness.{capped}
 use Rattle.proxy_numbers.specs.declared.numbers.Refused.{Refused}
 use Rattle.proxy_numbers.specs.declared.numbers.Lost.{Lost}
 
--- with one more that left for a cause
+-- the counts with one more request that left for a cause
 abbrev pub with_cause : Cause → Refused → Refused
 with_cause Aborted refused = record refused { aborted = one_more refused.aborted }
 with_cause Timeout refused = record refused { timeout = one_more refused.timeout }
@@ -17,7 +17,7 @@ with_cause NoServer refused = record refused { no_server = one_more refused.no_s
 abbrev pub nothing_lost : Lost
 nothing_lost = record { lines = 0; events = 0; exchanges = 0; entries = 0; gaps = 0 }
 
--- both in one
+-- the sum of both
 abbrev pub both_lost : Lost → Lost → Lost
 both_lost one other = record {
   lines = capped (one.lines + other.lines);

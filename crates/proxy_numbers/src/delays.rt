@@ -1,4 +1,4 @@
-//! Waits and lateness as Prometheus has histograms: each bin with all below it.
+//! Waits and lateness as Prometheus's histograms: each bin includes all below it.
 
 use crate::exposition::{Family, Kind, Label, Value, push_count, push_family, push_time};
 use crate::histogram::Histogram;
@@ -17,7 +17,7 @@ static LATENESS: Family = Family {
     help: "How late requests were given their slots, below 0 where that was before they were due.",
 };
 
-// Which of a class's histograms.
+// A histogram of a class.
 #[derive(Clone, Copy)]
 enum Of {
     Waits,
@@ -72,7 +72,7 @@ fn push_histogram(
     push_count(text, (name, "_count"), &labels, sum)
 }
 
-// How many values are at most this bound; without one, all.
+// Writes how many values are at most this bound; without a bound all.
 fn push_bin(
     text: &mut String,
     name: &str,

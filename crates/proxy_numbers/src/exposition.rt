@@ -1,11 +1,11 @@
-//! Prometheus' text format.
+//! Prometheus's text format.
 
 ghost use Rattle.std.specs.Prelude.{◌≡◌, ◌++◌, OnOk, string_bytes};
 ghost use Rattle.proxy_numbers.specs.Texts.{family_text, kind_word, seconds_text, size_text};
 
 use std::alloc::AllocError;
 
-/// What a family of samples is.
+/// The kind of a family of samples.
 #[derive(Clone, Copy, Debug, PartialEq, Eq)]
 pub(crate) enum Kind {
     Counter,
@@ -13,7 +13,7 @@ pub(crate) enum Kind {
     Histogram,
 }
 
-/// Samples of one name.
+/// A family: the samples of one name.
 #[derive(Clone, Copy, Debug, PartialEq, Eq)]
 pub(crate) struct Family {
     pub name: &'static str,
@@ -21,7 +21,7 @@ pub(crate) struct Family {
     pub help: &'static str,
 }
 
-/// What a label says.
+/// The value of a label.
 #[derive(Clone, Copy, Debug, PartialEq, Eq)]
 pub(crate) enum Value<'a> {
     Text(&'a str),
@@ -49,7 +49,7 @@ impl Kind {
     }
 }
 
-/// Writes what a family is, before its samples.
+/// Writes the lines of a family before its samples.
 pub(crate) fn push_family(text: &mut String, family: &Family) -> Result<(), AllocError>
     ensures { OnOk result (string_bytes text.new ≡ string_bytes text.old ++ family_text family.now) }
 {
@@ -59,7 +59,7 @@ pub(crate) fn push_family(text: &mut String, family: &Family) -> Result<(), Allo
     writeln!(text, "# HELP {name} {help}\n# TYPE {name} {kind}")
 }
 
-/// Writes a sample of a name that ends so.
+/// Writes a sample, of a name with this suffix.
 pub(crate) fn push_count(
     text: &mut String,
     name: (&str, &str),
@@ -70,7 +70,7 @@ pub(crate) fn push_count(
     writeln!(text, " {count}")
 }
 
-/// The same of a time in milliseconds, which is written in seconds.
+/// The same for a time in milliseconds, which is written in seconds.
 pub(crate) fn push_time(
     text: &mut String,
     name: (&str, &str),
@@ -83,7 +83,7 @@ pub(crate) fn push_time(
     text.push('\n')
 }
 
-/// The same of a value that is above all numbers.
+/// The same for the value `+Inf`, which is above all numbers.
 pub(crate) fn push_endless(
     text: &mut String,
     name: (&str, &str),
@@ -119,7 +119,7 @@ fn push_label(text: &mut String, label: &Label) -> Result<(), AllocError> {
     text.push('"')
 }
 
-/// Writes what a label says, with a backslash before what would end it.
+/// Writes the value of a label, with a backslash before the characters that would end it.
 pub(crate) fn push_escaped(text: &mut String, value: &str) -> Result<(), AllocError> {
     for letter in value.chars() {
         match letter {
@@ -132,7 +132,7 @@ pub(crate) fn push_escaped(text: &mut String, value: &str) -> Result<(), AllocEr
     Ok(())
 }
 
-/// Writes a time in milliseconds in seconds, with three places behind the point.
+/// Writes a time in milliseconds as seconds, with three decimal places.
 pub(crate) fn push_seconds(text: &mut String, millis: i64) -> Result<(), AllocError>
     ensures { OnOk result (string_bytes text.new ≡ string_bytes text.old ++ seconds_text millis) }
 {

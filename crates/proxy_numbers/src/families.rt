@@ -1,4 +1,4 @@
-//! What Prometheus is told, family after family.
+//! The metrics for Prometheus, family by family.
 
 use crate::delays::push_delays;
 use crate::exposition::{Family, Kind, Label, Value, push_count, push_endless, push_family};
@@ -70,7 +70,7 @@ static WAITING: Family = Family {
     help: "Requests that wait in a queue, of each class that ever waited there; * is the backend's queue.",
 };
 
-/// Writes all that is counted of a proxy with servers of these names. After an `Err` a part of it may stand there.
+/// Writes all metrics of a proxy with servers of these names. After an `Err` a part of them may stand there.
 pub fn push_metrics(
     text: &mut String,
     names: &Names,
@@ -238,7 +238,7 @@ fn push_waiting_in(text: &mut String, queue: &str, classes: &Tally) -> Result<()
     Ok(())
 }
 
-/// What the queue at this place is called: the backend's first, then those of the servers.
+/// Returns the name of the queue at this position: the backend's first, then those of the servers.
 pub(crate) fn queue_name(names: &Names, place: usize) -> &str {
     match place.checked_sub(1) {
         None => BACKEND,

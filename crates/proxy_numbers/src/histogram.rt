@@ -11,12 +11,12 @@ pub(crate) static WAITS: [i64; 13] = [
     0, 1, 5, 10, 50, 100, 500, 1000, 5000, 10_000, 30_000, 60_000, 300_000,
 ];
 
-/// The bounds of lateness, in milliseconds. Below 0 a request was early.
+/// The bounds of lateness, in milliseconds. A negative one is early.
 pub(crate) static LATENESS: [i64; 16] = [
     -10_000, -1000, -100, 0, 1, 5, 10, 50, 100, 500, 1000, 5000, 10_000, 30_000, 60_000, 300_000,
 ];
 
-/// How many values fell into each bin of a row, and their sum.
+/// The number of values in each of a row of bins, and their sum.
 #[derive(Drop)]
 pub(crate) struct Histogram {
     bounds: &'static [i64],
@@ -36,7 +36,7 @@ impl Model for Histogram {
 }
 
 impl Histogram {
-    /// Without a value, in bins with these bounds and one above them.
+    /// Makes an empty histogram, of bins with these bounds and one above them.
     pub fn new(alloc: Global, bounds: &'static [i64]) -> Result<Histogram, AllocError>
         ensures { IfOk result (λ it. it ≡ record { bounds = bounds.now; bins = replicate (length bounds.now + 1) 0; sum = pos 0 }) }
     {
@@ -47,7 +47,7 @@ impl Histogram {
         })
     }
 
-    /// One value more, which falls into one bin.
+    /// Counts one more value, in one bin.
     pub fn add(&mut self, value: i64)
         ensures bins { (count : ℕ) → slice_get self.old.bins (binning.bin_of self.old.bounds value) ≡ Some count → self.new.bins ≡ slice_set self.old.bins (binning.bin_of self.old.bounds value) (one_more count) }
         ensures sum { self.new.sum ≡ saturate_signed w64 (self.old.sum +ℤ value) }
@@ -67,7 +67,7 @@ impl Histogram {
         }
     }
 
-    // The first bin that takes a value: the one above all bounds where no other does.
+    // Returns the first bin that takes a value; the last one where no other does.
     fn bin_of(&self, value: i64) -> usize
         ensures { result ≡ binning.bin_of self.now.bounds value }
     {
@@ -80,21 +80,21 @@ impl Histogram {
         self.bounds.iter().position(|bound| value <= *bound)
     }
 
-    /// The greatest values of all bins but the last.
+    /// Returns the greatest values of all bins but the last.
     pub fn bounds(&self) -> &'static [i64]
         ensures { result.now ≡ self.now.bounds }
     {
         self.bounds
     }
 
-    /// How many values fell into each bin.
+    /// Returns the number of values in each bin.
     pub fn bins(&self) -> &[u64]
         ensures { result.now ≡ self.now.bins }
     {
         self.bins.as_slice()
     }
 
-    /// The sum of all values.
+    /// Returns the sum of all values.
     pub fn sum(&self) -> i64
         ensures { result ≡ self.now.sum }
     {

@@ -1,4 +1,4 @@
-//! The numbers as one value of JSON, for a page that shows them.
+//! The numbers as one JSON value, for a page that shows them.
 
 use crate::families::queue_name;
 use crate::minute::Second;
@@ -11,10 +11,10 @@ use script::Names;
 use serde::Serialize;
 use std::alloc::{AllocError, Global};
 
-/// So many of those who wait in a queue are shown, at most.
+/// The most waiting requests of a queue that are shown.
 const MOST_SHOWN: usize = 50;
 
-/// A server. Without a limit: it is closed; 0: any number.
+/// A server. `None` as the limit: it is closed; 0: no limit.
 #[derive(Drop, Serialize)]
 struct Server<'a> {
     name: &'a str,
@@ -25,7 +25,7 @@ struct Server<'a> {
     granted: u64,
 }
 
-/// One that waits.
+/// A waiting request.
 #[derive(Drop, Serialize)]
 struct Waiter {
     ticket: u64,
@@ -40,7 +40,7 @@ struct Queue<'a> {
     next: Vec<Waiter>,
 }
 
-/// What a class was given in the last minute.
+/// The slots of a class in the last minute.
 #[derive(Drop, Serialize)]
 struct Class {
     class: i64,
@@ -64,7 +64,8 @@ struct State<'a> {
     minute: Vec<Class>,
 }
 
-/// The numbers at this moment as one value of JSON, on a line. Of each queue those who are next are in it, fifty at most.
+/// Returns the numbers at this moment as one JSON value, on one line. It has the first fifty
+/// requests of each queue at most.
 pub fn state_of(
     alloc: Global,
     names: &Names,

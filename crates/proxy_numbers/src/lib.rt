@@ -1,6 +1,7 @@
-//! A proxy in numbers: what is counted of its requests, its servers and its queues, and the texts of that, for Prometheus and as JSON.
+//! The numbers of a proxy: the counters of its requests, its servers and its queues, and their
+//! texts for Prometheus and as JSON.
 //!
-//! It holds no thread and no clock. All of a text's numbers are those of one place in the dispatcher's log.
+//! The crate has no thread and no clock. All numbers of a text are those at one position of the dispatcher's log.
 #![tactic(auto)]
 
 mod delays;

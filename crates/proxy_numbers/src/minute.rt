@@ -5,30 +5,30 @@ ghost use Rattle.proxy_numbers.specs.Lateness.{capped, no_slot, with_slot, worst
 use std::alloc::{AllocError, Global};
 use std::marker::Model;
 
-/// So many seconds are kept.
+/// The number of seconds that are kept.
 const SECONDS: usize = 60;
 
-/// What came of the slots that were given in a second.
+/// The slots that were given in a second.
 #[derive(Clone, Copy, Debug, PartialEq, Eq)]
 pub(crate) struct Second {
-    /// Which second it is, since the proxy began.
+    /// The number of the second, since the proxy began.
     pub number: u64,
-    /// So many slots were given.
+    /// The number of slots that were given.
     pub slots: u64,
-    /// So many of them after the request was due.
+    /// The number of these that were given after the request's due date.
     pub late: u64,
-    /// The greatest lateness, in milliseconds. None: no slot was given.
+    /// The greatest lateness, in milliseconds; `None` where no slot was given.
     pub worst: Option<i64>,
 }
 
-/// The lateness of the slots that were given in the last minute, a second at a time.
+/// The lateness of the slots of the last minute, second by second.
 #[derive(Drop)]
 pub(crate) struct Minute {
     seconds: Vec<Second>,
 }
 
 impl Second {
-    /// One in which no slot was given.
+    /// Makes a second without a slot.
     pub fn new(number: u64) -> Second
         ensures { result ≡ no_slot number }
     {
@@ -40,7 +40,7 @@ impl Second {
         }
     }
 
-    /// With one slot more, given so late, in milliseconds.
+    /// Returns the second with one more slot, given this many milliseconds late.
     pub fn with(self, lateness: i64) -> Second
         ensures { result ≡ with_slot self lateness }
     {
@@ -56,7 +56,7 @@ impl Second {
         }
     }
 
-    /// Both in one, with the number of this one.
+    /// Returns the sum of both, with the number of this one.
     pub fn and(self, other: Second) -> Second
         ensures { result ≡ record { number = self.number; slots = capped (self.slots + other.slots); late = capped (self.late + other.late); worst = option_map_or (λ worst. Some (worst_with self.worst worst)) other.worst self.worst } }
     {
@@ -84,7 +84,7 @@ impl Model for Minute {
 }
 
 impl Minute {
-    /// In which no slot was given.
+    /// Makes a minute without a slot.
     pub fn new(alloc: Global) -> Result<Minute, AllocError>
         ensures { IfOk result (λ minute. minute ≡ replicate 60 (no_slot 0)) }
     {
@@ -92,7 +92,7 @@ impl Minute {
         Ok(Minute { seconds })
     }
 
-    /// A slot was given at this moment, in milliseconds, so late.
+    /// Counts a slot that was given at this moment, in milliseconds, this many milliseconds late.
     pub fn add(&mut self, moment: u64, lateness: i64)
         ensures { self.new ≡ slice_set self.old (place_of (moment / 1000)) (with_slot (held_of (moment / 1000) (second_at self.old (place_of (moment / 1000)))) lateness) }
     {
@@ -116,7 +116,7 @@ impl Minute {
         self.seconds[place] = second;
     }
 
-    /// All that was given in the sixty seconds up to this moment, in milliseconds.
+    /// Returns the sum of the sixty seconds up to this moment, in milliseconds.
     pub fn sum(&self, moment: u64) -> Second {
         let now = moment / 1000;
         self.seconds
@@ -125,7 +125,7 @@ impl Minute {
     }
 }
 
-// The place of a second among sixty.
+// Returns the position of a second among sixty.
 fn place_of(number: u64) -> usize
     ensures place { result ≡ place_of number }
     ensures in_range { result < 60 }
@@ -133,7 +133,7 @@ fn place_of(number: u64) -> usize
     (number % SECONDS as u64) as usize
 }
 
-// What is held of a second at its place: nothing, where that is of another one.
+// Returns the contents for a second at its position: nothing, where they belong to another second.
 fn held_of(number: u64, second: Second) -> Second
     ensures { result ≡ held_of number second }
 {
@@ -144,7 +144,7 @@ fn held_of(number: u64, second: Second) -> Second
     }
 }
 
-// A second that is within a minute before the sum's counts.
+// Adds a second that is at most a minute before the sum's.
 fn with_recent(sum: Second, second: Second) -> Second {
     if second.number <= sum.number && sum.number - second.number < SECONDS as u64 {
         sum.and(second)

@@ -1,4 +1,4 @@
-//! What becomes of the numbers of a proxy as it goes on.
+//! How the numbers of a proxy follow its log.
 
 ghost use Rattle.std.specs.Prelude.{◌≡◌};
 ghost use Rattle.proxy_numbers.specs.Counts.{one_more};
@@ -14,7 +14,8 @@ use ticket_numbers::{Follower, Numbers, Slot};
 use verdict::Cause;
 
 impl ProxyNumbers {
-    /// Takes an entry in that follows what the follower knows. `O(log n)` in the requests that wait. One for which memory is refused is counted as lost.
+    /// Counts the next entry of the log, together with the follower. `O(log n)` in the waiting
+    /// requests. An entry for which memory is refused is counted as lost.
     pub fn note(&mut self, follower: &Follower, entry: &Entry)
         ensures entries { self.new.entries ≡ one_more self.old.entries }
     {
@@ -25,7 +26,7 @@ impl ProxyNumbers {
         self.entries = entries;
     }
 
-    /// A window ended.
+    /// Counts the end of a window.
     pub fn roll(&mut self)
         ensures window { (self.new.entries ≡ 0) × (self.new.windows ≡ one_more self.old.windows) }
         ensures same { (self.new.live ≡ self.old.live) × (self.new.lost ≡ self.old.lost) × (self.new.refused ≡ self.old.refused) }
@@ -34,7 +35,8 @@ impl ProxyNumbers {
         self.windows = self.windows.saturating_add(1);
     }
 
-    /// Entries were lost, and so many ends of windows with them. Nothing is known of who waits and is served.
+    /// Counts lost entries, with this number of ends of windows among them. Nothing is known any
+    /// more of the requests that wait or are served.
     pub fn skip(&mut self, ends: u64) {
         let alloc = self.alloc;
         self.lost.gaps = self.lost.gaps.saturating_add(1);
@@ -48,7 +50,7 @@ impl ProxyNumbers {
         }
     }
 
-    /// An exchange ended, behind all entries of its request.
+    /// Counts an exchange that ended, after all entries of its request.
     pub fn end(&mut self, follower: &Follower, account: &Account) {
         self.received = self.received.saturating_add(account.received);
         self.sent = self.sent.saturating_add(account.sent);
@@ -76,7 +78,7 @@ impl ProxyNumbers {
         }
     }
 
-    /// What was left out since this was last told.
+    /// Adds what was left uncounted since the last call.
     pub fn lose(&mut self, lost: Lost)
         ensures { self.new.lost ≡ both_lost self.old.lost lost }
     {
@@ -104,7 +106,7 @@ impl ProxyNumbers {
         Ok(())
     }
 
-    // An entry that names a server alone.
+    // Counts an entry that names only a server.
     fn take_of_server(&mut self, entry: &Entry) {
         match *entry {
             Entry::Freed(_, server) => {
@@ -131,7 +133,7 @@ impl ProxyNumbers {
         }
     }
 
-    // A request is given a slot.
+    // Counts a slot that a request was given.
     fn serve(
         &mut self,
         follower: &Follower,
@@ -148,7 +150,7 @@ impl ProxyNumbers {
         }
     }
 
-    // How long a request that is given a slot waited, and how late it is.
+    // Counts how long a request that got a slot waited, and how late it is.
     fn delay(&mut self, follower: &Follower, numbers: &Numbers) -> Result<(), AllocError> {
         let moment = follower.moment();
         let came = numbers.came;
@@ -181,7 +183,7 @@ impl ProxyNumbers {
         }
     }
 
-    // A request is told that it isn't served. Why one is aborted is known once its exchange ends.
+    // Counts a request that isn't served. Why one was aborted is known once its exchange has ended.
     fn refuse(&mut self, follower: &Follower, ticket: u64, cause: Cause) -> Result<(), AllocError> {
         if cause != Cause::Aborted {
             self.refused = self.refused.with(cause);
@@ -192,7 +194,7 @@ impl ProxyNumbers {
         }
     }
 
-    // A connection to the server that a request has failed.
+    // Counts a failed connection of a request's server.
     fn fail(&mut self, follower: &Follower, ticket: u64) {
         let Some(server) = server_of(follower, ticket) else {
             return;
@@ -212,7 +214,7 @@ impl ProxyNumbers {
 }
 
 impl Refused {
-    /// With one more that left for this cause.
+    /// Returns the counts with one more request that left for this cause.
     pub(crate) fn with(self, cause: Cause) -> Refused
         ensures { result ≡ with_cause cause self }
     {
@@ -238,7 +240,7 @@ impl Refused {
 }
 
 impl Lost {
-    /// Both in one.
+    /// Returns the sum of both.
     pub fn and(self, other: Lost) -> Lost
         ensures { result ≡ both_lost self other }
     {
@@ -251,7 +253,7 @@ impl Lost {
         }
     }
 
-    /// Nothing.
+    /// Returns zero for all.
     pub fn nothing() -> Lost
         ensures { result ≡ nothing_lost }
     {
@@ -265,7 +267,7 @@ impl Lost {
     }
 }
 
-// Whether the request of an exchange was aborted.
+// Says whether the request of an exchange was aborted.
 fn is_aborted(follower: &Follower, account: &Account) -> bool {
     match account.ticket.and_then(|ticket| follower.numbers(ticket)) {
         None => false,
@@ -273,7 +275,7 @@ fn is_aborted(follower: &Follower, account: &Account) -> bool {
     }
 }
 
-// The queue in which a request waits.
+// Returns the queue in which a request waits.
 fn queue_of(follower: &Follower, ticket: u64) -> Option<Queue> {
     let numbers = follower.numbers(ticket)?;
     let _slot: Option<Slot> = numbers.slot;
@@ -281,14 +283,14 @@ fn queue_of(follower: &Follower, ticket: u64) -> Option<Queue> {
     Some(stay.queue)
 }
 
-// The server whose slot a request has.
+// Returns the server whose slot a request has.
 fn server_of(follower: &Follower, ticket: u64) -> Option<usize> {
     let numbers = follower.numbers(ticket)?;
     let slot: Slot = numbers.slot?;
     Some(slot.server)
 }
 
-// The key with which a request waits.
+// Returns the key with which a request waits.
 fn key_of(follower: &Follower, ticket: u64) -> Option<Key> {
     let numbers = follower.numbers(ticket)?;
     Some(numbers.came.arrival.key())

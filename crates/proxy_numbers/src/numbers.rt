@@ -9,16 +9,17 @@ use dispatch_log::Intake;
 use std::alloc::{AllocError, Global};
 use std::collections::BTreeMap;
 
-/// How large a proxy is.
+/// The sizes of a proxy.
 #[derive(Clone, Copy, Debug, PartialEq, Eq)]
 pub struct Proportions {
-    /// So many requests are served or wait in its queues, at most.
+    /// The most requests that are served or wait in its queues.
     pub places: usize,
-    /// So many entries a window of its log has, at most.
+    /// The most entries of a window of its log.
     pub entries: usize,
 }
 
-/// Of a class: how long its requests waited for their slots, and how late they were given them, in milliseconds.
+/// The numbers of a class: how long its requests waited for their slots, and how late they got
+/// them, in milliseconds.
 #[derive(Drop)]
 pub(crate) struct ClassNumbers {
     pub waits: Histogram,
@@ -26,20 +27,20 @@ pub(crate) struct ClassNumbers {
     pub minute: Minute,
 }
 
-/// How many requests weren't served, by why.
+/// The number of requests that weren't served, by reason.
 #[derive(Clone, Copy, Debug, PartialEq, Eq)]
 pub(crate) struct Refused {
     pub aborted: u64,
     pub timeout: u64,
     pub retries: u64,
     pub no_server: u64,
-    /// It had no place: it waited for one as long as it may, or the proxy stopped, or memory was short.
+    /// It had no place: it waited for one as long as it may, the proxy stopped, or memory was short.
     pub unplaced: u64,
-    /// No head that is taken came: it was malformed, too long or cut off.
+    /// No head came that the proxy accepts: it was malformed, too long or cut off.
     pub no_head: u64,
 }
 
-/// What was left out.
+/// What was left uncounted.
 #[derive(Clone, Copy, Debug, PartialEq, Eq)]
 pub struct Lost {
     /// Lines of exchanges, and of events.
@@ -47,13 +48,13 @@ pub struct Lost {
     pub events: u64,
     /// Exchanges that are counted nowhere.
     pub exchanges: u64,
-    /// Entries of the dispatcher's log that memory was refused for.
+    /// Entries of the dispatcher's log for which memory was refused.
     pub entries: u64,
-    /// So often a part of the dispatcher's log wasn't read.
+    /// The number of times that a part of the dispatcher's log wasn't read.
     pub gaps: u64,
 }
 
-/// A proxy in numbers.
+/// The numbers of a proxy.
 #[derive(Drop)]
 pub struct ProxyNumbers {
     pub(crate) alloc: Global,
@@ -63,25 +64,25 @@ pub struct ProxyNumbers {
     /// The backend's queue, then those of the servers.
     pub(crate) queues: Vec<Queued>,
     pub(crate) classes: BTreeMap<i64, ClassNumbers>,
-    /// The exchanges that no server had, by status; -1 for none.
+    /// The exchanges without a server, by status; -1 for none.
     pub(crate) unserved: Tally,
     pub(crate) refused: Refused,
     pub(crate) lost: Lost,
-    /// So many requests have a place, and so many wait outside for one.
+    /// The number of requests that have a place, and of those that wait outside for one.
     pub(crate) live: u64,
     pub(crate) outside: u64,
-    /// So many entries the present window has, and so many windows ended.
+    /// The number of entries in the present window, and of windows that ended.
     pub(crate) entries: u64,
     pub(crate) windows: u64,
-    /// So many bytes were read of clients, and written to them.
+    /// The number of bytes that were read from clients, and written to them.
     pub(crate) received: u64,
     pub(crate) sent: u64,
-    /// No more clients are taken.
+    /// No more clients are accepted.
     pub(crate) stopping: bool,
 }
 
 impl ProxyNumbers {
-    /// Of a proxy whose servers take as many as these limits say, and to which nothing happened.
+    /// Makes the numbers of a proxy that has done nothing, whose servers have these limits.
     pub fn new(
         alloc: Global,
         limits: &[u32],
@@ -113,21 +114,21 @@ impl ProxyNumbers {
         })
     }
 
-    /// Whether some server is up and takes requests.
+    /// Says whether some server is up and takes requests.
     pub fn is_served(&self) -> bool {
         self.servers
             .iter()
             .any(|server| server.up && server.intake != Intake::Closed)
     }
 
-    /// No more clients are taken.
+    /// Notes that no more clients are accepted.
     pub fn stop(&mut self)
         ensures { self.new.stopping ≡ true }
     {
         self.stopping = true;
     }
 
-    /// So many requests wait outside for a place.
+    /// Sets the number of requests that wait outside for a place.
     pub fn note_outside(&mut self, requests: u64)
         ensures { self.new.outside ≡ requests }
     {

@@ -3,7 +3,7 @@ use due_key::Key;
 use std::alloc::{AllocError, Global};
 use std::collections::BTreeSet;
 
-/// Who waits in a queue, in its order, and how many of each class.
+/// The waiting requests of a queue in its order, and how many of each class.
 #[derive(Drop)]
 pub(crate) struct Queued {
     keys: BTreeSet<Key>,
@@ -11,7 +11,7 @@ pub(crate) struct Queued {
 }
 
 impl Queued {
-    /// Nobody waits.
+    /// Makes an empty queue.
     pub fn new(alloc: Global) -> Queued {
         Queued {
             keys: BTreeSet::new(alloc),
@@ -19,13 +19,13 @@ impl Queued {
         }
     }
 
-    /// A request waits from now on. Where memory is refused its class may have one more who never leaves.
+    /// Adds a request that waits. Where memory is refused, the count of its class may stay one too high.
     pub fn join(&mut self, key: Key) -> Result<(), AllocError> {
         self.classes.add(key.class.get())?;
         put(&mut self.keys, key)
     }
 
-    /// A request waits no more.
+    /// Removes a request.
     pub fn leave(&mut self, key: Key) -> Result<(), AllocError> {
         if self.keys.remove(&key) {
             self.classes.take(key.class.get())
@@ -34,18 +34,18 @@ impl Queued {
         }
     }
 
-    /// Nothing is known of who waits any more.
+    /// Forgets all waiting requests.
     pub fn forget(&mut self, alloc: Global) {
         self.keys.clear();
         self.classes = Tally::new(alloc);
     }
 
-    /// Who waits, in the order in which they would be served.
+    /// Returns the keys of the waiting requests, in the order in which they would be served.
     pub fn keys(&self) -> &BTreeSet<Key> {
         &self.keys
     }
 
-    /// How many of each class wait, of all classes that ever did.
+    /// Returns how many of each class wait, for all classes that ever did.
     pub fn classes(&self) -> &Tally {
         &self.classes
     }

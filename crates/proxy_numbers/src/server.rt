@@ -2,27 +2,27 @@ use crate::tally::Tally;
 use dispatch_log::Intake;
 use std::alloc::Global;
 
-/// What is counted of a server.
+/// The counters of a server.
 #[derive(Drop)]
 pub(crate) struct ServerNumbers {
     /// The exchanges that it had last, by the status that their clients were told; -1 for none.
     pub statuses: Tally,
-    /// So many slots it gave to requests as they came, and so many to requests that had waited.
+    /// The number of slots that it gave to requests on arrival, and to requests that had waited.
     pub direct: u64,
     pub granted: u64,
-    /// So many of its connections failed, and so many requests kept their slot for another one.
+    /// The number of its connections that failed, and of requests that kept their slot for another one.
     pub failures: u64,
     pub retries: u64,
-    /// So many requests it serves.
+    /// The number of requests that it serves.
     pub served: u64,
-    /// Whether it is up, by the results of its checks.
+    /// It is up, by the results of its checks.
     pub up: bool,
-    /// How many it takes.
+    /// Its present limit.
     pub intake: Intake,
 }
 
 impl ServerNumbers {
-    /// Of one that takes so many, and to which nothing happened.
+    /// Makes the counters of a server with this limit that has done nothing.
     pub fn new(alloc: Global, intake: Intake) -> ServerNumbers {
         ServerNumbers {
             statuses: Tally::new(alloc),
@@ -36,7 +36,7 @@ impl ServerNumbers {
         }
     }
 
-    /// It serves one request more, which had waited or not.
+    /// Counts one more request that it serves, which had waited or not.
     pub(crate) fn serve(&mut self, waited: bool) {
         self.served = self.served.saturating_add(1);
         if waited {

@@ -1,4 +1,4 @@
-//! How much of what a proxy has is in use, and what was left out.
+//! How much of a proxy's resources is in use, and what was left uncounted.
 
 use crate::exposition::{Family, Kind, Label, Value, push_count, push_family};
 use crate::numbers::ProxyNumbers;
@@ -77,7 +77,7 @@ pub(crate) fn push_sizes(text: &mut String, numbers: &ProxyNumbers) -> Result<()
     push_alone(text, &STOPPING, u64::from(numbers.stopping))
 }
 
-/// Writes what was left out.
+/// Writes what was left uncounted.
 pub(crate) fn push_left_out(text: &mut String, numbers: &ProxyNumbers) -> Result<(), AllocError> {
     let lost = numbers.lost;
     let counts = [
@@ -98,7 +98,7 @@ pub(crate) fn push_left_out(text: &mut String, numbers: &ProxyNumbers) -> Result
     Ok(())
 }
 
-// A family of one sample.
+// Writes a family with one sample.
 fn push_alone(text: &mut String, family: &Family, count: u64) -> Result<(), AllocError> {
     push_family(text, family)?;
     push_count(text, (family.name, ""), &[], count)

@@ -9,7 +9,7 @@ use std::alloc::{AllocError, Global};
 use std::collections::BTreeMap;
 use std::marker::Model;
 
-/// How often each number was counted.
+/// A counter for each number.
 #[derive(Drop)]
 pub(crate) struct Tally {
     counts: BTreeMap<i64, u64>,
@@ -24,7 +24,7 @@ impl Model for Tally {
 }
 
 impl Tally {
-    /// Nothing was counted.
+    /// Makes an empty tally.
     pub fn new(alloc: Global) -> Tally
         ensures { (number : ℤ) → counting.times result number ≡ 0 }
     {
@@ -33,7 +33,7 @@ impl Tally {
         }
     }
 
-    /// How often a number was counted.
+    /// Returns how often a number was counted.
     pub fn times(&self, number: i64) -> u64
         ensures { result ≡ counting.times self.now number }
     {
@@ -55,7 +55,7 @@ impl Tally {
         self.put(number, times)
     }
 
-    /// Counts a number once less; one that wasn't counted stays so.
+    /// Counts a number once less; a count of 0 stays.
     pub fn take(&mut self, number: i64) -> Result<(), AllocError>
         ensures ok { OnOk result (ChangesOnly self.old self.new number (counting.times self.old number - 1)) }
         ensures err { OnErr result (self.new ≡ self.old) }
@@ -72,7 +72,7 @@ impl Tally {
         Ok(())
     }
 
-    /// Each number that was ever counted with how often it was, in rising order.
+    /// Returns each number that was ever counted with its count, in rising order.
     pub fn counts(&self) -> &BTreeMap<i64, u64>
         ensures { result.now.entries ≡ self.now }
     {

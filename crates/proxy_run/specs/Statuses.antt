@@ -1,4 +1,4 @@
--- The status that a program ends with.
+-- The exit status of a program.
 use Rattle.std.specs.Prelude.{ℕ, Result, Ok, Err}
 use Rattle.proxy_run.specs.declared.fault.RunFault.{RunFault}
 use Rattle.proxy_run.specs.declared.fault.RunFault.TheVariants.{Config, Serve}

@@ -5,7 +5,7 @@ use proxy_config::ConfigFault;
 use proxy_service::ServeFault;
 use thiserror::Error;
 
-/// Why a proxy didn't run, or didn't end well.
+/// Why a proxy didn't run, or failed.
 #[derive(Clone, Copy, Debug, PartialEq, Eq, Error)]
 pub enum RunFault {
     /// The configuration's first faulty line.
@@ -15,7 +15,8 @@ pub enum RunFault {
     Serve(ServeFault),
 }
 
-/// The status of a program whose proxy ended so: 0; 3 where the configuration is faulty; 1 where anything else went wrong.
+/// Returns the exit status of a program whose proxy ended so: 0; 3 where the configuration is
+/// faulty; 1 where anything else went wrong.
 pub fn status_of(ended: Result<(), RunFault>) -> u8
     ensures { result ≡ status_of ended }
 {

@@ -1,4 +1,5 @@
-//! What `dueproxy run` does: from the bytes of a configuration to clients that are served as it says, and how it ends.
+//! The core of `dueproxy run`: from the bytes of a configuration to clients that are served
+//! accordingly, and its end.
 #![tactic(auto)]
 
 mod fault;

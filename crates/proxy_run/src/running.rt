@@ -10,7 +10,8 @@ use std::sync::Wait;
 use std::thread::Threads;
 use std::time::Clock;
 
-/// Serves as a configuration says, and prints what came of it. It ends once so many clients were served, where they are counted, or once it is told to.
+/// Serves as a configuration says, and prints the reports. It ends once this number of clients were
+/// served, where they are counted, or once it is told to.
 pub fn run<
     R: Net<Listener = TcpListener, Stream = TcpStream>
         + Clock

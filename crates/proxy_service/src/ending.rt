@@ -1,4 +1,4 @@
-//! How loops end a service.
+//! How the loops' end becomes the service's.
 
 ghost use Rattle.std.specs.Prelude.{◌≡◌};
 ghost use Rattle.proxy_service.specs.Faults.{of_loops};
@@ -6,7 +6,7 @@ ghost use Rattle.proxy_service.specs.Faults.{of_loops};
 use relay_loops::LoopsFault;
 use service_parts::ServeFault;
 
-/// What a service that loops ended early ends with.
+/// Returns the fault of a service whose loops ended early.
 pub(crate) fn fault_of(fault: LoopsFault) -> ServeFault
     ensures { result ≡ of_loops fault }
 {

@@ -1,4 +1,4 @@
-//! The service of a configuration that was read: from the address where clients come to what is printed at the end.
+//! The service of a configuration: from the address where clients connect to what is printed at the end.
 #![tactic(auto)]
 
 mod ending;
@@ -8,5 +8,5 @@ mod serving;
 pub use recording::serve_recorded;
 pub use serving::{listen_and_serve, serve_at};
 
-// What is asked of a service, and how it ends.
+// The options of a service, and how it ends.
 pub use service_parts::{Doors, Logs, Record, RunOptions, ServeFault};

@@ -25,18 +25,19 @@ use std::thread;
 use std::thread::{Scope, Threads};
 use std::time::{Clock, Duration};
 
-/// The log is copied whenever so many milliseconds have passed.
+/// The log is copied each time this number of milliseconds has passed.
 const PAUSE: u64 = 5;
 
-/// By whom it is served, and where its log is copied to.
+/// The parts of a service whose log is copied, and the target of the copy.
 #[derive(Clone, Copy)]
 struct Watched<'a> {
     crew: Crew,
     record: &'a Record,
 }
 
-/// Serves as a configuration says where clients come already. What the dispatcher decides in the log's first window is copied to a record meanwhile, and the
-/// reports of the last window are answered, in place of what `listen_and_serve` prints.
+/// Serves as a configuration says at an open listener. Meanwhile the entries of the log's first
+/// window are copied to a record, and the reports of the last window are returned, where
+/// `listen_and_serve` prints them.
 pub fn serve_recorded<
     R: Net<Listener = TcpListener, Stream = TcpStream>
         + Clock
@@ -143,7 +144,7 @@ fn serve_on<
     Ok(proxy.desk.report(rt, alloc)?)
 }
 
-// Until no more clients come. What is decided last is copied when all have ended.
+// Serves until no more clients come. The last entries are copied when all threads have ended.
 fn serve_watched<
     N: BoardName + Ledger + Send + Sync,
     R: Net<Listener = TcpListener, Stream = TcpStream>
@@ -223,7 +224,7 @@ fn serve_lent<
     serve_clients(rt, shared, front, source, threads)
 }
 
-// Has a thread of the scope copy the log, and answers whether it could be started.
+// Starts a thread of the scope that copies the log, and says whether that succeeded.
 fn start_copying<
     's,
     E,
@@ -237,7 +238,7 @@ fn start_copying<
     started.is_some()
 }
 
-// Copies the log as it grows, until no more is decided.
+// Copies the log as it grows, until nothing more is decided.
 fn copy_all<N: BoardName + Ledger, R: Clock + Wait>(rt: &R, proxy: &Proxy<N>, record: &Record) {
     let mut copied = 0;
     for _ in rt.forever() {

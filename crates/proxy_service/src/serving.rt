@@ -24,7 +24,8 @@ use std::thread;
 use std::thread::Threads;
 use std::time::Clock;
 
-/// Serves as a configuration that was read says, and prints what came of it. It ends once so many clients were served, where they are counted.
+/// Serves as a configuration says, and prints the reports. It ends once this number of clients were
+/// served, where they are counted.
 pub fn listen_and_serve<
     R: Net<Listener = TcpListener, Stream = TcpStream>
         + Clock
@@ -44,7 +45,7 @@ pub fn listen_and_serve<
     serve_at(rt, config, Doors { listener, options }, sizes)
 }
 
-/// The same where clients come already.
+/// The same at an open listener.
 pub fn serve_at<
     R: Net<Listener = TcpListener, Stream = TcpStream>
         + Clock
@@ -106,7 +107,8 @@ fn serve_on<
     ended
 }
 
-/// A proxy that did nothing so far, of these parts, which are what the configuration asks for, and what its relays' seats come from.
+/// Makes a fresh proxy of these parts, which are what the configuration describes, and the source
+/// of its relays' seats.
 pub(crate) fn proxy_of<N: BoardName + Ledger>(
     alloc: Global,
     config: Config,
@@ -136,7 +138,8 @@ pub(crate) fn proxy_of<N: BoardName + Ledger>(
     (proxy, source)
 }
 
-/// Until no more clients come. Beside that names are looked up, and windows are printed; all that were handed over are printed then.
+/// Serves until no more clients come. Threads beside the loops look names up and print windows; all
+/// windows that were handed over are printed at the end.
 pub(crate) fn serve_clients<
     N: BoardName + Ledger + Send + Sync,
     R: Net<Listener = TcpListener, Stream = TcpStream>
@@ -170,7 +173,7 @@ pub(crate) fn serve_clients<
     served
 }
 
-// The same, where names are looked up already.
+// The same, where a thread that looks names up runs already.
 fn serve_printing<
     N: BoardName + Ledger + Send + Sync,
     R: Net<Listener = TcpListener, Stream = TcpStream>
@@ -229,7 +232,7 @@ fn serve_printing<
     )
 }
 
-// Nobody is served, since a thread is missing.
+// Serves no client, since a thread couldn't be started.
 fn unserved(source: SeatSource) -> (RelaySeat, Result<(), LoopsFault>) {
     let SeatSource { first, ledger: _ } = source;
     (first, Err(LoopsFault::NoMemory))

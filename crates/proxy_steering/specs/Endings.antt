@@ -1,4 +1,4 @@
--- What is due of an end that was asked for.
+-- The next step of an end that was asked for.
 use Rattle.std.specs.Prelude.{ℕ, Bool, false, ◌&&◌, ◌||◌, nat_le, if◌then◌else◌, Option, Some, None}
 use Rattle.proxy_steering.specs.declared.stopping.Ending.{Ending}
 use Rattle.proxy_steering.specs.declared.stopping.Ending.TheVariants.{Serves, Stops, Refuses}
@@ -10,8 +10,9 @@ abbrev pub has_come : Option ℕ → ℕ → Bool
 has_come None now = false
 has_come (Some until) now = nat_le until now
 
--- nothing while all serve; where nobody new comes, the end once nobody was there at two looks in a row, and else, at its moment, the refusals of who waits;
--- behind these the end once nobody is there, or at its moment
+-- nothing while the proxy serves; where no new clients come, the end once no client was there at
+-- two looks in a row, or else, at its moment, the refusal of waiting requests; after that the end
+-- once no client is there, or at its moment
 abbrev pub due_of : Ending → Bool → ℕ → Due
 due_of Serves is_empty now = Nothing
 due_of (Stops until was_empty) is_empty now =

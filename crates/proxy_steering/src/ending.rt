@@ -1,4 +1,4 @@
-//! From the end that was asked for to what is done of it.
+//! The end of a proxy, from the command to its steps.
 
 use crate::helm::Helm;
 use crate::steered::Steered;
@@ -6,7 +6,8 @@ use crate::stopping::{Due, Ending, GRACE, due_of, later};
 use control_socket::Tended;
 
 impl<P: Steered + Drop> Helm<P> {
-    /// Nobody new comes, and all is over once nobody is there, or so many milliseconds from now, or at the moment that was said before where that is earlier.
+    /// Accepts no new clients, and ends once no client is there, or this number of milliseconds
+    /// from now, or at the moment that was set before where that is earlier.
     pub(crate) fn stop(&mut self, within: Option<u64>) {
         let now = self.proxy.moment().get();
         self.proxy.stop();
@@ -27,12 +28,12 @@ impl<P: Steered + Drop> Helm<P> {
         };
     }
 
-    /// Whether nobody new comes.
+    /// Says whether no new clients are accepted.
     pub(crate) fn is_stopping(&self) -> bool {
         self.ending != Ending::Serves
     }
 
-    /// Does what is due of the end.
+    /// Makes the next step of the end, where it is due.
     pub(crate) fn go_on_ending(&mut self) -> Tended {
         if self.proxy.is_over() {
             return Tended::Over;
@@ -53,7 +54,7 @@ impl<P: Steered + Drop> Helm<P> {
     }
 }
 
-// The earlier of two moments, where there are both.
+// Returns the earlier of two moments, where there are both.
 fn earlier(one: Option<u64>, other: Option<u64>) -> Option<u64> {
     match (one, other) {
         (Some(first), Some(second)) => Some(first.min(second)),

@@ -4,7 +4,7 @@ use control_words::Wishes;
 use dispatch_log::{Intake, Refusal};
 use std::alloc::{AllocError, Global};
 
-/// Whoever steers a proxy: what was wished of its servers, and how far its end is.
+/// The executor of a proxy's commands: the wishes for its servers, and the stage of its end.
 #[derive(Drop)]
 pub struct Helm<P: Steered + Drop> {
     pub(crate) alloc: Global,
@@ -14,7 +14,7 @@ pub struct Helm<P: Steered + Drop> {
 }
 
 impl<P: Steered + Drop> Helm<P> {
-    /// Of a proxy whose servers take what these limits say.
+    /// Makes the helm of a proxy whose servers have these limits.
     pub fn new(alloc: Global, proxy: P, limits: &[u32]) -> Result<Helm<P>, AllocError> {
         Ok(Helm {
             alloc,
@@ -24,7 +24,7 @@ impl<P: Steered + Drop> Helm<P> {
         })
     }
 
-    /// What is wished of a server becomes what it takes.
+    /// Sets a server's limit by its wish.
     pub(crate) fn apply(&mut self, server: usize) -> Result<(), Refusal> {
         match self.wishes.intake(server) {
             Some(intake) => self.proxy.limit(server, intake),
@@ -32,7 +32,7 @@ impl<P: Steered + Drop> Helm<P> {
         }
     }
 
-    /// The same of all. The first refusal is answered; those behind it are tried too.
+    /// The same for all servers. Returns the first refusal; the servers behind it are tried too.
     pub(crate) fn apply_all(&mut self) -> Result<(), Refusal> {
         let mut applied = Ok(());
         for server in 0..self.wishes.len() {
@@ -42,7 +42,7 @@ impl<P: Steered + Drop> Helm<P> {
         applied
     }
 
-    /// Whether a server is to take nobody.
+    /// Says whether a server is to take no requests.
     pub(crate) fn is_closed(&self, server: usize) -> bool {
         self.wishes.intake(server) == Some(Intake::Closed)
     }

@@ -1,4 +1,4 @@
-//! What a running proxy does when it is told or asked something on its control socket.
+//! The execution of the commands on a running proxy's control socket.
 #![tactic(auto)]
 
 mod ending;

@@ -1,4 +1,4 @@
-//! From a line to what is done and answered.
+//! From a line to its effect and its answer.
 
 ghost use Rattle.std.specs.Prelude.{◌≡◌};
 ghost use Rattle.proxy_steering.specs.Misfits.{IsMisfit};
@@ -42,7 +42,7 @@ impl<P: Steered + Drop> Steers for Helm<P> {
 }
 
 impl<P: Steered + Drop> Helm<P> {
-    /// Does what a line says, and answers. One that is no command changes nothing.
+    /// Executes a line's command, and returns the answer. A line that isn't a command changes nothing.
     pub fn told(&mut self, line: &[u8]) -> Result<Answer, AllocError>
         ensures misfit { (misfit : Misfit) → IsMisfit line.now misfit → self.new ≡ self.old }
     {
@@ -114,7 +114,7 @@ impl<P: Steered + Drop> Helm<P> {
         }
     }
 
-    // What is wished of all becomes what they take, and how they stand is answered.
+    // Sets the limits of all servers by their wishes, and returns their state.
     fn change_all(&mut self) -> Result<Answer, AllocError> {
         match self.apply_all() {
             Ok(()) => Ok(Answer::Now(self.state_text(Form::Lines)?)),

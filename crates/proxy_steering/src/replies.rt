@@ -25,7 +25,7 @@ stop [--within MS]        nobody new comes; all is over once who is there was
 help                      this
 ";
 
-/// Why a line was no command.
+/// Returns why a line wasn't a command.
 pub(crate) fn misfit_text(alloc: Global, misfit: &Misfit) -> Result<String, AllocError> {
     match misfit {
         Misfit::Missing => String::from_str(
@@ -43,13 +43,13 @@ pub(crate) fn no_server(alloc: Global, name: &str) -> Result<String, AllocError>
     format!(in alloc; "error: there is no server {name}\n")
 }
 
-/// What a dispatcher refused.
+/// Returns what the dispatcher refused.
 pub(crate) fn refusal_text(alloc: Global, refusal: Refusal) -> Result<String, AllocError> {
     format!(in alloc; "error: refused: {refusal}: try it again\n")
 }
 
 impl<P: Steered + Drop> Helm<P> {
-    /// What a server takes from now on.
+    /// Returns how many requests a server takes from now on.
     pub(crate) fn taking_text(&self, server: usize) -> Result<String, AllocError> {
         let mut text = String::new(self.alloc);
         let name = self.proxy.names().of(server);
@@ -66,7 +66,7 @@ impl<P: Steered + Drop> Helm<P> {
         Ok(text)
     }
 
-    /// The state in a form.
+    /// Returns the state in a form.
     pub(crate) fn state_text(&self, form: Form) -> Result<String, AllocError> {
         let state = self.state()?;
         let names = self.proxy.names();
@@ -104,7 +104,7 @@ impl<P: Steered + Drop> Helm<P> {
         })
     }
 
-    /// The reports of the present window.
+    /// Returns the reports of the present window.
     pub(crate) fn reports_text(&self) -> Result<String, AllocError> {
         let reports = self.proxy.reports()?;
         let mut text = String::new(self.alloc);
@@ -117,7 +117,8 @@ impl<P: Steered + Drop> Helm<P> {
         format!(in self.alloc; "clients {clients}\n")
     }
 
-    /// That the logs are being opened anew, where there are files of theirs. What can't be opened is named on the proxy's standard error.
+    /// Returns that the log files are being opened again, where there are any. A file that can't be
+    /// opened is named on the proxy's standard error.
     pub(crate) fn reopened_text(&self) -> Result<String, AllocError> {
         let said = if self.proxy.reopen() {
             "ok reopening\n"

@@ -4,56 +4,56 @@ use late_cert::Reports;
 use script::Names;
 use std::alloc::AllocError;
 
-/// How a server stands with its dispatcher.
+/// The state of a server in its dispatcher.
 #[derive(Clone, Copy, Debug, PartialEq, Eq)]
 pub struct Standing {
-    /// Whether it is up, by the results of its checks.
+    /// It is up, by the results of its checks.
     pub up: bool,
-    /// So many requests it serves.
+    /// The number of requests that it serves.
     pub served: usize,
-    /// So many wait in its own queue.
+    /// The number of requests in its own queue.
     pub waiting: usize,
 }
 
-/// What can be asked of a proxy that runs, and done with it.
+/// A running proxy that can be steered.
 pub trait Steered {
-    /// The servers' names, in file order.
+    /// Returns the servers' names, in file order.
     fn names(&self) -> &Names;
 
-    /// How a server stands.
+    /// Returns the state of a server.
     fn standing(&self, server: usize) -> Standing;
 
-    /// How many requests wait for whichever server takes them.
+    /// Returns the number of requests in the backend's queue.
     fn waiting(&self) -> usize;
 
-    /// How many requests may be served or wait.
+    /// Returns the most requests that may be served or wait.
     fn places(&self) -> usize;
 
-    /// How many clients there are.
+    /// Returns the number of clients.
     fn clients(&self) -> u64;
 
-    /// The reports of the present window. Fails only where memory is refused.
+    /// Returns the reports of the present window. Fails only where memory is refused.
     fn reports(&self) -> Result<Reports, AllocError>;
 
-    /// A server takes so many from now on. Refused as the dispatcher's `limit`.
+    /// Sets how many requests a server takes. Refused as the dispatcher's `limit` is.
     fn limit(&mut self, server: usize, intake: Intake) -> Result<(), Refusal>;
 
-    /// Has the files of its logs opened anew. False: it writes none.
+    /// Has its log files opened again. False: it writes none.
     fn reopen(&self) -> bool;
 
-    /// The present moment.
+    /// Returns the present moment.
     fn moment(&mut self) -> Moment;
 
-    /// No more clients are taken.
+    /// Accepts no more clients.
     fn stop(&mut self);
 
-    /// Whether no client is there, and none comes any more.
+    /// Says whether no client is there, and no more come.
     fn is_empty(&self) -> bool;
 
-    /// Each request that waits is told that it isn't served, and so is each that comes to wait.
+    /// Tells each waiting request that it isn't served, and so each one that comes to wait later.
     fn refuse(&mut self);
 
-    /// All is over, whoever is there.
+    /// Ends the proxy, whoever is there.
     fn close(&mut self);
 
     fn is_over(&self) -> bool;

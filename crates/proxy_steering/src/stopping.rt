@@ -3,33 +3,35 @@
 ghost use Rattle.std.specs.Prelude.{◌≡◌, ◌+◌, ◌^◌, ◌-◌, min};
 ghost use Rattle.proxy_steering.specs.Endings.{due_of, has_come};
 
-/// How long those who are told that they aren't served have for that, in milliseconds.
+/// The time for clients to read that they aren't served, in milliseconds.
 pub(crate) const GRACE: u64 = 500;
 
-/// How far the end is, its moments in milliseconds.
+/// The stage of the end, with its moments in milliseconds.
 #[derive(Clone, Copy, Debug, PartialEq, Eq)]
 pub(crate) enum Ending {
-    /// Nobody asked for it.
+    /// No end was asked for.
     Serves,
-    /// Nobody new comes. Who is there is served, until a moment where there is one. Whether nobody was there at the last look.
+    /// No new clients are accepted. Those that are there are served, until a moment where there is
+    /// one. The flag says whether none was there at the last look.
     Stops { until: Option<u64>, was_empty: bool },
-    /// Who waits was told so, and all is over at this moment.
+    /// Waiting requests were refused, and the proxy ends at this moment.
     Refuses { until: u64 },
 }
 
-/// What is due of it.
+/// The next step of an end.
 #[derive(Clone, Copy, Debug, PartialEq, Eq)]
 pub(crate) enum Due {
     Nothing,
     /// A look later on.
     Look(Ending),
-    /// Who waits is told that it isn't served.
+    /// Waiting requests are refused.
     Refusals,
-    /// All is over.
+    /// The proxy ends.
     End,
 }
 
-/// What is due of an end at a moment. It is over once nobody was there at two looks in a row: a client that came just before the first is counted by the second.
+/// Returns the next step of an end at a moment. The proxy ends once no client was there at two
+/// looks in a row: a client that came just before the first look is counted by the second.
 pub(crate) fn due_of(ending: Ending, is_empty: bool, now: u64) -> Due
     ensures { result ≡ due_of ending is_empty now }
 {
@@ -72,7 +74,7 @@ fn has_come(until: Option<u64>, now: u64) -> bool
     }
 }
 
-/// So many milliseconds later, or the last number that there is.
+/// Returns a moment this number of milliseconds later, or the greatest number.
 pub(crate) fn later(moment: u64, millis: u64) -> u64
     ensures { result ≡ min (moment + millis) (2 ^ 64 - 1) }
 {

@@ -7,7 +7,7 @@ use script::Names;
 use std::alloc::{AllocError, Global};
 use std::test::Fail;
 
-/// A proxy of two servers that serves nobody, and notes what is done with it.
+/// A fake proxy of two servers that notes what is done with it.
 #[derive(Drop)]
 struct Noted {
     alloc: Global,
@@ -109,7 +109,7 @@ fn helm(alloc: Global) -> Result<Helm<Noted>, AllocError> {
     Helm::new(alloc, noted, &[4, 0])
 }
 
-// What is answered at once.
+// Returns what is answered at once.
 fn answer(helm: &mut Helm<Noted>, alloc: Global, line: &str) -> Result<String, AllocError> {
     match helm.told(line.as_bytes())? {
         Answer::Now(text) | Answer::Then(text, _) => Ok(text),

@@ -1,4 +1,4 @@
--- Texts in a row, with commas between them.
+-- Comma-separated parts of a text.
 use Rattle.std.specs.Prelude.{ℕ, Bool, ◌==◌, if◌then◌else◌, List, [], ◌∷◌, map, reverse, Option, Some, None}
 use Rattle.std.specs.List.{slice_split}
 use Rattle.proxy_words.specs.Text.{is_blank}
@@ -6,7 +6,7 @@ use Rattle.proxy_words.specs.Text.{is_blank}
 abbrev pub is_comma : ℕ → Bool
 is_comma byte = byte == 44
 
--- a text after the blanks that it begins with
+-- a text without the blanks at its front
 abbrev pub after_blanks : List ℕ → List ℕ
 after_blanks [] = []
 after_blanks (byte ∷ text) = if is_blank byte then after_blanks text else byte ∷ text
@@ -15,11 +15,11 @@ after_blanks (byte ∷ text) = if is_blank byte then after_blanks text else byte
 abbrev pub trimmed : List ℕ → List ℕ
 trimmed text = reverse (after_blanks (reverse (after_blanks text)))
 
--- the parts of a text between commas, each without the blanks at both ends
+-- the comma-separated parts of a text, each without the blanks at both ends
 abbrev pub parts : List ℕ → List (List ℕ)
 parts text = map trimmed (slice_split is_comma text)
 
--- those of what is left of a text, if anything is
+-- the parts of the rest of a text, if there is one
 abbrev pub parts_left : Option (List ℕ) → List (List ℕ)
 parts_left None = []
 parts_left (Some text) = parts text

@@ -1,5 +1,5 @@
--- What a text is cut into. Its lines are `lines` of std: cut at each line feed, less a carriage return
--- before it, and an empty last part is no line.
+-- How a text is cut. Its lines are `lines` of std: cut at each line feed, without a carriage return
+-- before it, and an empty last part isn't a line.
 use Rattle.std.specs.Prelude.{ℕ, Bool, ◌==◌, ◌||◌, not, List, length, filter}
 use Rattle.std.specs.List.{slice_split, before_first}
 
@@ -17,7 +17,7 @@ is_comment_sign byte = byte == 35
 abbrev pub is_filled : List ℕ → Bool
 is_filled word = not (length word == 0)
 
--- the words of a line: its parts between blanks, without the empty ones
+-- the words of a line: its non-empty parts between blanks
 abbrev pub words : List ℕ → List (List ℕ)
 words line = filter is_filled (slice_split is_blank line)
 

@@ -1,7 +1,6 @@
-//! What the formats of the proxy share: lines, words, comments, names, numbers and times, on borrowed bytes.
+//! What the proxy's formats share: lines, words, comments, names, numbers and times, on borrowed bytes.
 //!
-//! Nothing here takes memory. Bytes mean themselves: no text is decoded, and a byte past ASCII is a part of
-//! a word like any other.
+//! Nothing here allocates. No text is decoded: a byte beyond ASCII is a part of a word like any other.
 
 #![tactic(auto)]
 

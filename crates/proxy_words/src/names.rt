@@ -2,7 +2,7 @@ ghost use Rattle.std.specs.Prelude.{◌≡◌};
 ghost use Rattle.std.specs.List.{list_all};
 ghost use Rattle.proxy_words.specs.Names as names;
 
-/// Whether a word may name a section or a server: one to 32 letters, digits, `-`, `_`, `.` and `:`.
+/// Says whether a word may name a section or a server: one to 32 letters, digits, `-`, `_`, `.` and `:`.
 pub fn is_name(word: &[u8]) -> bool
     ensures { result ≡ names.is_name word.now }
 {

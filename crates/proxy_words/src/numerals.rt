@@ -2,7 +2,7 @@ ghost use Rattle.std.specs.Prelude.{◌≡◌, ◌^◌, ◌<◌, ◌≤◌, ◌<
 ghost use Rattle.std.specs.List.{list_all};
 ghost use Rattle.proxy_words.specs.Numerals.{is_digit, is_numeral, numeral, signed_numeral, value_of};
 
-/// The number that a word of one to nine digits is.
+/// Reads a word of one to nine digits as a number.
 pub fn number(word: &[u8]) -> Option<u32>
     ensures value { result ≡ numeral 9 word.now }
     ensures small { IfSome result (λ n. n < 10 ^ 9) }
@@ -14,7 +14,7 @@ pub fn number(word: &[u8]) -> Option<u32>
     }
 }
 
-/// The number that a word of one to eighteen digits is.
+/// Reads a word of one to eighteen digits as a number.
 pub fn long_number(word: &[u8]) -> Option<u64>
     ensures value { result ≡ numeral 18 word.now }
     ensures small { IfSome result (λ n. n < 10 ^ 18) }
@@ -26,7 +26,7 @@ pub fn long_number(word: &[u8]) -> Option<u64>
     }
 }
 
-/// The number that a word of one to eighteen digits is, with a `-` before them or none. `-0` is 0.
+/// Reads a word of one to eighteen digits as a number, with or without a `-` before them. `-0` is 0.
 pub fn signed_long_number(word: &[u8]) -> Option<i64>
     ensures { result ≡ signed_numeral 18 word.now }
 {

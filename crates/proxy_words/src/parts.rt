@@ -5,12 +5,12 @@ ghost use Rattle.proxy_words.specs.Parts.{parts, parts_left, is_comma, after_bla
 
 use std::marker::Model;
 
-/// The parts of a text between commas, first to last, without the spaces and tabs at the ends of each.
+/// The comma-separated parts of a text, first to last, without the spaces and tabs at the ends of each.
 ///
 /// An empty text has one part, which is empty. All parts together cost `O(n)`.
 #[derive(Drop)]
 pub struct Parts<'a> {
-    // None after the last part.
+    // `None` after the last part.
     rest: Option<&'a [u8]>,
 }
 
@@ -46,7 +46,7 @@ impl<'a> Iterator for Parts<'a> {
     }
 }
 
-// The first part, and the text after its comma, if there is one.
+// Returns the first part, and the text after its comma, if there is one.
 fn first_part(text: &[u8]) -> (&[u8], Option<&[u8]>)
     ensures { parts text.now ≡ result.0.now ∷ parts_left (option_copied result.1) }
 {

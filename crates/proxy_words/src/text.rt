@@ -43,7 +43,7 @@ impl<'a> Iterator for Lines<'a> {
     }
 }
 
-/// The words of a line, first to last: what stands between spaces and tabs.
+/// The words of a line, first to last: its parts between spaces and tabs.
 ///
 /// All words together cost one pass over the bytes.
 #[derive(Drop)]
@@ -79,7 +79,7 @@ impl<'a> Iterator for Words<'a> {
     }
 }
 
-/// A line up to its first `#`, in O(n).
+/// Returns a line up to its first `#`. `O(n)`.
 pub fn without_comment(line: &[u8]) -> &[u8]
     ensures { result.now ≡ uncommented line.now }
 {
@@ -89,7 +89,7 @@ pub fn without_comment(line: &[u8]) -> &[u8]
     }
 }
 
-// The first line, and the text after its end.
+// Returns the first line, and the text after its end.
 fn first_line(text: &[u8]) -> Option<(&[u8], &[u8])>
     ensures none { IfNone result (lines text.now ≡ []) }
     ensures some { IfSome result (λ cut. lines text.now ≡ cut.0.now ∷ lines cut.1.now) }
@@ -122,7 +122,7 @@ fn without_return(line: &[u8]) -> &[u8]
     }
 }
 
-// The first word, and the line after the blank that ends it.
+// Returns the first word, and the line after the blank that ends it.
 fn first_word(line: &[u8]) -> Option<(&[u8], &[u8])>
     ensures none { IfNone result (words line.now ≡ []) }
     ensures some { IfSome result (λ cut. words line.now ≡ cut.0.now ∷ words cut.1.now) }

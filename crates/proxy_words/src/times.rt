@@ -3,11 +3,10 @@ ghost use Rattle.proxy_words.specs.Times.{digits_len as digits_len_of, in_millis
 
 use crate::numerals::number;
 
-/// The time that a word is, in milliseconds: a number of one to nine digits and, without a blank between,
-/// a unit or none.
+/// Reads a word as a time in milliseconds: a number of one to nine digits, and then a unit or nothing.
 ///
-/// The units are `us`, rounded up to whole milliseconds, `ms`, `s`, `m`, `h` and `d`. Without one the
-/// number is milliseconds.
+/// The units are `us`, rounded up to whole milliseconds, `ms`, `s`, `m`, `h` and `d`. Without a
+/// unit the number is milliseconds.
 pub fn milliseconds(word: &[u8]) -> Option<u64>
     ensures value { result ≡ time word.now }
     ensures small { IfSome result (λ t. t < 2 ^ 57) }

@@ -1,4 +1,5 @@
-//! Tests of the queues and of who waits in them: a crate of their own, so that what they test isn't proved once more with them.
+//! Tests of the queues and of the requests that wait in them. They are a crate of their own, so
+//! that the crates under test aren't proved a second time with them.
 #![tactic(auto)]
 
 #[cfg(test)]

@@ -12,7 +12,7 @@ const LAST: u64 = (1 << 62) - 1;
 
 const LAST_TICKET: u64 = (1 << 40) - 1;
 
-// A moment. A number out of range, which no test has, would be 0: so what is made of it can't fail.
+// Makes a moment. A number out of range, which no test has, would give 0, so this can't fail.
 fn moment(number: u64) -> Moment
     ensures { number < 2 ^ 62 → result ≡ number }
 {
@@ -48,7 +48,7 @@ fn empty<Q: PendQueue<Key, usize>>(rt: &impl Abort, alloc: Global) -> Q
     Q::with_room(alloc, 8).expect(rt, "memory")
 }
 
-// Puts a pair in, of a ticket from `tickets.0` on and below `tickets.1`, in place of one of the same key.
+// Inserts a pair with a ticket from `tickets.0` up to below `tickets.1`, in place of one with the same key.
 fn put<Q: PendQueue<Key, usize>>(
     rt: &impl Abort,
     alloc: Global,
@@ -69,7 +69,7 @@ fn put<Q: PendQueue<Key, usize>>(
     queue.push(node);
 }
 
-// Merges a queue of the tickets from 100 on into one of those below.
+// Merges a queue of the tickets from 100 on into one of smaller tickets.
 fn merge<Q: PendQueue<Key, usize>>(rt: &impl Abort, into: &mut Q, other: &mut Q)
     requires room { Q.room into.old ≡ 8 }
     requires other_room { Q.room other.old ≡ 8 }
@@ -103,7 +103,7 @@ fn expect_removed<Q: PendQueue<Key, usize>>(rt: &impl Abort, queue: &mut Q, key:
     same(rt, Q::into_pair(node), (key, value));
 }
 
-// Takes the pairs out from the least key on, and compares their values.
+// Takes all pairs out, the least key first, and compares their values.
 fn drain<Q: PendQueue<Key, usize>>(rt: &impl Abort, queue: &mut Q, values: &[usize])
     requires { Q.room queue.old ≡ 8 }
     ensures { Q.room queue.new ≡ 8 }
@@ -118,7 +118,7 @@ fn drain<Q: PendQueue<Key, usize>>(rt: &impl Abort, queue: &mut Q, values: &[usi
     holds(rt, queue.pop().is_none());
 }
 
-// Room, look-ups and the order of keys at the ends of their ranges.
+// Tests room, look-ups and the order of keys at the ends of their ranges.
 fn orders_and_removes<Q: PendQueue<Key, usize>>(rt: &impl Abort, alloc: Global) {
     let mut queue = empty::<Q>(rt, alloc);
     holds(rt, queue.is_empty());
@@ -162,7 +162,7 @@ fn take_five<Q: PendQueue<Key, usize>>(rt: &impl Abort, queue: &mut Q)
     expect_absent(rt, queue, key(0, 0, 0, 0));
 }
 
-// Two queues whose keys alternate, then the emptied one is used again.
+// Merges two queues whose keys alternate, then uses the emptied one again.
 fn merges<Q: PendQueue<Key, usize>>(rt: &impl Abort, alloc: Global) {
     let mut queue = empty::<Q>(rt, alloc);
     let mut other = empty::<Q>(rt, alloc);

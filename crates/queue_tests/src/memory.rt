@@ -22,7 +22,7 @@ fn pair_in_the_end<Q: PendQueue<u64, u64>>(alloc: Global) -> Option<(u64, u64)> 
     }
 }
 
-// It goes well whichever single allocation is refused.
+// The test succeeds whichever single allocation is refused.
 #[test]
 fn a_refused_growth_hands_the_pair_back(rt: HostRuntime) {
     assert_eq!(rt;

@@ -9,7 +9,7 @@ use std::process::Abort;
 
 const ROOM: usize = 1000;
 
-// Steps of a linear congruence, of which the upper bits serve.
+// Makes a step of a linear congruential generator, whose upper bits are used.
 fn next(random: &mut u64) -> u64 {
     *random = random
         .wrapping_mul(6_364_136_223_846_793_005)
@@ -17,7 +17,7 @@ fn next(random: &mut u64) -> u64 {
     *random >> 33
 }
 
-// The random number that chooses the next call, and what the calls answered.
+// The random number that chooses the next call, and the answers of the calls.
 #[derive(Drop)]
 struct Course {
     random: u64,
@@ -43,7 +43,7 @@ fn node_of<Q: PendQueue<u64, u64>>(rt: &impl Abort, alloc: Global, key: u64) -> 
     Q::node(alloc, key, key / 2).expect(rt, "memory")
 }
 
-// Puts a pair in, of a key from `range.0` on and below `range.1`, in place of one of the same key.
+// Inserts a pair with a key from `range.0` up to below `range.1`, in place of one with the same key.
 fn put<Q: PendQueue<u64, u64>>(
     rt: &impl Abort,
     alloc: Global,
@@ -63,7 +63,7 @@ fn put<Q: PendQueue<u64, u64>>(
     queue.push(node);
 }
 
-// Merges a queue of the keys from ROOM on into one of those below.
+// Merges a queue of the keys from ROOM on into one of smaller keys.
 fn merge<Q: PendQueue<u64, u64>>(rt: &impl Abort, queue: &mut Q, other: &mut Q)
     requires room { Q.room queue.old ≡ ROOM }
     requires other_room { Q.room other.old ≡ ROOM }
@@ -78,7 +78,7 @@ fn merge<Q: PendQueue<u64, u64>>(rt: &impl Abort, queue: &mut Q, other: &mut Q)
     queue.merge(other);
 }
 
-// A call that takes at most one pair out, and what it answers.
+// Makes a call that takes out at most one pair, and returns its answer.
 fn take<Q: PendQueue<u64, u64>>(queue: &mut Q, random: u64, key: u64) -> (u64, u64)
     ensures room { Q.room queue.new ≡ Q.room queue.old }
     ensures keys { (low high : ℕ) → AllByRecursion (λ p. (low ≤ p.0) × (p.0 < high)) (Q.pairs queue.old) → AllByRecursion (λ p. (low ≤ p.0) × (p.0 < high)) (Q.pairs queue.new) }
@@ -100,7 +100,7 @@ fn pair_of<Q: PendQueue<u64, u64>>(node: Option<Q::Node>) -> (u64, u64) {
     }
 }
 
-// A random call with a key from a range.
+// Makes a random call with a key of a range.
 fn call<Q: PendQueue<u64, u64>>(
     rt: &impl Abort,
     alloc: Global,
@@ -152,7 +152,7 @@ fn drain<Q: PendQueue<u64, u64>>(rt: &impl Abort, queue: &mut Q, course: &mut Co
     }
 }
 
-// Calls on two queues, which are merged, and calls on what they became. Both are empty then.
+// Makes calls on two queues, merges them, and makes calls on the results. Both are empty then.
 fn round<Q: PendQueue<u64, u64>>(
     rt: &impl Abort,
     alloc: Global,
@@ -194,7 +194,7 @@ fn rounds<Q: PendQueue<u64, u64>>(
     }
 }
 
-// What they answer.
+// Returns the answers.
 fn answers<Q: PendQueue<u64, u64>>(rt: &impl Abort, alloc: Global) -> Vec<u64> {
     let mut queue = empty::<Q>(rt, alloc);
     let mut other = empty::<Q>(rt, alloc);
@@ -215,7 +215,7 @@ fn both_queues_answer_alike(rt: HostRuntime) {
     same(&rt, of_trees.as_slice(), of_list.as_slice());
 }
 
-// Puts as many keys from `low` on in as are asked.
+// Inserts `count` keys from `low` on.
 fn fill(rt: &impl Abort, alloc: Global, queue: &mut BinomQueue<u64, u64>, low: u64, count: u64)
     requires range { (low ≤ ROOM) × (count ≤ 100) }
     requires room { queue.old.room ≡ ROOM }
@@ -228,7 +228,7 @@ fn fill(rt: &impl Abort, alloc: Global, queue: &mut BinomQueue<u64, u64>, low: u
     }
 }
 
-// Merges queues of two lengths, and compares how many links that made.
+// Merges queues of two lengths, and compares the number of links.
 fn expect_links(rt: &impl Abort, alloc: Global, lengths: (u64, u64), links: u64)
     requires { (lengths.0 ≤ 100) × (lengths.1 ≤ 100) }
 {

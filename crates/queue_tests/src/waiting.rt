@@ -16,7 +16,7 @@ type OfLists = WaitQueues<ListQueue<Key, usize>>;
 
 type OfTrees = WaitQueues<BinomQueue<Key, usize>>;
 
-// The order read from its front, checked against the places wanted; none after the last.
+// Reads the order from its front, and compares it with the expected places; `None` after the last.
 fn stands(order: &JoinOrder, wanted: &[Option<usize>]) -> bool {
     let mut place = order.first();
     for want in wanted {
@@ -33,21 +33,21 @@ fn stands(order: &JoinOrder, wanted: &[Option<usize>]) -> bool {
     place.is_none()
 }
 
-// A step of a test, which is played on an order.
+// A step of a test, which runs on an order.
 #[derive(Clone, Copy)]
 enum Step {
     Append(usize),
     Remove(usize),
-    // These places stand in it, from its front on; none after the last.
+    // These places stand in it, from its front on; `None` after the last.
     Stands([Option<usize>; 5]),
-    // Whether this place stands in it.
+    // This place stands in it, or doesn't.
     Contains(usize, bool),
     First(Option<usize>),
-    // What comes after this place.
+    // The place after this one.
     After(usize, Option<usize>),
 }
 
-// Plays the steps on an order of so much room.
+// Runs the steps on an order with this room.
 fn play(rt: &impl Abort, alloc: Global, room: usize, steps: &[Step]) {
     let mut order = JoinOrder::with_room(alloc, room).expect(rt, "memory");
     play_on(rt, &mut order, room, steps);
@@ -143,7 +143,7 @@ fn key(ticket: u64) -> Key
     }
 }
 
-// A request that waits by the fifth entry.
+// A request that waits since the fifth entry.
 fn waiter(key: Key, queue: Queue) -> Waiter
     ensures { result ≡ record { key = key; queue = queue; joined = 5 } }
 {
@@ -154,7 +154,7 @@ fn waiter(key: Key, queue: Queue) -> Waiter
     }
 }
 
-// Room for four, at two servers.
+// Makes empty queues with room for four requests, at two servers.
 fn nobody<Q: PendQueue<Key, usize>>(rt: &impl Abort, alloc: Global) -> WaitQueues<Q>
     ensures { list_of result ≡ record { waiters = replicate 4 None; order = []; servers = 2 } }
 {
@@ -245,7 +245,7 @@ fn forty_of_two_servers_move(rt: HostRuntime) {
     move_forty(&rt, rt.alloc(), &mut trees, false);
 }
 
-// Nobody looks so while a server falls, but the calls allow it.
+// No caller looks while a server falls, but the calls allow it.
 #[test]
 fn a_fall_may_be_looked_at(rt: HostRuntime) {
     let mut lists: OfLists = WaitQueues::new(rt.alloc(), 2, 40).expect(&rt, "memory");
@@ -296,7 +296,7 @@ fn join_one<Q: PendQueue<Key, usize>>(
     waiting.join(place, waiter(*key, Queue::Server(place % 2)), node);
 }
 
-// Moves the twenty of a server, the lowest ticket first, and looks after every third one.
+// Moves the twenty requests of a server, the lowest ticket first, and looks after every third one.
 fn fall<Q: PendQueue<Key, usize>>(
     rt: &impl Abort,
     waiting: &mut WaitQueues<Q>,

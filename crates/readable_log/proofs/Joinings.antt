@@ -1,60 +1,82 @@
 -- Where tickets joined a queue.
-use Rattle.std.proofs.Common.{◌≡◌, ℕ, ◌+◌, ◌≤◌, ◌==◌, nat_lt, ◌&&◌, ◌||◌, Bool, true, false, cond}
-use Rattle.std.proofs.Common.{List, [], ◌∷◌, ◌++◌, length, Option, None, Some, refl, ap, ◌∙◌, arith}
-use Rattle.std.specs.List.{AllByRecursion}
+use Rattle.std.proofs.Common.{◌≡◌, ℕ, ◌+◌, ◌≤◌, ◌==◌, ◌&&◌, ◌||◌, Bool, true, false, cond}
+use Rattle.std.proofs.Common.{List, [], ◌∷◌, ◌++◌, length, Option, None, Some, refl, ap, sym, ◌∙◌, arith}
+use Rattle.std.specs.List.{AllByRecursion, list_any}
 use Rattle.std.specs.Option.{option_map_or}
 use Rattle.dispatch_log.specs.declared.entry.Entry.{Entry}
 use Rattle.dispatch_log.specs.declared.entry.Entry.TheVariants.{Granted}
 use Rattle.dispatch_log.specs.declared.queue.Queue.{Queue}
 use Rattle.dispatch_log.specs.Rows.{same_queue}
-use Rattle.readable_log.specs.Grants.{Wait, grant_in, joining_in, joins, last_from, joining_of, has_joined}
+use Rattle.readable_log.specs.Grants.{Wait, grant_in, joining_in, joins, last_position, joining_of, has_joined}
 use Rattle.readable_log.specs.Windows.{waited}
 use Rattle.readable_log.specs.declared.base.BaseRow.{BaseRow}
-use Rattle.std.proofs.lemmas.Bool.Decides.{nat_tests}
+use Rattle.std.proofs.lemmas.List.Folds.{list_any-append}
 
--- a position that was found is one of those that were looked at
-pub last_from-le : (test : Entry → Bool) (n found : ℕ) (es : List Entry) → found ≤ n → last_from test n found es ≤ n + length es
-last_from-le test n found [] h = omega arith
-last_from-le test n found (e ∷ es) h = by_test (test e) (λ k le. last_from-le test (n + 1) k es le)
+-- the last position is one of a list's positions, or 0
+pub last_position-le : (test : Entry → Bool) (es : List Entry) → last_position test es ≤ length es
+last_position-le test [] = omega arith
+last_position-le test (e ∷ es) = by_any (list_any test (e ∷ es)) (last_position-le test es)
   where
-    by_test : (b : Bool) → ((k : ℕ) → k ≤ n + 1 → last_from test (n + 1) k es ≤ (n + 1) + length es)
-        → last_from test (n + 1) (cond b (n + 1) found) es ≤ n + length (e ∷ es)
-    by_test true rest = let all = rest (n + 1) (omega arith) in omega arith
-    by_test false rest = let all = rest found (omega arith) in omega arith
+    by_any : (b : Bool) → last_position test es ≤ length es → cond b (last_position test es + 1) 0 ≤ length (e ∷ es)
+    by_any true rest = omega arith
+    by_any false rest = omega arith
 
--- a position that was found stays the least that is found
-from-ge : (test : Entry → Bool) (n found : ℕ) (es : List Entry) → found ≤ n → found ≤ last_from test n found es
-from-ge test n found [] h = omega arith
-from-ge test n found (e ∷ es) h = go (test e) (λ k le. from-ge test (n + 1) k es le)
+-- the last position after one entry more
+last_position-push : (test : Entry → Bool) (es : List Entry) (e : Entry)
+    → last_position test (es ++ e ∷ []) ≡ cond (test e) (length es + 1) (last_position test es)
+last_position-push test [] e = by_test (test e)
   where
-    go : (b : Bool) → ((k : ℕ) → k ≤ n + 1 → k ≤ last_from test (n + 1) k es) → found ≤ last_from test (n + 1) (cond b (n + 1) found) es
-    go true rest = let up = rest (n + 1) (omega arith) in omega arith
-    go false rest = rest found (omega arith)
-
-from-append : (test : Entry → Bool) (n found : ℕ) (xs ys : List Entry)
-    → last_from test n found (xs ++ ys) ≡ last_from test (n + length xs) (last_from test n found xs) ys
-from-append test n found [] ys = ap (λ k. last_from test k found ys) (omega arith)
-from-append test n found (x ∷ xs) ys =
-    let longer : (n + 1) + length xs ≡ n + length (x ∷ xs) = omega arith in
-    from-append test (n + 1) (cond (test x) (n + 1) found) xs ys
-    ∙ ap (λ k. last_from test k (last_from test (n + 1) (cond (test x) (n + 1) found) xs) ys) longer
-
-none_from : (test : Entry → Bool) (n found : ℕ) (es : List Entry) → found ≤ n → last_from test n found es ≤ n → AllByRecursion (λ e. test e ≡ false) es
-none_from test n found [] h low = tt
-none_from test n found (e ∷ es) h low = go (test e) refl low (λ k le m. none_from test (n + 1) k es le m)
+    by_test : (b : Bool) → cond (b || false) (0 + 1) 0 ≡ cond b (0 + 1) 0
+    by_test true = refl
+    by_test false = refl
+last_position-push test (x ∷ es) e =
+    ap (λ n. cond (list_any test (x ∷ es ++ e ∷ [])) (n + 1) 0) (last_position-push test es e)
+    ∙ ap (λ b. cond (test x || b) (cond (test e) (length es + 1) (last_position test es) + 1) 0) (list_any-append test es (e ∷ []))
+    ∙ go (test x) (list_any test es) (test e)
   where
-    go : (b : Bool) → test e ≡ b → last_from test (n + 1) (cond b (n + 1) found) es ≤ n
-        → ((k : ℕ) → k ≤ n + 1 → last_from test (n + 1) k es ≤ n + 1 → AllByRecursion (λ x. test x ≡ false) es) → AllByRecursion (λ x. test x ≡ false) (e ∷ es)
-    go true is below rest = let up : n + 1 ≤ last_from test (n + 1) (n + 1) es = from-ge test (n + 1) (n + 1) es (omega arith) in absurd (omega arith)
-    go false is below rest = (is, rest found (omega arith) (omega arith))
+    go : (b c d : Bool) → cond (b || (c || (d || false))) (cond d (length es + 1) (last_position test es) + 1) 0
+        ≡ cond d (length (x ∷ es) + 1) (cond (b || c) (last_position test es + 1) 0)
+    go true c true = omega arith
+    go true c false = refl
+    go false true true = omega arith
+    go false true false = refl
+    go false false true = omega arith
+    go false false false = refl
+
+none_pass : (test : Entry → Bool) (es : List Entry) → list_any test es ≡ false → AllByRecursion (λ e. test e ≡ false) es
+none_pass test [] none = tt
+none_pass test (e ∷ es) none = go (test e) refl none (λ rest. none_pass test es rest)
+  where
+    go : (b : Bool) → test e ≡ b → b || list_any test es ≡ false → (list_any test es ≡ false → AllByRecursion (λ x. test x ≡ false) es)
+        → AllByRecursion (λ x. test x ≡ false) (e ∷ es)
+    go true is none pass = cc
+    go false is none pass = (is, pass none)
+
+none_in_rest : (test : Entry → Bool) (xs ys : List Entry) → list_any test (xs ++ ys) ≡ false → list_any test ys ≡ false
+none_in_rest test xs ys none = or_second (list_any test xs) (list_any test ys) (sym (list_any-append test xs ys) ∙ none)
+  where
+    or_second : (b c : Bool) → b || c ≡ false → c ≡ false
+    or_second true c none = cc
+    or_second false c none = none
+
+-- where the last position lies in the first part of a list, nothing of the second part passes
+none_behind : (test : Entry → Bool) (xs ys : List Entry) → last_position test (xs ++ ys) ≤ length xs → AllByRecursion (λ e. test e ≡ false) ys
+none_behind test [] [] low = tt
+none_behind test [] (y ∷ ys) low = go (list_any test (y ∷ ys)) refl low
+  where
+    go : (b : Bool) → list_any test (y ∷ ys) ≡ b → cond b (last_position test ys + 1) 0 ≤ 0 → AllByRecursion (λ e. test e ≡ false) (y ∷ ys)
+    go true is low = absurd (omega arith)
+    go false is low = none_pass test (y ∷ ys) is
+none_behind test (x ∷ xs) ys low = go (list_any test (x ∷ xs ++ ys)) refl low (λ less. none_behind test xs ys less)
+  where
+    go : (b : Bool) → list_any test (x ∷ xs ++ ys) ≡ b → cond b (last_position test (xs ++ ys) + 1) 0 ≤ length (x ∷ xs)
+        → (last_position test (xs ++ ys) ≤ length xs → AllByRecursion (λ e. test e ≡ false) ys) → AllByRecursion (λ e. test e ≡ false) ys
+    go true is low rest = rest (omega arith)
+    go false is low rest = none_pass test ys (none_in_rest test (x ∷ xs) ys is)
 
 -- where a ticket's last joining stands in the first part of a log, none stands in the second
 pub none_in_second : (t : ℕ) (q : Queue) (xs ys : List Entry) → joining_of t q (xs ++ ys) ≤ length xs → AllByRecursion (λ e. joins t q e ≡ false) ys
-none_in_second t q xs ys low =
-    let found : last_from (joins t q) 0 0 xs ≤ 0 + length xs = last_from-le (joins t q) 0 0 xs (omega arith) in
-    let split : last_from (joins t q) 0 0 (xs ++ ys) ≡ last_from (joins t q) (0 + length xs) (last_from (joins t q) 0 0 xs) ys =
-    from-append (joins t q) 0 0 xs ys in
-    none_from (joins t q) (0 + length xs) (last_from (joins t q) 0 0 xs) ys found (omega arith)
+none_in_second t q xs ys low = none_behind (joins t q) xs ys low
 
 -- a grant puts no ticket into a queue
 pub grants_no_joining : (e : Entry) (w : Wait) (t : ℕ) (q : Queue) → grant_in e ≡ Some w → joins t q e ≡ false
@@ -64,10 +86,7 @@ grants_no_joining e w t q h = cc
 -- the last joining after one entry more
 pub joining_of-push : (t : ℕ) (q : Queue) (past : List Entry) (e : Entry)
     → joining_of t q (past ++ e ∷ []) ≡ cond (joins t q e) (length past + 1) (joining_of t q past)
-joining_of-push t q past e = from-append (joins t q) 0 0 past (e ∷ []) ∙ ap (λ n. cond (joins t q e) (n + 1) (joining_of t q past)) zero_more
-  where
-    zero_more : 0 + length past ≡ length past
-    zero_more = omega arith
+joining_of-push t q past e = last_position-push (joins t q) past e
 
 -- an entry that puts no ticket into a queue
 pub nothing_joins : (e : Entry) (t : ℕ) (q : Queue) → joining_in e ≡ None → joins t q e ≡ false
@@ -84,9 +103,13 @@ joining_of_last t q past e is = joining_of-push t q past e ∙ ap (λ b. cond b 
 -- a ticket has joined a queue with an entry more
 pub joined-push : (base : List BaseRow) (t : ℕ) (q : Queue) (past : List Entry) (e : Entry)
     → has_joined base t q (past ++ e ∷ []) ≡ joins t q e || has_joined base t q past
-joined-push base t q past e = ap (λ n. waited t q base || nat_lt 0 n) (joining_of-push t q past e) ∙ go (joins t q e) (waited t q base) (joining_of t q past)
+joined-push base t q past e =
+    ap (λ b. waited t q base || b) (list_any-append (joins t q) past (e ∷ [])) ∙ go (joins t q e) (waited t q base) (list_any (joins t q) past)
   where
-    go : (b w : Bool) (n : ℕ) → w || nat_lt 0 (cond b (length past + 1) n) ≡ b || (w || nat_lt 0 n)
-    go true true n = refl
-    go true false n = grind (arith, nat_tests)
-    go false w n = refl
+    go : (b w c : Bool) → w || (c || (b || false)) ≡ b || (w || c)
+    go true true c = refl
+    go true false true = refl
+    go true false false = refl
+    go false true c = refl
+    go false false true = refl
+    go false false false = refl

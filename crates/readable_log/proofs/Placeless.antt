@@ -1,6 +1,6 @@
 -- What a window says of grants, it says whatever places its requests have.
-use Rattle.std.proofs.Common.{◌≡◌, ℕ, ◌+◌, Bool, cond, List, [], ◌∷◌, ◌++◌, Option, None, Some, map, take, length, option_map, refl, ap, sym, ◌∙◌}
-use Rattle.std.specs.List.{fold}
+use Rattle.std.proofs.Common.{◌≡◌, ℕ, ◌+◌, ◌||◌, Bool, cond, List, [], ◌∷◌, ◌++◌, Option, None, Some, map, take, length, option_map, refl, ap, sym, ◌∙◌}
+use Rattle.std.specs.List.{fold, list_any}
 use Rattle.std.specs.Option.{option_map_or, unwrap_or}
 use Rattle.std.proofs.lemmas.List.{length-map, map-append, take-map}
 use Rattle.due_key.specs.declared.key.Key.{Key}
@@ -20,7 +20,7 @@ use Rattle.dispatch_log.proofs.SameRows.{row_of-same}
 use Rattle.readable_log.specs.declared.base.BaseRow.{BaseRow}
 use Rattle.readable_log.specs.declared.grant.SlotGrant.{SlotGrant}
 use Rattle.readable_log.specs.Grants.{Wait, moment_in, grant_in, moment_of, moment_at, newer_key, key_known}
-use Rattle.readable_log.specs.Grants.{last_from, joins, joining_of, grant_of, grant_after, grants_after, grants}
+use Rattle.readable_log.specs.Grants.{last_position, joins, joining_of, grant_of, grant_after, grants_after, grants}
 use Rattle.readable_log.specs.Windows.{base_rows, base_key, window_in}
 use Rattle.readable_log.proofs.Based.{other_rows, known_row}
 
@@ -84,12 +84,17 @@ moment_of_unplaced es = fold_unplaced _ each 0 es
     each m (Arrive n a) = refl
     each m e = refl
 
-last_unplaced : (t : ℕ) (q : Queue) (count found : ℕ) (es : List Entry)
-    → last_from (joins t q) count found (map unplaced es) ≡ last_from (joins t q) count found es
-last_unplaced t q count found [] = refl
-last_unplaced t q count found (e ∷ es) =
-    last_unplaced t q (count + 1) (cond (joins t q (unplaced e)) (count + 1) found) es
-    ∙ ap (λ (b : Bool). last_from (joins t q) (count + 1) (cond b (count + 1) found) es) (joins_unplaced t q e)
+any_unplaced : (t : ℕ) (q : Queue) (es : List Entry) → list_any (joins t q) (map unplaced es) ≡ list_any (joins t q) es
+any_unplaced t q [] = refl
+any_unplaced t q (e ∷ es) =
+    ap (λ (b : Bool). b || list_any (joins t q) (map unplaced es)) (joins_unplaced t q e)
+    ∙ ap (λ (b : Bool). joins t q e || b) (any_unplaced t q es)
+
+last_unplaced : (t : ℕ) (q : Queue) (es : List Entry) → last_position (joins t q) (map unplaced es) ≡ last_position (joins t q) es
+last_unplaced t q [] = refl
+last_unplaced t q (e ∷ es) =
+    ap (λ (b : Bool). cond b (last_position (joins t q) (map unplaced es) + 1) 0) (any_unplaced t q (e ∷ es))
+    ∙ ap (λ (n : ℕ). cond (list_any (joins t q) (e ∷ es)) (n + 1) 0) (last_unplaced t q es)
 
 grant_of_unplaced : (past : List Entry) (wait : Wait) (key : Key) → grant_of (map unplaced past) wait key ≡ grant_of past wait key
 grant_of_unplaced past wait key =
@@ -109,7 +114,7 @@ grant_of_unplaced past wait key =
       class = key.class;
       moment = moment_of past;
       stay = record { ticket = wait.ticket; joined = j; slot = length (map unplaced past) + 1; due = key.due };
-    }) (last_unplaced wait.ticket wait.queue 0 0 past)
+    }) (last_unplaced wait.ticket wait.queue past)
     ∙ ap (λ (n : ℕ). record {
       queue = wait.queue;
       class = key.class;

@@ -15,7 +15,7 @@ use Rattle.readable_log.specs.Readable.{MayFollow, AllFollow, IsReadable}
 use Rattle.readable_log.specs.Timely.{IsTimely}
 use Rattle.readable_log.specs.Windows.{Window}
 use Rattle.readable_log.specs.declared.base.BaseRow.{BaseRow}
-use Rattle.readable_log.proofs.Joinings.{last_from-le}
+use Rattle.readable_log.proofs.Joinings.{last_position-le}
 use Rattle.readable_log.proofs.Moments.{moment_of_none}
 
 -- a grant begins no event
@@ -53,7 +53,7 @@ timely_one base past es e g may h =
     let slot : g.stay.slot ≡ length past + 1 = ap (λ (x : SlotGrant). x.stay.slot) f.made in
     let joined : g.stay.joined ≡ joining_of w.ticket w.queue past = ap (λ (x : SlotGrant). x.stay.joined) f.made in
     let moment : g.moment ≡ moment_of past = ap (λ (x : SlotGrant). x.moment) f.made in
-    let low : joining_of w.ticket w.queue past ≤ 0 + length past = last_from-le (joins w.ticket w.queue) 0 0 past (omega arith) in
+    let low : joining_of w.ticket w.queue past ≤ length past = last_position-le (joins w.ticket w.queue) past in
     let long : length (past ++ e ∷ []) ≡ length past + 1 = omega (arith, length-append past (e ∷ [])) in
     let split : past ++ e ∷ es ≡ (past ++ e ∷ []) ++ es = rw append_assoc refl in
     let here : take (length past + 1) (past ++ e ∷ es) ≡ past ++ e ∷ [] =

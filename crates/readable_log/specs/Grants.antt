@@ -1,6 +1,6 @@
 -- What a window says of the requests that leave a queue for a slot. Positions count its entries from 1, events included.
-use Rattle.std.specs.Prelude.{ℕ, ◌+◌, ◌==◌, nat_lt, ◌&&◌, ◌||◌, Bool, false, ℤ, List, [], ◌∷◌, ◌++◌, Option, None, Some, map, take, length, if◌then◌else◌}
-use Rattle.std.specs.List.{fold, filter}
+use Rattle.std.specs.Prelude.{ℕ, ◌+◌, ◌==◌, ◌&&◌, ◌||◌, Bool, false, ℤ, List, [], ◌∷◌, ◌++◌, Option, None, Some, map, take, length, if◌then◌else◌}
+use Rattle.std.specs.List.{fold, filter, list_any}
 use Rattle.std.specs.Option.{unwrap_or, option_map_or}
 use Rattle.std.specs.Ordering.{int_eq}
 use Rattle.due_key.specs.declared.key.Key.{Key}
@@ -21,7 +21,7 @@ pub record Wait : Type 0 where
   pub ticket : ℕ
   pub queue : Queue
 
--- the moment of an event; an entry that begins none has none
+-- the moment of an event; none for another entry
 abbrev pub moment_in : Entry → Option ℕ
 moment_in (Arrive moment arrival) = Some moment
 moment_in (Done moment ticket) = Some moment
@@ -32,7 +32,7 @@ moment_in (Check moment server ok) = Some moment
 moment_in (Limit moment server limit) = Some moment
 moment_in entry = None
 
--- the arrival that an entry is
+-- the arrival of an entry, if it is one
 abbrev pub arrival_in : Entry → Option Arrival
 arrival_in (Arrive moment arrival) = Some arrival
 arrival_in entry = None
@@ -52,37 +52,37 @@ grant_in entry = None
 abbrev pub moment_of : List Entry → ℕ
 moment_of log = fold (λ moment entry. unwrap_or (moment_in entry) moment) 0 log
 
--- the moment at a position: that of the event that its entry belongs to
+-- the moment at a position: that of its entry's event
 abbrev pub moment_at : List Entry → ℕ → ℕ
 moment_at log position = moment_of (take position log)
 
--- the key of a ticket, by an entry that is its arrival, or else as before
+-- the key of a ticket, where the entry is its arrival, or else as before
 abbrev pub newer_key : ℕ → Option Key → Entry → Option Key
 newer_key ticket before entry =
     option_map_or (λ it. if it.ticket == ticket then Some (key_of it) else before) (arrival_in entry) before
 
--- the key of a ticket: that of its last arrival, or else the one that it has in the base
+-- the key of a ticket: that of its last arrival, or else the one in the base
 abbrev pub key_known : List BaseRow → ℕ → List Entry → Option Key
 key_known base ticket log = fold (newer_key ticket) (base_key ticket base) log
 
--- the last position whose entry passes a test, of a list's entries that follow so many; else a given one
-abbrev pub last_from : (Entry → Bool) → ℕ → ℕ → List Entry → ℕ
-last_from test count found [] = found
-last_from test count found (entry ∷ entries) = last_from test (count + 1) (if test entry then count + 1 else found) entries
+-- the position of the last entry that passes a test; 0 where none does
+abbrev pub last_position : (Entry → Bool) → List Entry → ℕ
+last_position test [] = 0
+last_position test (entry ∷ entries) = if list_any test (entry ∷ entries) then last_position test entries + 1 else 0
 
--- whether an entry puts a ticket into a queue
+-- an entry puts a ticket into a queue
 abbrev pub joins : ℕ → Queue → Entry → Bool
 joins ticket queue entry = option_map_or (λ it. (it.ticket == ticket) && same_queue queue it.queue) (joining_in entry) false
 
 -- the position of the last entry that put a ticket into a queue; 0 where none did
 abbrev pub joining_of : ℕ → Queue → List Entry → ℕ
-joining_of ticket queue log = last_from (joins ticket queue) 0 0 log
+joining_of ticket queue log = last_position (joins ticket queue) log
 
--- whether a ticket has joined a queue, by an entry or in the base
+-- a ticket has joined a queue, by an entry or in the base
 abbrev pub has_joined : List BaseRow → ℕ → Queue → List Entry → Bool
-has_joined base ticket queue log = waited ticket queue base || nat_lt 0 (joining_of ticket queue log)
+has_joined base ticket queue log = waited ticket queue base || list_any (joins ticket queue) log
 
--- the grant of a ticket that has this key, which follows the entries of a log; one that waited since the base joined at 0
+-- the grant of a ticket with this key after the entries of a log; a ticket that waits since the base joined at 0
 abbrev pub grant_of : List Entry → Wait → Key → SlotGrant
 grant_of past wait key = record {
   queue = wait.queue;
@@ -91,12 +91,12 @@ grant_of past wait key = record {
   stay = record { ticket = wait.ticket; joined = joining_of wait.ticket wait.queue past; slot = length past + 1; due = key.due };
 }
 
--- the grant that an entry is, where it follows the entries of a log; none where the ticket isn't known
+-- the grant of an entry after the entries of a log, if it is one; none where the ticket isn't known
 abbrev pub grant_after : List BaseRow → List Entry → Entry → Option SlotGrant
 grant_after base past entry =
     option_map_or (λ wait. option_map_or (λ key. Some (grant_of past wait key)) (key_known base wait.ticket past) None) (grant_in entry) None
 
--- the grants of entries that follow the entries of a log
+-- the grants of entries after the entries of a log
 abbrev pub grants_after : List BaseRow → List Entry → List Entry → List SlotGrant
 grants_after base past [] = []
 grants_after base past (entry ∷ entries) =
@@ -106,7 +106,7 @@ grants_after base past (entry ∷ entries) =
 abbrev pub grants : Window → List SlotGrant
 grants window = grants_after window.base [] window.entries
 
--- whether a grant is from a queue and of a class
+-- a grant is of a queue and class
 abbrev pub is_of : Queue → ℤ → SlotGrant → Bool
 is_of queue class grant = same_queue queue grant.queue && int_eq class grant.class
 

@@ -1,4 +1,4 @@
--- What a reader of a log keeps of the entries that it has read.
+-- The index that a reader of a log keeps of its entries.
 use Rattle.std.specs.Prelude.{◌≡◌, ℕ, List, is_some}
 use Rattle.std.specs.BTreeMap.{get}
 use Rattle.std.specs.Option.{unwrap_or}
@@ -11,11 +11,11 @@ use Rattle.readable_log.specs.declared.base.BaseRow.{BaseRow}
 use Rattle.readable_log.specs.Grants.{key_known, joining_of, has_joined}
 use Rattle.readable_log.specs.declared.read.Index.{Index}
 
--- how a ticket in a queue compares with another
+-- the order of tickets in queues
 abbrev pub wait_cmp : ℕ × Queue → ℕ × Queue → Ordering
 wait_cmp a b = ordering_then (nat_cmp a.0 b.0) (queue_cmp a.1 b.1)
 
--- each ticket's key, whether it joined each queue, and where it last did
+-- the index has each ticket's key, whether it joined each queue, and where it last did
 pub record IsIndexOf (base : List BaseRow) (log : List Entry) (index : Index) : Type 0 where
   pub keys : (ticket : ℕ) → get nat_cmp index.keys ticket ≡ key_known base ticket log
   pub joined : (ticket : ℕ) (queue : Queue) → is_some (get wait_cmp index.joinings (ticket, queue)) ≡ has_joined base ticket queue log

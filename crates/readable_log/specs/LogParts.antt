@@ -1,4 +1,4 @@
--- What a log keeps beside its entries.
+-- The parts of a log beside its entries.
 use Rattle.std.specs.Prelude.{◌≡◌, ℕ, ◌≤◌, List, length}
 use Rattle.dispatch_log.specs.declared.entry.Entry.{Entry}
 use Rattle.readable_log.specs.declared.grant.SlotGrant.{SlotGrant}
@@ -8,7 +8,7 @@ use Rattle.readable_log.specs.Readable.{IsReadable}
 use Rattle.dispatch_log.specs.States.{State}
 use Rattle.readable_log.specs.Windows.{base_rows}
 
--- a base with its live requests, for which there is room in any base of so many places, and no more
+-- a base with its live requests, for which there is room in any base with this many places, and no more
 pub record IsLog (base : State) (listed : List BaseRow) (capacity : ℕ) : Type 0 where
   pub listed_are : listed ≡ base_rows base.rows
   pub room : capacity ≡ length base.rows

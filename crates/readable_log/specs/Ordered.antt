@@ -1,4 +1,4 @@
--- Windows that keep the order of their queues, and what they leave.
+-- Windows that respect the order of their queues, and the states that they leave.
 use Rattle.std.specs.Prelude.{◌≡◌, ◌≢◌, ℕ, List, [], ◌∷◌, IsTrue}
 use Rattle.std.specs.Option.{IfSome}
 use Rattle.dispatch_log.specs.declared.entry.Entry.{Entry}
@@ -16,7 +16,7 @@ use Rattle.dispatch_log.specs.declared.queue.Queue.{Queue}
 abbrev pub IsFresh : Rows → ℕ → Type 0
 IsFresh rows ticket = (row : Row) → IsRow rows row → row.key.ticket ≢ ticket
 
--- the ticket waits in the queue, and no key that waits there is smaller than its own
+-- the ticket waits in the queue, and no key there is smaller than its own
 pub record TakesLeast (rows : Rows) (wait : Wait) : Type 0 where
   pub row : Row
   pub live : IsRow rows row
@@ -24,12 +24,13 @@ pub record TakesLeast (rows : Rows) (wait : Wait) : Type 0 where
   pub waits : IsTrue (phase_waits_in wait.queue row.phase)
   pub least : IsLeastOf (phase_waits_in wait.queue) rows row.key
 
--- an entry keeps the order of the queues: the ticket of an arrival is fresh, and a grant takes the least key of its queue
+-- an entry respects the order of the queues: the ticket of an arrival is new, and a grant takes the
+-- least key of its queue
 pub record KeepsOrder (rows : Rows) (entry : Entry) : Type 0 where
   pub fresh : IfSome (arrival_in entry) (λ arrival. IsFresh rows arrival.ticket)
   pub least : IfSome (grant_in entry) (TakesLeast rows)
 
--- each entry does, in the state that those before it left
+-- each entry does, in the state that those before it leave
 abbrev pub AllKeepOrder : Setup → State → List Entry → Type 0
 AllKeepOrder setup state [] = Unit {0}
 AllKeepOrder setup state (entry ∷ entries) = KeepsOrder state.rows entry × AllKeepOrder setup (after setup state entry) entries

@@ -6,8 +6,9 @@ use Rattle.readable_log.specs.declared.base.BaseRow.{BaseRow}
 use Rattle.readable_log.specs.Grants.{moment_in, grant_in, moment_of, key_known, has_joined}
 use Rattle.readable_log.specs.Windows.{Window}
 
--- an entry may follow the entries of a window: the first one is an event, the moments of events never fall, and a ticket
--- that is granted a slot has arrived and joined the queue that it leaves, in the window or before its base
+-- an entry may follow the entries of a window: the first one is an event, the moments of events
+-- never fall, and a ticket that is granted a slot has arrived and joined the queue that it leaves,
+-- in the window or before it
 pub record MayFollow (base : List BaseRow) (past : List Entry) (entry : Entry) : Type 0 where
   pub begins : length past ≡ 0 → IsSome (moment_in entry)
   pub later : IfSome (moment_in entry) (λ moment. moment_of past ≤ moment)
@@ -22,6 +23,6 @@ AllFollow base past (entry ∷ entries) = MayFollow base past entry × AllFollow
 abbrev pub IsReadable : Window → Type 0
 IsReadable window = AllFollow window.base [] window.entries
 
--- a ticket has arrived, last with a class and a due date
+-- a ticket has arrived, the last time with this class and due date
 abbrev pub HasArrived : List BaseRow → List Entry → ℕ → ℤ → ℤ → Type 0
 HasArrived base log ticket class due = IsSomeAnd (key_known base ticket log) (λ it. (it.class ≡ class) × (it.due ≡ due))

@@ -1,10 +1,10 @@
--- What the grants of a readable window have.
+-- The facts on the grants of a readable window.
 use Rattle.std.specs.Prelude.{◌≡◌, ◌<◌}
 use Rattle.readable_log.specs.Grants.{moment_at}
 use Rattle.readable_log.specs.Windows.{Window}
 use Rattle.readable_log.specs.declared.grant.SlotGrant.{SlotGrant}
 
--- a grant has the moment of its position, and its ticket joined the queue before, or waited there in the base
+-- a grant has the moment of its position, and its ticket joined the queue before it, or waited there in the base
 pub record IsTimely (window : Window) (grant : SlotGrant) : Type 0 where
   pub moment : grant.moment ≡ moment_at window.entries grant.stay.slot
   pub joined : grant.stay.joined < grant.stay.slot

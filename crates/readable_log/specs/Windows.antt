@@ -1,4 +1,4 @@
--- A window of a log: the live requests at its base, and the entries since.
+-- A window of a log: the live requests of its base, and the entries since.
 use Rattle.std.specs.Prelude.{ℕ, ◌==◌, ◌&&◌, ◌||◌, Bool, false, List, [], ◌∷◌, Option, None, Some, if◌then◌else◌}
 use Rattle.std.specs.List.{fold}
 use Rattle.std.specs.Option.{option_map_or}
@@ -15,7 +15,7 @@ pub record Window : Type 0 where
   pub base : List BaseRow
   pub entries : List Entry
 
--- what a base tells of a row, and of all of them by rising place
+-- the part of a row that a base keeps, and that of all rows by rising place
 abbrev pub base_row : Row → BaseRow
 base_row row = record { ticket = row.key.ticket; class = row.key.class; due = row.key.due; queue = queue_in row.phase }
 
@@ -24,7 +24,7 @@ base_rows [] = []
 base_rows (None ∷ rows) = base_rows rows
 base_rows (Some row ∷ rows) = base_row row ∷ base_rows rows
 
--- the window that is recorded
+-- the window of a recorded log
 abbrev pub window_of : Recorded → Window
 window_of log = record { base = base_rows log.base.rows; entries = log.entries }
 
@@ -39,7 +39,7 @@ newer_base_key ticket before row = if row.ticket == ticket then Some (record { c
 abbrev pub base_key : ℕ → List BaseRow → Option Key
 base_key ticket base = fold (newer_base_key ticket) None base
 
--- whether a ticket waits in a queue in a base
+-- a ticket waits in a queue in a base
 abbrev pub waited : ℕ → Queue → List BaseRow → Bool
 waited ticket queue [] = false
 waited ticket queue (row ∷ rows) = ((row.ticket == ticket) && option_map_or (same_queue queue) row.queue false) || waited ticket queue rows

@@ -1,4 +1,4 @@
--- Worked windows: two that are readable, and others, each wrong in one way.
+-- Worked examples of windows: two that are readable, and others, each wrong in one way.
 use Rattle.std.specs.Prelude.{pos, List, [], ◌∷◌, None, Some}
 use Rattle.dispatch_log.specs.declared.entry.Arrival.{Arrival}
 use Rattle.dispatch_log.specs.declared.entry.Entry.TheVariants.{Arrive, Done, Tick, Joined, Granted}
@@ -14,7 +14,7 @@ first = record { ticket = 1; class = pos 0; due = pos 5; pin = None; place = 0 }
 abbrev pub granted_once : Window
 granted_once = record { base = []; entries = Arrive 3 first ∷ Joined 1 Backend ∷ Done 9 7 ∷ Granted 1 Backend 0 ∷ [] }
 
--- its one grant
+-- its only grant
 abbrev pub its_grant : SlotGrant
 its_grant = record { queue = Backend; class = pos 0; moment = 9; stay = record { ticket = 1; joined = 2; slot = 4; due = pos 5 } }
 
@@ -37,10 +37,10 @@ waits_in_the_base = record { ticket = 7; class = pos 0; due = pos 5; queue = Som
 abbrev pub granted_from_the_base : Window
 granted_from_the_base = record { base = waits_in_the_base; entries = Tick 9 ∷ Granted 7 Backend 0 ∷ [] }
 
--- it joined at position 0
+-- the ticket joined at position 0
 abbrev pub grant_from_the_base : SlotGrant
 grant_from_the_base = record { queue = Backend; class = pos 0; moment = 9; stay = record { ticket = 7; joined = 0; slot = 2; due = pos 5 } }
 
--- it is granted a slot from a queue in which it didn't wait
+-- the ticket is granted a slot from a queue in which it didn't wait
 abbrev pub waited_elsewhere : Window
 waited_elsewhere = record { base = waits_in_the_base; entries = Tick 9 ∷ Granted 7 (Server 0) 0 ∷ [] }

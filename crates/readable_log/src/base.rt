@@ -14,12 +14,12 @@ pub struct BaseRow {
     pub ticket: u64,
     pub class: Class,
     pub due: Due,
-    /// The queue that it waits in; None where it doesn't wait.
+    /// The queue that it waits in; `None` where it doesn't wait.
     pub queue: Option<Queue>,
 }
 
-/// The state that a window of a log begins with. Of each server's checks it keeps the health alone,
-/// which stands for the shortest results that leave it.
+/// The state in which a window of a log begins. It keeps each checked server's health alone, which
+/// stands for the shortest results with that health.
 #[derive(Debug, Drop)]
 pub struct Base {
     rows: Vec<Option<Row>>,
@@ -41,8 +41,8 @@ impl Model for Base {
 }
 
 impl Base {
-    /// The base of a dispatcher's first window: no request, all servers up and with the limits of their
-    /// setup. All its memory is taken here.
+    /// Makes the base of a dispatcher's first window: no request, all servers up and with the
+    /// limits of their setup. All its memory is allocated here.
     pub fn opening(alloc: Global, setup: &Setup) -> Result<Base, AllocError>
         ensures { IfOk result (λ base. base ≡ opening_state setup.now) }
     {
@@ -57,14 +57,14 @@ impl Base {
         })
     }
 
-    /// The places with their requests.
+    /// Returns the places with their requests.
     pub fn rows(&self) -> &[Option<Row>]
         ensures { result.now ≡ self.now.rows }
     {
         self.rows.as_slice()
     }
 
-    /// A place has this request, or none.
+    /// Puts a request or nothing at a place.
     pub fn set_row(&mut self, place: usize, row: Option<Row>)
         requires { place < length self.old.rows }
         ensures { self.new ≡ record self.old { rows = slice_set self.old.rows place row } }
@@ -72,7 +72,7 @@ impl Base {
         self.rows[place] = row;
     }
 
-    /// The servers that are checked have these healths; one that isn't has none.
+    /// Sets the healths of the servers; a server that isn't checked has none.
     pub fn set_healths(&mut self, healths: &[Option<Health>])
         requires { length self.old.results ≡ length healths.now }
         ensures { self.new ≡ record self.old { results = map results_by healths.now } }
@@ -80,7 +80,7 @@ impl Base {
         self.healths.copy_from_slice(healths);
     }
 
-    /// The servers may serve so much.
+    /// Sets the present limits of the servers.
     pub fn set_limits(&mut self, limits: &[Allowance])
         requires { length self.old.limits ≡ length limits.now }
         ensures { self.new ≡ record self.old { limits = limits.now } }
@@ -88,7 +88,7 @@ impl Base {
         self.limits.copy_from_slice(limits);
     }
 
-    /// The moment of the last event, the last ticket, and the server that balancing picked last.
+    /// Sets the moment of the last event, the last ticket, and the server that balancing picked last.
     pub fn set_position(&mut self, moment: Moment, ticket: u64, cursor: usize)
         ensures { self.new ≡ record self.old { moment = moment; ticket = ticket; cursor = cursor } }
     {
@@ -98,7 +98,7 @@ impl Base {
     }
 }
 
-/// So many places without anything.
+/// Makes this number of empty cells.
 fn nothing<T: Drop>(alloc: Global, count: usize) -> Result<Vec<Option<T>>, AllocError>
     ensures { IfOk result (λ list. list.items ≡ replicate count None) }
 {

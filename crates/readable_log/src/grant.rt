@@ -1,8 +1,8 @@
 use dispatch_log::Queue;
 use due_key::{Class, Due, Moment};
 
-/// A wait in a queue that ended with the grant of a slot. Positions count the entries of a log
-/// from 1, events included. A ticket that was granted twice has two stays.
+/// A wait in a queue that ended with the grant of a slot. Positions count the entries of a log from
+/// 1, events included. A ticket with two grants has two stays.
 #[derive(Clone, Copy, Debug, PartialEq, Eq)]
 pub struct Stay {
     pub ticket: u64,
@@ -21,7 +21,7 @@ pub struct SlotGrant {
     pub queue: Queue,
     /// The class of the ticket's last arrival.
     pub class: Class,
-    /// The moment of the event that the slot was granted in.
+    /// The moment of the event in which the slot was granted.
     pub moment: Moment,
     pub stay: Stay,
 }

@@ -1,5 +1,5 @@
 //! A window of a log that can be read back: beside its base and its entries it keeps the grants of
-//! slots that they tell of, each with its class, its due date and where its wait began.
+//! slots, each with its class, its due date and the position where its wait began.
 #![tactic(auto)]
 
 mod base;

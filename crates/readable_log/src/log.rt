@@ -12,10 +12,10 @@ use std::alloc::{AllocError, Global};
 use std::marker::Model;
 use std::mem;
 
-/// A window of a dispatcher's log: the state at its base, the entries since, in order, and the grants
-/// that they tell of. It always is readable: it begins with an event, moments never fall, and a ticket
-/// that is granted a slot has arrived and joined the queue that it leaves, in the window or before its
-/// base. Its room is taken once, and never changes.
+/// A window of a dispatcher's log: the state at its base, the entries since, in order, and their
+/// grants. It is always readable: it begins with an event, moments never fall, and a ticket that is
+/// granted a slot has arrived and joined the queue that it leaves, in the window or before it. Its
+/// memory is allocated once, and its room never changes.
 #[derive(Debug, Drop)]
 pub struct Log {
     base: Base,
@@ -41,8 +41,8 @@ impl Model for Log {
 }
 
 impl Log {
-    /// A window without an entry, which begins with this base; room for so many entries, and as many
-    /// grants.
+    /// Makes a window without an entry, which begins with this base, with room for this number of
+    /// entries, and as many grants.
     pub fn with_room(alloc: Global, base: Base, room: usize) -> Result<Log, AllocError>
         ensures { IfOk result (λ log. log ≡ record { base = base; entries = []; room = room }) }
     {
@@ -58,8 +58,8 @@ impl Log {
         })
     }
 
-    /// The next window begins, with this base, and the entries are gone; the base that it had is handed
-    /// back. `O(places)`, no memory.
+    /// Begins the next window with this base, and drops the entries; the old base is returned in
+    /// its place. `O(places)`, without allocating.
     pub fn begin(&mut self, base: &mut Base)
         requires { length base.old.rows ≡ length self.old.base.rows }
         ensures window { self.new ≡ record { base = base.old; entries = []; room = self.old.room } }
@@ -72,14 +72,14 @@ impl Log {
         list_rows(&mut self.listed, self.base.rows());
     }
 
-    /// The live requests at the base of the window, by rising place.
+    /// Returns the live requests of the base, by rising place.
     pub fn base(&self) -> &[BaseRow]
         ensures { result.now ≡ base_rows self.now.base.rows }
     {
         self.listed.as_slice()
     }
 
-    /// The entries; the position of the first is 1.
+    /// Returns the entries; the position of the first one is 1.
     pub fn entries(&self) -> &[Entry]
         ensures entries { result.now ≡ self.now.entries }
         ensures readable { IsReadable (window_of self.now) }
@@ -87,7 +87,7 @@ impl Log {
         self.list.as_slice()
     }
 
-    /// The grants that the entries tell of, in order.
+    /// Returns the grants of the entries, in order.
     pub fn grants(&self) -> &[SlotGrant]
         ensures grants { result.now ≡ grants (window_of self.now) }
         ensures readable { IsReadable (window_of self.now) }
@@ -107,14 +107,14 @@ impl Log {
         self.list.is_empty()
     }
 
-    /// For how many entries it was made.
+    /// Returns the number of entries that it has room for.
     pub fn room(&self) -> usize
         ensures { result ≡ self.now.room }
     {
         self.most
     }
 
-    /// Adds an entry other than a grant at the end. `O(1)`, no memory.
+    /// Appends an entry other than a grant. `O(1)`, without allocating.
     pub fn note(&mut self, entry: Entry)
         requires room { length self.old.entries < self.old.room }
         requires follows { MayFollow (base_rows self.old.base.rows) self.old.entries entry }
@@ -125,7 +125,7 @@ impl Log {
         put(&mut self.list, entry);
     }
 
-    /// Whether an entry other than a grant may come next.
+    /// Says whether this entry, which isn't a grant, may come next.
     pub(crate) fn may_note(&self, entry: &Entry) -> bool
         requires { grant_in entry.now ≡ None }
         ensures { IsTrue result ↔ MayFollow (base_rows self.now.base.rows) self.now.entries entry.now }
@@ -136,9 +136,10 @@ impl Log {
         }
     }
 
-    /// Adds the grant of a server's slot to a ticket that waits in the queue. What its entry doesn't
-    /// hold, the caller hands over: the key of the ticket's last arrival, and the position of the entry
-    /// that last put it into the queue; 0 where it waited there in the base. `O(1)`, no memory.
+    /// Appends the grant of a server's slot to a ticket that waits in the queue. The caller passes
+    /// what the entry doesn't hold: the key of the ticket's last arrival, and the position of the
+    /// entry that last put it into the queue; 0 where it waited there in the base. `O(1)`, without
+    /// allocating.
     pub fn note_grant(&mut self, key: Key, queue: Queue, server: usize, joined: usize)
         requires room { length self.old.entries < self.old.room }
         requires begun { 0 < length self.old.entries }
@@ -165,7 +166,7 @@ impl Log {
     }
 }
 
-/// The moment of an event.
+/// Returns the moment of an event.
 fn moment_in(entry: &Entry) -> Option<Moment>
     ensures { result ≡ moment_in entry.now }
 {
@@ -181,7 +182,7 @@ fn moment_in(entry: &Entry) -> Option<Moment>
     }
 }
 
-/// Adds an item in the room that is there.
+/// Appends an item within the room that is there.
 fn put<T>(list: &mut Vec<T>, item: T)
     requires { vec_len list.old < vec_capacity list.old }
     ensures items { list.new.items ≡ list.old.items ++ item ∷ [] }
@@ -190,7 +191,7 @@ fn put<T>(list: &mut Vec<T>, item: T)
     list.push_reserved(item);
 }
 
-/// The live requests at their places, one after the other.
+/// Lists the live requests, by place.
 fn list_rows(list: &mut Vec<BaseRow>, rows: &[Option<Row>])
     requires { length rows.now ≤ vec_capacity list.old }
     ensures rows { list.new.items ≡ base_rows rows.now }

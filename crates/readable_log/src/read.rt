@@ -16,19 +16,19 @@ use std::alloc::{AllocError, Global};
 use std::collections::BTreeMap;
 use thiserror::Error;
 
-/// Why entries were not read.
+/// Why entries weren't read.
 #[derive(Clone, Copy, Debug, PartialEq, Eq, Error)]
 pub enum Unreadable {
-    /// A growth found no memory.
+    /// The system refused memory.
     #[error("no memory")]
     NoMemory,
-    /// They aren't a readable log.
+    /// They aren't readable.
     #[error("not a readable log")]
     NotReadable,
 }
 
-/// What is known of each ticket in the base and the entries so far: its key, and where it last joined
-/// each queue, 0 being the base.
+/// What is known of each ticket in the base and the entries so far: its key, and where it last
+/// joined each queue; 0 is the base.
 #[derive(Drop)]
 struct Index {
     keys: BTreeMap<u64, Key>,
@@ -36,8 +36,8 @@ struct Index {
 }
 
 impl Log {
-    /// The window of these entries after this base, whoever made them, with no more room. `O(n log n)`.
-    /// Refused where memory is, or else exactly where they aren't readable.
+    /// Reads these entries after this base as a window without further room, whoever made them.
+    /// `O(n log n)`. Refused where memory is, or else exactly where they aren't readable.
     pub fn read(alloc: Global, base: Base, entries: &[Entry]) -> Result<Log, Unreadable>
         ensures ok { IfOk result (λ log. log ≡ record { base = base; entries = entries.now; room = length entries.now }) }
         ensures readable { OnOk result (IsReadable (record { base = base_rows base.rows; entries = entries.now })) }
@@ -56,7 +56,7 @@ impl Log {
     }
 }
 
-/// What is known at the base of a window.
+/// Returns the index of a window's base.
 fn index_of(alloc: Global, base: &[BaseRow]) -> Result<Index, AllocError>
     ensures { IfOk result (λ index. IsIndexOf base.now [] index) }
 {
@@ -70,7 +70,7 @@ fn index_of(alloc: Global, base: &[BaseRow]) -> Result<Index, AllocError>
     Ok(index)
 }
 
-/// Takes a live request of the base into the index.
+/// Adds a live request of the base to the index.
 fn note_row(index: &mut Index, row: BaseRow) -> Result<(), AllocError>
     ensures { OnOk result ((base : List BaseRow) → IsIndexOf base [] index.old → IsIndexOf (base ++ row ∷ []) [] index.new) }
 {
@@ -86,7 +86,7 @@ fn note_row(index: &mut Index, row: BaseRow) -> Result<(), AllocError>
     Ok(())
 }
 
-/// Adds an entry if it may follow.
+/// Appends an entry if it may follow.
 fn follow(log: &mut Log, index: &mut Index, entry: Entry) -> Result<(), Unreadable>
     requires room { length log.old.entries < log.old.room }
     requires indexed { IsIndexOf (base_rows log.old.base.rows) log.old.entries index.old }
@@ -108,7 +108,7 @@ fn follow(log: &mut Log, index: &mut Index, entry: Entry) -> Result<(), Unreadab
     Ok(())
 }
 
-/// Adds a grant if it is inside an event, and its ticket has arrived and joined the queue.
+/// Appends a grant if it is inside an event, and its ticket has arrived and joined the queue.
 fn follow_grant(
     log: &mut Log,
     index: &Index,
@@ -136,7 +136,7 @@ fn follow_grant(
     Ok(())
 }
 
-/// Takes an entry at a position into the index.
+/// Adds an entry at a position to the index.
 fn note(index: &mut Index, entry: &Entry, position: usize) -> Result<(), AllocError>
     ensures { OnOk result ((base : List BaseRow) (log : List Entry) → position ≡ length log + 1 → IsIndexOf base log index.old → IsIndexOf base (log ++ entry.now ∷ []) index.new) }
 {
@@ -151,7 +151,7 @@ fn note(index: &mut Index, entry: &Entry, position: usize) -> Result<(), AllocEr
     }
 }
 
-/// Takes an entry that put a ticket into a queue into the index.
+/// Adds an entry that puts a ticket into a queue to the index.
 fn note_joining(
     index: &mut Index,
     ticket: u64,

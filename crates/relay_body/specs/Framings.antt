@@ -1,18 +1,18 @@
--- Bodies by their framing (RFC 9112, section 6): which input is one, and what it becomes.
+-- Bodies by their framing (RFC 9112, section 6): which input is one, and its text.
 use Rattle.std.specs.Prelude.{◌≡◌, ℕ, ◌≤◌, Bool, List, [], length}
 use Rattle.relay_body.specs.declared.framing.Framing.{Framing}
 use Rattle.relay_body.specs.declared.framing.Framing.TheVariants.{Empty, Length, Chunked, ToEnd}
 use Rattle.relay_body.specs.Bodies.{ChunkedBody, IsChunked, print_chunked, chunked_text, PartOfChunked, LacksChunked}
 use Rattle.relay_body.specs.Lengths.{LacksLength}
 
--- `used` is a whole body, and `text` is what it becomes
+-- `used` is a whole body, and `text` is its text
 abbrev pub IsBody : Framing → Bool → List ℕ → List ℕ → Type 0
 IsBody Empty framed used text = (used ≡ []) × (text ≡ [])
 IsBody (Length count) framed used text = (length used ≡ count) × (text ≡ used)
 IsBody Chunked framed used text = (b : ChunkedBody) × IsChunked b × (used ≡ print_chunked b) × (text ≡ chunked_text framed b)
 IsBody ToEnd framed used text = text ≡ used
 
--- `used` is a part of a body, and `text` is what it becomes
+-- `used` is a part of a body, and `text` is its text
 abbrev pub PartOfBody : Framing → Bool → List ℕ → List ℕ → Type 0
 PartOfBody Empty framed used text = (used ≡ []) × (text ≡ [])
 PartOfBody (Length count) framed used text = (length used ≤ count) × (text ≡ used)

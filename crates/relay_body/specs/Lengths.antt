@@ -1,6 +1,6 @@
 -- Bodies of a stated length.
 use Rattle.std.specs.Prelude.{ℕ, ◌<◌, List, length}
 
--- fewer bytes stand in the input than the body has
+-- the input has fewer bytes than the body
 abbrev pub LacksLength : ℕ → List ℕ → Type 0
 LacksLength count input = length input < count

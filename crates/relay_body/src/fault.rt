@@ -3,7 +3,7 @@ use thiserror::Error;
 /// Why a body wasn't handed on whole.
 #[derive(Clone, Copy, Debug, PartialEq, Eq, Error)]
 pub enum Fault {
-    /// The bytes are no such body, whatever follows them.
+    /// The bytes can't be such a body, whatever follows them.
     #[error("bad framing")]
     Framing,
     /// A read failed, or the input ended before the body did.
@@ -12,7 +12,7 @@ pub enum Fault {
     /// A write failed or took no byte.
     #[error("write fault")]
     Write,
-    /// As many reads and writes were made as there were turns.
+    /// All turns were spent on reads and writes.
     #[error("turns spent")]
     Turns,
 }

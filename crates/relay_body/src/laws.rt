@@ -4,7 +4,8 @@ ghost use Rattle.list_facts.specs.Fronts.{AreComparable};
 
 use crate::framing::Framing;
 
-/// The law of the definitions: what two parts of a body at the front of one input become are fronts of one another.
+/// The law of the definitions: of the texts of two parts of a body at the front of one input, one
+/// is a front of the other.
 pub fn texts_of_parts_are_comparable()
     ensures { (framing : Framing) (framed : Bool) (used text more_used more_text rest more_rest : List ℕ) → PartOfBody framing framed used text
         → PartOfBody framing framed more_used more_text → used ++ rest ≡ more_used ++ more_rest → AreComparable text more_text }

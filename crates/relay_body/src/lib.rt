@@ -1,7 +1,8 @@
-//! What the bodies of HTTP/1.x messages are, and what they become where they are handed on.
+//! The bodies of HTTP/1.x messages, and what they become when they are handed on.
 //!
-//! Which input is a body, or a part of one, and which will never become one, is in `specs`, by the framing. What hands
-//! bodies on says by these words what it did, and by a `Fault` why it did no more.
+//! `specs` define, by the framing, which input is a body or a part of one, and which will never
+//! become one. The crates that hand bodies on say in these terms what they did, and by a `Fault`
+//! why they did no more.
 #![tactic(auto)]
 
 mod bounds;

@@ -3,6 +3,6 @@ use Rattle.relay_http.specs.declared.aside.Aside.{Aside}
 use Rattle.relay_http.specs.declared.exchange.Stage.{Stage}
 use Rattle.relay_http.specs.declared.exchange.Stage.TheVariants.{Forwarded}
 
--- how far the exchange was, and the one that goes on is
+-- the stage of the exchange that was set aside, and so of the one that goes on with it
 abbrev pub stage_of : Aside → Stage
 stage_of aside = Forwarded aside.ticket aside.verdict

@@ -1,4 +1,4 @@
--- A request's head that is read from what a pipe holds.
+-- A request's head that is read from the bytes that a pipe holds.
 use Rattle.std.specs.Prelude.{◌≡◌, ◌<◌, ℕ, List, ◌++◌, length, IsSome}
 use Rattle.httparse.specs.Grammar.{RequestHead, print_request}
 use Rattle.body_pipe.specs.declared.pipe.Pipe.{Pipe}
@@ -11,13 +11,14 @@ use Rattle.relay_http.specs.declared.asking.Told.TheVariants.{More, Whole, Refus
 use Rattle.req_view.specs.Heads.{HasNoHead}
 use Rattle.req_view.specs.Request.{request_of}
 
--- a front of what is held was told, and is no head
+-- the machine was given a front of the held bytes, which isn't a whole head
 pub record HasAsked (asking : Asking) (inbox : List ℕ) : Type 0 where
   pub rest : List ℕ
   pub all : inbox ≡ asking.held.items ++ rest
   pub none : HasNoHead asking.held.items
 
--- what the machine makes of what a pipe holds: all of it was told, and is no head yet; or a head stands there, whose bytes are used; or none will
+-- the machine's answer to the held bytes: it was given all of them, and they aren't a whole head
+-- yet; or a head stands there, whose bytes are used; or none will
 abbrev pub IsTold : Told → Pipe → Pipe → Type 0
 IsTold (More a) p q = (q ≡ p) × (a.held.items ≡ p.inbox) × HasNoHead p.inbox × (length p.inbox < 16384)
 IsTold (Whole v) p q = (h : RequestHead) × IsRequest h × (v ≡ request_of h) × IsSome (request_framing v) × (p.inbox ≡ print_request h ++ q.inbox)

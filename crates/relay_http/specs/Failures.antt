@@ -1,4 +1,4 @@
--- Steps of a pipe that end in a fault, and whose it is.
+-- Steps of a pipe that end in a fault, and the side where it arose.
 use Rattle.std.specs.Prelude.{◌≡◌, ℕ, ◌+◌, ◌⊎◌, List, ◌++◌, Option}
 use Rattle.std.specs.Io.KnownBytes.{Appends, Consumes, IsAtEnd}
 use Rattle.body_pipe.specs.Steps.{Ends, Reads}
@@ -11,9 +11,9 @@ pub record Fine (old new : Ends) : Type 0 where
   pub reads : new.source.failures ≡ old.source.failures
   pub writes : new.sink.failures ≡ old.sink.failures
 
--- Whose the fault is, where Why says of a fault what is wrong with the input: a read failed, or the input ended too
--- early; a write failed; all turns are spent; or the bytes can't be what they have to be. Want of memory is no fault of
--- the input: Why says of it where it may be met.
+-- Which fault it is, where Why says what a fault means for the input: a read failed, or the input
+-- ended too early; a write failed; all turns are spent; or the bytes can't be what they have to be.
+-- Want of memory isn't a fault of the input: Why says where it may be met.
 abbrev pub Blames : Ends → Ends → (Fault → List ℕ → Type 0) → List ℕ → Fault → Type 0
 Blames old new Why input NoMemory = Fine old new × Why NoMemory input
 Blames old new Why input Head = Fine old new × Why Head input
@@ -24,12 +24,12 @@ Blames old new Why input Write = (new.source.failures ≡ old.source.failures) �
 Blames old new Why input Turns = Fine old new × (new.pipe.turns ≡ 0)
 Blames old new Why input Closed = ⊥
 
--- nothing is wrong with the input
+-- the input has no fault
 abbrev pub NoCause : Fault → List ℕ → Type 0
 NoCause fault input = ⊥
 
--- A fault was met. `used` stands at the front of what was held and read, and of what waited and of the text that is
--- given for it a front was written.
+-- A fault was met. `used` stands at the front of what was held and read. A front of what waited and
+-- of the text was written.
 pub record Fails (old new : Ends) (used text : List ℕ) (Why : Fault → List ℕ → Type 0) (fault : Fault) : Type 0 where
   pub taken : List ℕ
   pub reads : Reads old new taken
@@ -38,7 +38,7 @@ pub record Fails (old new : Ends) (used text : List ℕ) (Why : Fault → List �
   pub writes : WritesFront old.sink new.sink (old.pipe.outbox ++ text)
   pub blames : Blames old new Why (old.pipe.inbox ++ taken) fault
 
--- what is wrong with the input, where the fault is that of the bytes, or may be met at all
+-- the meaning of the fault for the input, where the fault is one of the bytes, or whether it can be met at all
 abbrev pub Explains : (Fault → List ℕ → Type 0) → Fault → List ℕ → Type 0
 Explains Why Head input = Why Head input
 Explains Why Framing input = Why Framing input
@@ -48,7 +48,8 @@ Explains Why Write input = Unit {0}
 Explains Why Turns input = Unit {0}
 Explains Why Closed input = ⊥
 
--- Of what was held and read `used` is gone, and the whole text was written: of a reader and a writer, by their bytes.
+-- `used` was taken from what was held and read, and the whole text was written, in terms of the
+-- bytes of a reader and a writer.
 pub record Passes (held rest : List ℕ) (r0 r w0 w : Option (List ℕ)) (used text : List ℕ) : Type 0 where
   pub taken : List ℕ
   pub reads : Consumes r0 r taken

@@ -1,4 +1,4 @@
--- What an exchange is after each of its calls.
+-- The state of an exchange after each of its calls.
 use Rattle.std.specs.Prelude.{◌≡◌, ℕ, ◌<◌, Bool, false, List, [], length, ◌⊎◌, IsTrue, IsFalse}
 use Rattle.std.specs.Io.KnownBytes.{Appends, Keeps}
 use Rattle.counted_io.specs.Streams.{Stream}
@@ -18,16 +18,16 @@ pub record IsFresh (most : ℕ) (e : Exchange) : Type 0 where
   pub stage : e.stage ≡ New
   pub begun : e.begun ≡ false
 
--- it is at this stage, or met a fault
+-- it is at this stage, or has met a fault
 abbrev pub IsAt : Stage → Exchange → Type 0
 IsAt stage e = (e.stage ≡ stage) ⊎ (e.stage ≡ Failed)
 
--- a verdict that gives a slot of a server, and so doesn't drop the request
+-- a verdict that gives a slot of a server, and so doesn't refuse the request
 abbrev pub Serves : Verdict → Type 0
 Serves (Serve server) = Unit {0}
 Serves (Told cause) = ⊥
 
--- the stage of an exchange whose request was handed on, on this pass
+-- the stage of an exchange whose request was handed on under this pass
 abbrev pub forwarded_on : Grant → Stage
 forwarded_on pass = Forwarded pass.ticket pass.verdict
 
@@ -35,7 +35,8 @@ forwarded_on pass = Forwarded pass.ticket pass.verdict
 abbrev pub emptied : Pipe → Pipe
 emptied p = record { inbox = []; outbox = p.outbox; turns = p.turns }
 
--- Whether a byte of an answer went out stays known: before one did, nothing was written, and where one did now, something was.
+-- Whether a byte of an answer was written stays known: before the first one nothing was written,
+-- and where one was now, something was.
 pub record Marks (w0 w : Stream) (before after : Bool) : Type 0 where
   pub stays : IsTrue before → IsTrue after
   pub unset : IsFalse after → Keeps w0.bytes w.bytes

@@ -15,7 +15,8 @@ pub struct Aside {
 }
 
 impl Exchange {
-    /// What another exchange goes on with, where this one is renewed for other clients between the request and its answer.
+    /// Returns what another exchange needs to go on, where this one is renewed for other clients
+    /// between the request and its answer.
     pub fn set_aside(&self) -> Aside
         requires forwarded { (pass : Grant) × (self.now.stage ≡ states.forwarded_on pass) }
         requires unbegun { self.now.begun ≡ false }
@@ -27,7 +28,8 @@ impl Exchange {
         }
     }
 
-    /// Makes a new exchange one whose request was handed on elsewhere: it asks for a pass like that one's, for the answer.
+    /// Continues in this new exchange one whose request was handed on elsewhere: it requires the
+    /// same pass for the answer.
     pub fn resume(&mut self, aside: &Aside)
         requires fresh { IsFresh self.old.most self.old }
         ensures stage { self.new.stage ≡ stage_of aside.now }

@@ -15,7 +15,7 @@ use http_texts::Fault;
 use req_view::View;
 use std::alloc::Global;
 
-/// What the machine makes of what is held.
+/// The machine's answer to the held bytes.
 #[derive(Drop)]
 pub(crate) enum Told {
     More(Asking),
@@ -23,7 +23,7 @@ pub(crate) enum Told {
     Refused(Fault),
 }
 
-/// Reads a request's head, whose framing is good. `O(n)` a read in which a line ends.
+/// Reads a request's head with a sound framing. `O(n)` for each read in which a line ends.
 pub(crate) fn read_request<S: Source>(
     pipe: &mut Pipe,
     alloc: Global,
@@ -49,7 +49,7 @@ pub(crate) fn read_request<S: Source>(
     }
 }
 
-// What came since the last time is told. Of a whole head the bytes are used.
+// Gives the machine the bytes that came since the last time. The bytes of a whole head are used.
 fn ask(pipe: &mut Pipe, alloc: Global, asking: Asking) -> Told
     requires { HasAsked asking pipe.old.inbox }
     ensures { IsTold result pipe.old pipe.new }

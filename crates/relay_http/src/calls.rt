@@ -20,12 +20,14 @@ use req_view::View;
 use std::alloc::Global;
 use std::io::{Read, Write};
 
-// Each call reads how many turns are left, which so are known to be fewer than can be counted.
+// Each call reads the number of turns that are left, so the proof knows that they can be counted.
 impl Exchange {
-    /// Reads the request's head (RFC 9112, sections 2 to 5). What comes behind it in the same reads is held. `O(n)` a read.
+    /// Reads the request's head (RFC 9112, sections 2 to 5). Bytes after it from the same reads
+    /// are held. `O(n)` for each read.
     ///
-    /// Faults: `Head` once no head can come of the bytes, `Framing` where the head frames its body badly, `Read` where a read fails
-    /// or the input ends before the head does, `Turns`, and `NoMemory` where what comes of a head finds none.
+    /// Faults: `Head` once the bytes can't become a head, `Framing` where the head's framing is
+    /// unsound, `Read` where a read fails or the input ends before the head does, `Turns`, and
+    /// `NoMemory` where memory for the head is refused.
     pub fn read_request<R: Read>(&mut self, alloc: Global, reader: &mut R) -> Result<View, Fault>
         requires { IsAt Stage.New self.old }
         ensures ok { IfOk result (λ view. (h : RequestHead) × IsRequest h × (view ≡ request_of h) × IsSome (framings.request_framing view)
@@ -47,10 +49,10 @@ impl Exchange {
         self.read_request_from(alloc, &mut source)
     }
 
-    /// Hands the request on to the server: its head, the bytes held, and the rest of its body (RFC 9112, sections 6 and 7). The pass is
-    /// that of a slot at a server.
+    /// Hands the request on to the server: its head, the held bytes, and the rest of its body (RFC
+    /// 9112, sections 6 and 7). The pass must be for a slot at a server.
     ///
-    /// Faults: `Framing` once the bytes can be no such body, `Read`, `Write` and `Turns`. It takes no memory.
+    /// Faults: `Framing` once the bytes can't be such a body, `Read`, `Write` and `Turns`. It allocates nothing.
     pub fn forward<R: Read, W: Write>(
         &mut self,
         pass: &Pass,
@@ -83,9 +85,10 @@ impl Exchange {
         self.forward_between(pass, view, &mut source, &mut sink)
     }
 
-    /// Gives a client that waits for it leave to send its body (RFC 9110, section 10.1.1): 25 bytes, which don't count as begun.
+    /// Sends the `100` to a client that waits for it before it sends its body (RFC 9110, section
+    /// 10.1.1): 25 bytes, which don't count as begun.
     ///
-    /// Faults: `Write` and `Turns`. It takes no memory.
+    /// Faults: `Write` and `Turns`. It allocates nothing.
     pub fn go_on<W: Write>(&mut self, view: &View, writer: &mut W) -> Result<(), Fault>
         requires { IsAt Stage.Asked self.old }
         ensures ok { (r : Option (List ℕ))
@@ -106,11 +109,13 @@ impl Exchange {
         self.go_on_to(view, &mut sink)
     }
 
-    /// Hands the server's answer on to the client: at most eight heads before it, its own, and its body (RFC 9110, section 15;
-    /// RFC 9112, sections 6 and 7). The pass has the ticket and the verdict of that on which the request was handed on.
+    /// Hands the server's answer on to the client: at most eight interim heads, its own head, and
+    /// its body (RFC 9110, section 15; RFC 9112, sections 6 and 7). The pass has the ticket and the
+    /// verdict of the one under which the request was handed on.
     ///
-    /// Faults: `Head` once no head can come of the bytes, `Framing` where a head frames its body badly or is the ninth before an answer, or once
-    /// the bytes behind it can be no such body, `Read`, `Write`, `Turns`, and `NoMemory` where a whole head finds none.
+    /// Faults: `Head` once the bytes can't become a head, `Framing` where a head's framing is
+    /// unsound or it is the ninth interim head, or once the bytes after it can't be its body,
+    /// `Read`, `Write`, `Turns`, and `NoMemory` where memory for a whole head is refused.
     pub fn answer<R: Read, W: Write>(
         &mut self,
         alloc: Global,
@@ -148,7 +153,8 @@ impl Exchange {
         self.answer_between(alloc, pass, view, &mut source, &mut sink)
     }
 
-    /// Tells the client why there is no answer, by as many writes at most as the text has bytes. The exchange is over then.
+    /// Tells the client why there is no answer, by at most as many writes as the text has bytes.
+    /// The exchange is over then.
     pub fn refuse<W: Write>(&mut self, code: Code, writer: &mut W) -> Result<(), Fault>
         requires { self.old.begun ≡ false }
         ensures ok { OnOk result (Appends (W.contents writer.old) (W.contents writer.new) (refusal_text code)) }

@@ -4,13 +4,13 @@ use body_pipe::{INBOX_BYTES, Pipe};
 use std::alloc::{AllocError, Global};
 use verdict::Verdict;
 
-/// How far an exchange is.
+/// The stage of an exchange.
 #[derive(Clone, Copy, Debug, PartialEq, Eq)]
 pub enum Stage {
     New,
     /// The request's head was read.
     Asked,
-    /// The request was handed on, on the pass of this ticket, of this verdict.
+    /// The request was handed on, under the pass of this ticket and this verdict.
     Forwarded { ticket: u64, verdict: Verdict },
     /// The answer was handed on.
     Answered,
@@ -20,9 +20,10 @@ pub enum Stage {
 
 /// One request and its answer, between a client and a server.
 ///
-/// Its calls are `read_request`, `go_on` or not, `forward` and `answer`, in this order and each once at most. The last two ask
-/// for a pass that gives a slot, of the same ticket and verdict; while one of them runs, its pass is lent and can't be posted. After a
-/// fault they answer `Closed`, and `refuse` works as long as no byte of an answer went out.
+/// Its calls are `read_request`, `go_on` or not, `forward` and `answer`, in this order and each at
+/// most once. The last two require a pass for a slot, with the same ticket and verdict; while one
+/// of them runs, its pass is borrowed and can't be posted. After a fault they answer `Closed`, and
+/// `refuse` works as long as no byte of an answer was written.
 #[derive(Drop)]
 pub struct Exchange {
     pub(crate) pipe: Pipe,
@@ -35,7 +36,7 @@ pub struct Exchange {
 impl Exchange {
     ghost use Rattle.relay_http.specs.States.{IsFresh};
 
-    /// An exchange that makes at most so many reads and writes. It takes 84 KiB, once for its life.
+    /// Makes an exchange that makes at most this number of reads and writes. It takes 84 KiB, once for its life.
     pub fn new(alloc: Global, turns: u64) -> Result<Exchange, AllocError>
         ensures { IfOk result (IsFresh turns) }
     {
@@ -48,7 +49,7 @@ impl Exchange {
         })
     }
 
-    /// Makes it as `new` did, without memory: for the next client.
+    /// Makes it new for the next client, without allocating.
     pub fn renew(&mut self)
         ensures { IsFresh self.old.most self.new }
     {
@@ -57,7 +58,8 @@ impl Exchange {
         self.begun = false;
     }
 
-    /// The bytes that were read and aren't used yet: behind a request's head, those of its body that came with it.
+    /// Returns the bytes that were read and aren't used yet: after a request's head, those of its
+    /// body that came with it.
     pub fn held(&self) -> &[u8]
         ensures value { result.now ≡ self.now.pipe.inbox }
         ensures small { length self.now.pipe.inbox ≤ INBOX_BYTES }
@@ -65,7 +67,7 @@ impl Exchange {
         self.pipe.held()
     }
 
-    /// Makes a new exchange one whose request was read elsewhere, and which holds what came behind its head. `O(n)`.
+    /// Continues in this new exchange a request that was read elsewhere, with the bytes after its head. `O(n)`.
     pub fn take_up(&mut self, bytes: &[u8])
         requires fresh { IsFresh self.old.most self.old }
         requires few { length bytes.now ≤ INBOX_BYTES }
@@ -79,28 +81,28 @@ impl Exchange {
         self.stage = Stage::Asked;
     }
 
-    /// Whether a byte of an answer went to the client.
+    /// Says whether a byte of an answer was written to the client.
     pub fn begun(&self) -> bool
         ensures { result ≡ self.now.begun }
     {
         self.begun
     }
 
-    /// How far it is.
+    /// Returns the stage.
     pub fn stage(&self) -> Stage
         ensures { result ≡ self.now.stage }
     {
         self.stage
     }
 
-    /// How many reads and writes it may still make.
+    /// Returns the number of reads and writes that it may still make.
     pub fn turns(&self) -> u64
         ensures { result ≡ self.now.pipe.turns }
     {
         self.pipe.turns()
     }
 
-    /// Whether a fault closed it. Until it is renewed, every call but `refuse` then answers `Closed`.
+    /// Says whether a fault closed it. Until it is renewed, every call except `refuse` answers `Closed` then.
     pub fn is_closed(&self) -> bool
         ensures { IsTrue result ↔ (self.now.stage ≡ Stage.Failed) }
     {

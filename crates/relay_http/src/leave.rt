@@ -10,7 +10,7 @@ use counted_io::Sink;
 use http_texts::{Fault, given_leave};
 use req_view::View;
 
-/// Tells a client that waits for it that it may send the body.
+/// Sends the `100` to a client that waits for it before it sends its body.
 pub(crate) fn give_leave<K: Sink>(pipe: &mut Pipe, view: &View, sink: &mut K) -> Result<(), Fault>
     requires empty { pipe.old.outbox ≡ [] }
     requires countable { (K.stream sink.old).calls + pipe.old.turns < 2 ^ 64 }

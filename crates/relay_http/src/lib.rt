@@ -1,4 +1,4 @@
-//! Messages handed on: from the bytes of a client to those of a server, and back.
+//! Blocking calls that hand messages on: from a client's bytes to a server's, and back.
 #![tactic(auto)]
 
 mod aside;

@@ -20,7 +20,7 @@ use relay_body::{Fault as BodyFault, Framing};
 use req_view::{AnswerHead, View};
 use std::alloc::Global;
 
-/// An answer's head, and what is done with it.
+/// An answer's head, and the plan for its body.
 #[derive(Drop)]
 pub(crate) struct Planned {
     head: AnswerHead,
@@ -55,7 +55,7 @@ pub(crate) fn pass_request<S: Source, K: Sink>(
     Ok(())
 }
 
-/// Hands on the answer to a request, with the heads before it, and writes all of it.
+/// Hands on the answer to a request, with its interim heads, and writes all of it.
 pub(crate) fn pass_answer<S: Source, K: Sink>(
     pipe: &mut Pipe,
     alloc: Global,
@@ -110,7 +110,7 @@ fn pass_planned<S: Source, K: Sink>(
     Ok(())
 }
 
-// Reads the answer's head, and hands on those before it.
+// Reads the answer's head, and hands on the interim heads before it.
 fn read_answer<S: Source, K: Sink>(
     pipe: &mut Pipe,
     alloc: Global,
@@ -152,7 +152,8 @@ fn read_answer<S: Source, K: Sink>(
     }
 }
 
-// Takes the head, of which so nothing is left at the exits of the loop that calls it: they are proved faster.
+// Takes the head by value, so that nothing of it is left at the exits of the caller's loop: these
+// are proved faster.
 fn pass_before<K: Sink>(
     pipe: &mut Pipe,
     sink: &mut K,

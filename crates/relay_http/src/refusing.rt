@@ -11,7 +11,7 @@ use http_texts::{Code, Fault};
 use relay_body::Fault as BodyFault;
 
 impl Exchange {
-    /// `refuse` to a sink that counts.
+    /// `refuse` with a counting sink.
     pub fn refuse_to<K: Sink>(&mut self, code: Code, sink: &mut K) -> Result<(), Fault>
         requires unbegun { self.old.begun ≡ false }
         requires countable { (K.stream sink.old).calls + length (refusal_text code) < 2 ^ 64 }
@@ -25,7 +25,7 @@ impl Exchange {
         ensures marks { Marks (K.stream sink.old) (K.stream sink.new) self.old.begun self.new.begun }
     {
         let text = code.text();
-        // as many turns as bytes, of which each write takes one or more: where they end, the text is written
+        // As many turns as bytes, of which each write takes one or more: when the turns end, the text is written.
         self.pipe.renew(text.len() as u64);
         let before = sink.successes();
         let result = send_text(&mut self.pipe, sink, text);

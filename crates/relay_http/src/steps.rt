@@ -25,7 +25,7 @@ use req_view::View;
 use std::alloc::Global;
 
 impl Exchange {
-    /// `read_request` from a source that counts.
+    /// `read_request` with a counting source.
     pub fn read_request_from<S: Source>(
         &mut self,
         alloc: Global,
@@ -63,7 +63,7 @@ impl Exchange {
         }
     }
 
-    /// `go_on` to a sink that counts.
+    /// `go_on` with a counting sink.
     pub fn go_on_to<K: Sink>(&mut self, view: &View, sink: &mut K) -> Result<(), Fault>
         requires ready { IsAt Stage.Asked self.old }
         requires countable { (K.stream sink.old).calls + self.old.pipe.turns < 2 ^ 64 }
@@ -94,7 +94,7 @@ impl Exchange {
         }
     }
 
-    /// `forward` between a source and a sink that count. The exchange keeps the pass's ticket and verdict.
+    /// `forward` between a counting source and a counting sink. The exchange keeps the pass's ticket and verdict.
     pub fn forward_between<S: Source, K: Sink>(
         &mut self,
         pass: &Pass,
@@ -139,7 +139,7 @@ impl Exchange {
         }
     }
 
-    /// `answer` between a source and a sink that count. What the client sent past its request isn't used.
+    /// `answer` between a counting source and a counting sink. What the client sent after its request isn't used.
     pub fn answer_between<S: Source, K: Sink>(
         &mut self,
         alloc: Global,
@@ -202,7 +202,7 @@ pub(crate) fn has_begun(begun: bool, before: u64, after: u64) -> bool
     begun || before < after
 }
 
-// The stage of an exchange whose request was handed on, on this pass.
+// Returns the stage of an exchange whose request was handed on under this pass.
 fn forwarded_on(pass: &Pass) -> Stage
     ensures { result ≡ states.forwarded_on pass.now }
 {

@@ -1,14 +1,14 @@
--- What is left of the seats when loops have ended.
+-- The seats that are left when the loops have ended.
 use Rattle.std.specs.Prelude.{◌≡◌, ◌+◌, ⊤, Result, Ok, Err}
 use Rattle.grant_board.specs.RelayCalls.{Relay}
 use Rattle.relay_loops.specs.declared.serving.LoopsFault.{LoopsFault}
 use Rattle.relay_loops.specs.declared.serving.LoopsFault.TheVariants.{NoMemory, SeatsLost}
 
--- as many seats were joined to the first as were split off it
+-- as many seats were joined to the first one as were split off it
 abbrev pub AreJoined : Relay → Relay → Type 0
 AreJoined before now = now.view.split + before.view.joined ≡ now.view.joined + before.view.split
 
--- each came back, unless one is said to be lost
+-- each seat came back, unless one is reported as lost
 abbrev pub ReturnsSeats : Result (Unit {0}) LoopsFault → Relay → Relay → Type 0
 ReturnsSeats (Ok done) before now = AreJoined before now
 ReturnsSeats (Err NoMemory) before now = AreJoined before now

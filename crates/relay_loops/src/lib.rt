@@ -6,5 +6,5 @@ mod serving;
 
 pub use serving::{LoopsFault, SeatSource, serve};
 
-// Who makes a `Site` makes one of these.
+// Whoever makes a `Site` makes one of these.
 pub use event_loops::Proxy;

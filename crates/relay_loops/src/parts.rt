@@ -12,7 +12,8 @@ use std::alloc::AllocError;
 use std::net::{Net, TcpListener, TcpStream};
 use std::sync::ledger::Ledger;
 
-/// What the threads of a proxy share, and its loops, with its listener in each loop's poll. Fails where the system has no poll, too.
+/// Makes the state that the threads of a proxy share, and its loops, with its listener in each
+/// loop's poll. Fails where memory is refused, or the system refuses a poll.
 pub(crate) fn parts_of<R: Net<Listener = TcpListener, Stream = TcpStream>, N: BoardName + Ledger>(
     rt: &R,
     proxy: &Proxy<N>,

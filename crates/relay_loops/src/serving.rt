@@ -14,25 +14,26 @@ use std::sync::ledger::{Blank, Ledger};
 use std::thread::Threads;
 use std::time::Clock;
 
-/// What the seats of places and threads come from.
+/// The source of the seats of places and threads.
 #[derive(Drop)]
 pub struct SeatSource {
-    /// The board's first seat, which the others are split off.
+    /// The board's first seat, from which the others are split off.
     pub first: RelaySeat,
-    /// What is accounted of them on: nothing so far.
+    /// The blank on which they are accounted for.
     pub ledger: Blank,
 }
 
 /// Why loops ended while clients still came, or what was missing when they had ended.
 #[derive(Clone, Copy, Debug, PartialEq, Eq)]
 pub enum LoopsFault {
-    /// Memory was refused, a poll, or a thread.
+    /// The system refused memory, a poll, or a thread.
     NoMemory,
-    /// A seat was still lent, which no path is known to do.
+    /// A seat was still lent at the end; no path is known to that.
     SeatsLost,
 }
 
-/// Serves until as many clients as may come were served. Each place and each thread has a seat split off the first, which is joined again.
+/// Serves until as many clients as may come were served. Each place and each thread gets a seat
+/// that is split off the first one, and joined again.
 pub fn serve<
     'a,
     R: Net<Listener = TcpListener, Stream = TcpStream> + Clock + Print + Threads + Wait + Sync,

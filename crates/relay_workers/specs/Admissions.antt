@@ -15,7 +15,7 @@ use Rattle.proxy_config.specs.declared.parts.Config.{Config}
 use Rattle.relay_workers.specs.Boards.{IsBoardOf}
 use Rattle.req_view.specs.Request.{Request}
 
--- a request arrived at some moment, in the class, with the offset and bound to the server that were wished for it
+-- a request arrived at some moment with this wish: its class, its offset and its pin
 abbrev pub ArrivesAs : Wish → Ticketed → Terms → Type 0
 ArrivesAs wished it terms =
     (moment : ℕ) × SomeStep terms (λ old new. AddsEvent old.history new.history (Arrive (effective old.history moment) (record {
@@ -26,20 +26,21 @@ ArrivesAs wished it terms =
       place = it.place;
     })))
 
--- it has a place of the board's and did so
+-- it has a place of the board and arrived so
 pub record IsAdmittedAs (terms : Terms) (wished : Wish) (it : Ticketed) : Type 0 where
   pub place : it.place < terms.places
   pub arrives : ArrivesAs wished it terms
 
--- as the rules wish for it, at a board of the configuration whose rules they are
+-- the same with the wish of the rules, at a board of the configuration whose rules they are
 abbrev pub IsAdmitted : Terms → Config → Request → Ticketed → Type 0
 IsAdmitted terms config request it = IsBoardOf config terms × IsAdmittedAs terms (wish config request) it
 
--- it was, by some configuration
+-- the same by some configuration
 abbrev pub IsRequestAt : Terms → Request → Ticketed → Type 0
 IsRequestAt terms request it = ∥ ((config : Config) × IsAdmitted terms config request it) ∥₁
 
--- a request that waited elsewhere arrived at some moment with the due date that it had, or the nearest that there was at that moment
+-- a request that waited elsewhere arrived at some moment with its old due date, or the nearest one
+-- that was possible at that moment
 abbrev pub ArrivesLate : Deferred → Ticketed → Terms → Type 0
 ArrivesLate deferred it terms =
     (moment : ℕ) × SomeStep terms (λ old new. AddsEvent old.history new.history (Arrive (effective old.history moment) (record {
@@ -50,15 +51,15 @@ ArrivesLate deferred it terms =
       place = it.place;
     })))
 
--- it has a place of the board's and did so
+-- it has a place of the board and arrived so
 pub record IsAdmittedLate (terms : Terms) (deferred : Deferred) (it : Ticketed) : Type 0 where
   pub place : it.place < terms.places
   pub arrives : ArrivesLate deferred it terms
 
--- some state that the lock may hold refuses an arrival with this pin for this, or there was no memory
+-- in some state that the lock may hold an arrival with this pin is refused for this cause, or there was no memory
 abbrev pub IsRefusedFor : Terms → Option ℕ → Refusal → Type 0
 IsRefusedFor terms pin refusal = SomeHeld terms (λ held. RefusedOrNoMemory (refuses_arrival held.history pin) refusal)
 
--- the same with the pin that the rules wish, at a board of the configuration whose rules they are
+-- the same with the pin of the rules, at a board of the configuration whose rules they are
 abbrev pub IsTurnedAway : Terms → Config → Request → Refusal → Type 0
 IsTurnedAway terms config request refusal = IsBoardOf config terms × IsRefusedFor terms (wish config request).pin refusal

@@ -2,7 +2,8 @@
 use Rattle.std.specs.Prelude.{◌≡◌, ℕ, ◌+◌, []}
 use Rattle.grant_board.specs.RelayCalls.{Relay}
 
--- the first seat, without a pass before as after: of the seats that it split off and didn't join there were so many, and there are so many
+-- the first seat, without a pass both times: the number of seats that it split off and hasn't
+-- joined was `out`, and is `out_now`
 pub record IsLent (old new : Relay) (out out_now : ℕ) : Type 0 where
   pub board : new.board ≡ old.board
   pub terms : new.view.terms ≡ old.view.terms

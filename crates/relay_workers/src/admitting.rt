@@ -23,7 +23,7 @@ use std::io::{Read, Write};
 use std::marker::PhantomData;
 use std::sync::Wait;
 
-/// A client whose request arrived at the board that N names.
+/// A client whose request has arrived at the board that N names.
 #[derive(Drop)]
 pub struct Admitted<N: BoardName, C: Read + Write + Drop> {
     pub client: C,
@@ -34,11 +34,12 @@ pub struct Admitted<N: BoardName, C: Read + Write + Drop> {
     pub ghost arrived: { IsRequestAt N.terms view at },
 }
 
-/// From a client to a place: its request's head is read, and it arrives as the rules wish. Where it doesn't, the client is told so, and its connection is
-/// closed.
+/// From a client to a place: reads the request's head, and lets the request arrive as the rules
+/// wish. Where that fails, the client is told so, and its connection is closed.
 ///
-/// Refused with 400 where the head is none that is taken, and with 503 where there is no memory, or the dispatcher refuses: all places are taken, the log is
-/// full, or the tickets are spent.
+/// Refused with 400 where the head isn't one that the proxy accepts, and with 503 where there is no
+/// memory, or the dispatcher refuses: all places are taken, the log is full, or the tickets are
+/// spent.
 pub fn admit<R: Wait, N: BoardName, G: Gate + Drop>(
     rt: &R,
     proxy: &Proxy<N>,
@@ -74,8 +75,9 @@ pub fn admit<R: Wait, N: BoardName, G: Gate + Drop>(
     }
 }
 
-/// The request with this head arrives as the rules wish. Refused as the dispatcher's `arrive`, where the log is full only if there is no memory for the reports of its
-/// window, or the next window is full as well.
+/// Lets the request with this head arrive as the rules wish. Refused as the dispatcher's `arrive`
+/// is; where the log is full only if there is no memory for the reports of its window, or the next
+/// window is full as well.
 pub fn arrive<R: Wait, N: BoardName, G: Gate>(
     rt: &R,
     proxy: &Proxy<N>,
@@ -91,7 +93,7 @@ pub fn arrive<R: Wait, N: BoardName, G: Gate>(
     arrive_as(rt, proxy, gate, &wish)
 }
 
-/// A request arrives with what was decided for it. Refused as `arrive`.
+/// Lets a request arrive with this wish. Refused as `arrive` is.
 pub fn arrive_as<R: Wait, N: BoardName, G: Gate>(
     rt: &R,
     proxy: &Proxy<N>,
@@ -117,7 +119,8 @@ pub fn arrive_as<R: Wait, N: BoardName, G: Gate>(
     arrived
 }
 
-/// A request that waited elsewhere arrives: its due date stays, or is the nearest that an arrival may have now. Refused as `arrive`.
+/// Lets a request arrive that waited elsewhere: it keeps its due date, or gets the nearest one that
+/// an arrival may have now. Refused as `arrive` is.
 pub fn arrive_late<R: Wait, N: BoardName, G: Gate>(
     rt: &R,
     proxy: &Proxy<N>,
@@ -138,7 +141,7 @@ pub fn arrive_late<R: Wait, N: BoardName, G: Gate>(
     arrived
 }
 
-/// Tells a client what it is refused with, where it is refused.
+/// Sends a client its refusal, where it is refused.
 pub(crate) fn tell<W: Write>(exchange: &mut Exchange, client: &mut W, outcome: Outcome) -> Outcome
     requires begun { exchange.old.begun ≡ false }
     requires unanswered { (outcome ≢ Answered) × (exchange.old.stage ≢ stage.Answered) }
@@ -147,7 +150,7 @@ pub(crate) fn tell<W: Write>(exchange: &mut Exchange, client: &mut W, outcome: O
     ensures most { exchange.new.most ≡ exchange.old.most }
 {
     if let Outcome::Refused(code) = outcome {
-        // Where the client is gone, nobody is told.
+        // A client that has left is told nothing.
         let _ = exchange.refuse(code, client);
     }
     outcome

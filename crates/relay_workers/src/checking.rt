@@ -7,8 +7,9 @@ use std::sync::atomic::{AtomicBool, Ordering};
 
 const MOST_SERVERS: usize = 64;
 
-/// Has each server with `check` checked, at once and then whenever its `inter` has passed since its last check was over, and tells the dispatcher. It ends when it is told to
-/// stop, or its pauses are spent. It takes no memory.
+/// Checks each server with `check`, at once and then each time its `inter` has passed since its
+/// last check ended, and tells the dispatcher. It ends when it is told to stop, or its pauses are
+/// spent. It allocates nothing.
 pub fn checker<R: Wait, N: BoardName, G: Gate, P: Pause>(
     rt: &R,
     proxy: &Proxy<N>,
@@ -29,7 +30,7 @@ pub fn checker<R: Wait, N: BoardName, G: Gate, P: Pause>(
     }
 }
 
-// One look at each server whose check is due.
+// Looks once at each server whose check is due.
 fn check_each<R: Wait, N: BoardName, G: Gate>(
     rt: &R,
     proxy: &Proxy<N>,
@@ -52,7 +53,7 @@ fn check_each<R: Wait, N: BoardName, G: Gate>(
     }
 }
 
-// So many milliseconds later, or the last moment that there is.
+// Returns a moment this number of milliseconds later, or the last moment.
 fn after(moment: Moment, millis: u64) -> Moment {
     let last = (1 << 62) - 1;
     match Moment::new(moment.get().saturating_add(millis).min(last)) {

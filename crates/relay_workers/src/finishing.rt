@@ -22,10 +22,12 @@ use std::io::{Read, Write};
 use std::sync::Wait;
 use verdict::{Ending, Verdict};
 
-/// From a pass to the answer: the request is handed to the server of the pass and its answer to the client, the pass is posted, and a turn hands the slot on. A
-/// client that was told why it has no slot gets 503, or nothing where it gave up.
+/// From a pass to the answer: hands the request to the server of the pass and its answer to the
+/// client, posts the pass, and makes a turn, which hands the slot on. A client whose request was
+/// told why it has no slot gets 503, or nothing where it gave up.
 ///
-/// `Err` where there is no connection to the server: the request waits anew, and may be tried again. `Ok` is the end of the exchange.
+/// `Err` where there is no connection to the server: the request waits again, and may be retried.
+/// `Ok` is the end of the exchange.
 pub fn finish<R: Wait, N: BoardName, G: Gate + Drop>(
     rt: &R,
     proxy: &Proxy<N>,
@@ -58,7 +60,7 @@ pub fn finish<R: Wait, N: BoardName, G: Gate + Drop>(
     carried.ok_or(admitted)
 }
 
-// What a pass asks for is done. None where there is no connection to its server.
+// Does what a pass asks for. `None` where there is no connection to its server.
 fn carry<N: BoardName, G: Gate + Drop>(
     alloc: Global,
     seat: &RelaySeat,
@@ -90,7 +92,7 @@ fn carry<N: BoardName, G: Gate + Drop>(
     }
 }
 
-// The request of a slot goes to the server, and the answer comes back.
+// Sends the request of a slot to the server, and hands its answer back.
 fn hand_on<N: BoardName, C: Read + Write, S: Read + Write>(
     alloc: Global,
     slot: &Slot<'_, N>,

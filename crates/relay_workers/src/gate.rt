@@ -9,30 +9,32 @@ use place_set::PlaceSet;
 use reporting_core::Window;
 use std::io::{Read, Write};
 
-/// Where a thread's clients, connections and moments come from. Each thread has one of its own.
+/// The source of a thread's clients, connections and moments. Each thread has its own.
 pub trait Gate {
     type Client: Read + Write + Drop + Send;
 
     type Server: Read + Write + Drop + Send;
 
-    /// The next client. None: no more come to this thread. It may wait as long as it likes.
+    /// Returns the next client; `None` where no more come to this thread. It may wait without limit.
     fn next(&mut self) -> Option<Self::Client>;
 
-    /// A connection to the server of a slot. None: there is none, and the request is tried again or elsewhere.
+    /// Returns a connection to the server of a slot; `None` where there is none, and the request is
+    /// retried there or elsewhere.
     fn connect<N: BoardName>(&mut self, slot: &Slot<'_, N>) -> Option<Self::Server>;
 
-    /// Looks at a check of a server by its number, and begins one where none runs. None: it isn't over yet. It doesn't wait, so that no
-    /// server's checks are delayed by another's.
+    /// Looks at the check of a server, and begins one where none runs; `None` where it isn't over
+    /// yet. It doesn't wait, so no server's checks delay another's.
     fn probe(&mut self, server: usize) -> Option<bool>;
 
-    /// Whether a client that waits is gone. What it sent meanwhile is still to be read from it.
+    /// Says whether a client that waits has left. What it sent meanwhile can still be read.
     fn gone(&mut self, client: &mut Self::Client) -> bool;
 
-    /// The present moment.
+    /// Returns the present moment.
     fn moment(&mut self) -> Moment;
 
-    /// Takes what is told of a window that ended, since the log was full or its time was over. Each goes to the gate of one thread, and they may come to the gates in another
-    /// order than the one in which they ended.
+    /// Takes what is told of a window that ended, because the log was full or its time was over.
+    /// Each window goes to the gate of one thread, and they may come to the gates in another order
+    /// than they ended.
     fn window(&mut self, window: Window)
         requires { HasEnded window };
 
@@ -40,19 +42,19 @@ pub trait Gate {
     fn wake(&mut self, places: &PlaceSet);
 }
 
-/// How often a thread may pause.
+/// A bound on the pauses of a thread.
 pub trait Pause {
-    /// So many pauses after each beginning.
+    /// The number of pauses after each beginning.
     ghost most: { Self → ℕ };
 
-    /// So many are left.
+    /// The number of pauses that are left.
     ghost left: { Self → ℕ };
 
-    /// Begins anew.
+    /// Begins to count anew.
     fn begin(&mut self)
         ensures { left self.new ≡ most self.old };
 
-    /// Pauses; false, and no pause, where none is left.
+    /// Pauses; returns false, without a pause, where none is left.
     fn turn(&mut self) -> bool
         ensures more { OnTrue result (left self.new < left self.old) }
         ensures spent { OnFalse result ((left self.old ≡ 0) × (left self.new ≡ 0)) };

@@ -8,7 +8,7 @@ use crate::proxy::Proxy;
 use grant_board::{BoardName, RelaySeat};
 use pass_seat::Idle;
 
-/// So many seats more. False where the list finds no memory for one.
+/// Splits off this number of seats. False where there is no memory for one.
 pub fn split_off<N: BoardName>(
     proxy: &Proxy<N>,
     first: &mut RelaySeat,
@@ -30,7 +30,7 @@ pub fn split_off<N: BoardName>(
     true
 }
 
-/// All seats come back.
+/// Joins all seats again.
 pub fn join_all<N: BoardName>(proxy: &Proxy<N>, first: &mut RelaySeat, seats: Vec<Idle<N>>)
     requires named { (first.old.board ≡ N.board) × (first.old.view.terms ≡ N.terms) }
     requires first { first.old.view.first ≡ true }

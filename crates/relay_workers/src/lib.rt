@@ -1,7 +1,9 @@
-//! What the threads of a proxy do: with a client, from its request to the end of its answer, and with its servers, which they check.
+//! The work of a proxy's threads: with a client, from its request to the end of its answer, and
+//! with its servers, which they check.
 //!
-//! A client is served in three parts: `admit`, from a client to a place and a ticket; `wait`, from there to a pass; `finish`, from a pass to the answer,
-//! after which the pass is posted. Where clients, connections and moments come from is a `Gate`'s matter, how long a wait may be a `Pause`'s.
+//! A client is served in three parts: `admit`, from a client to a place and a ticket; `wait`, from
+//! there to a pass; `finish`, from a pass to the answer, after which the pass is posted. A `Gate`
+//! supplies clients, connections and moments, and a `Pause` limits the waits.
 #![tactic(auto)]
 
 mod admitting;

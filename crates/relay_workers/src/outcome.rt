@@ -5,19 +5,19 @@ ghost use Rattle.relay_workers.specs.declared.outcome.Outcome.TheVariants.{Answe
 use relay_http::{Code, Fault};
 use verdict::Cause;
 
-/// What became of a client.
+/// The outcome for a client.
 #[derive(Clone, Copy, Debug, PartialEq, Eq)]
 pub enum Outcome {
     /// A server's answer was handed on whole.
     Answered,
-    /// It was told this in place of an answer, if it was still there.
+    /// It was sent this refusal in place of an answer, if it was still there.
     Refused(Code),
-    /// It was told nothing: it is gone, or has a part of an answer.
+    /// It was told nothing: it has left, or has a part of an answer.
     Cut,
 }
 
 impl Outcome {
-    /// Of a client whose request's head wasn't read.
+    /// Returns the outcome for a client whose request's head wasn't read.
     pub fn after_reading(fault: Fault) -> Outcome
         ensures outcome { result ≡ outcomes.after_reading fault }
         ensures unanswered { result ≢ Answered }
@@ -29,7 +29,7 @@ impl Outcome {
         }
     }
 
-    /// Of one whose request wasn't handed on.
+    /// Returns the outcome for a client whose request wasn't handed on.
     pub fn after_forwarding(fault: Fault) -> Outcome
         ensures outcome { result ≡ outcomes.after_forwarding fault }
         ensures unanswered { result ≢ Answered }
@@ -43,7 +43,7 @@ impl Outcome {
         }
     }
 
-    /// Of one whose answer didn't begin.
+    /// Returns the outcome for a client whose answer didn't begin.
     pub fn after_answering(fault: Fault) -> Outcome
         ensures outcome { result ≡ outcomes.after_answering fault }
         ensures unanswered { result ≢ Answered }
@@ -57,7 +57,7 @@ impl Outcome {
         }
     }
 
-    /// Of one that was told why it has no slot.
+    /// Returns the outcome for a client whose request was told why it has no slot.
     pub fn after_telling(cause: Cause) -> Outcome
         ensures outcome { result ≡ outcomes.after_telling cause }
         ensures unanswered { result ≢ Answered }

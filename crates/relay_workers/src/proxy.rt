@@ -23,8 +23,8 @@ use std::alloc::Global;
 use std::marker::PhantomData;
 use std::sync::Wait;
 
-/// What all threads of a proxy share: its dispatcher and its configuration, and where their memory comes from. The board is one of the configuration's, and
-/// `new` alone makes one.
+/// What all threads of a proxy share: its dispatcher, its configuration, and the allocator. The
+/// board is one of the configuration's, which `new` ensures.
 #[derive(Drop)]
 pub struct Proxy<N: BoardName> {
     pub alloc: Global,
@@ -35,14 +35,14 @@ pub struct Proxy<N: BoardName> {
     pub ghost sound: { ∥ IsSoundConfig config ∥₁ },
 }
 
-/// What hands messages on: a gate, and one exchange for all its clients, one after the other.
+/// The means to hand messages on: a gate, and one exchange for all its clients, one after the other.
 #[derive(Drop)]
 pub struct Runner<G: Gate + Drop> {
     pub gate: G,
     pub exchange: Exchange,
 }
 
-/// What a worker works with: a runner, and the pauses of its waits.
+/// The means of a worker: a runner, and the pauses of its waits.
 #[derive(Drop)]
 pub struct Hand<G: Gate + Drop, P: Pause + Drop> {
     pub runner: Runner<G>,
@@ -50,8 +50,8 @@ pub struct Hand<G: Gate + Drop, P: Pause + Drop> {
 }
 
 impl<N: BoardName> Proxy<N> {
-    /// A proxy of a configuration that was accepted, over a dispatcher that has done nothing and is set up as the configuration asks, and a board that was opened
-    /// for it.
+    /// Makes a proxy of an accepted configuration, over a fresh dispatcher with the configuration's
+    /// setup, and a board that was opened for it.
     pub fn new(
         alloc: Global,
         config: Config,
@@ -77,7 +77,8 @@ impl<N: BoardName> Proxy<N> {
         }
     }
 
-    /// A turn of the desk: it looks at each place that is out. One that is refused is as one that found nothing.
+    /// Makes a turn of the desk, which looks at each place that is out. A refused turn counts as
+    /// one that found nothing.
     pub fn turn<R: Wait, G: Gate>(&self, rt: &R, gate: &mut G) {
         let moment = gate.moment();
         let _ = self.with_room(rt, gate, || {
@@ -86,7 +87,8 @@ impl<N: BoardName> Proxy<N> {
         });
     }
 
-    /// What was posted at one place is taken, without a look at any other. Where it is refused it stays on the board, for a turn.
+    /// Collects what was posted at one place, without a look at any other. Where that is refused it
+    /// stays on the board for a turn.
     pub fn collect<R: Wait, G: Gate>(&self, rt: &R, gate: &mut G, place: usize)
         requires in_range { place < N.terms.places }
     {
@@ -103,7 +105,7 @@ impl<N: BoardName> Proxy<N> {
         );
     }
 
-    // A check of a server is over. A result that the dispatcher refuses is dropped.
+    // Reports the result of a server's check. A result that the dispatcher refuses is dropped.
     pub(crate) fn note_check<R: Wait, G: Gate>(
         &self,
         rt: &R,
@@ -118,7 +120,7 @@ impl<N: BoardName> Proxy<N> {
         });
     }
 
-    /// A request that waits is given up. Where that is refused, it has its verdict.
+    /// Gives up a request that waits. Where that is refused, it has its verdict.
     pub fn give_up<R: Wait, G: Gate>(&self, rt: &R, gate: &mut G, ticket: u64) {
         let moment = gate.moment();
         let _ = self.with_room(rt, gate, || {
@@ -127,7 +129,7 @@ impl<N: BoardName> Proxy<N> {
         });
     }
 
-    /// A server takes so many from now on. Refused as the dispatcher's `limit`.
+    /// Sets how many requests a server takes. Refused as the dispatcher's `limit` is.
     pub fn limit<R: Wait, G: Gate>(
         &self,
         rt: &R,
@@ -147,15 +149,16 @@ impl<N: BoardName> Proxy<N> {
         set
     }
 
-    /// The present window ends now, and the gate has it. Where there is no memory for that, the window goes on.
+    /// Ends the present window, which the gate takes. Where there is no memory for that, the window goes on.
     pub fn end_window<R: Wait, G: Gate>(&self, rt: &R, gate: &mut G) {
         if let Ok(window) = self.desk.roll(rt, self.alloc) {
             gate.window(window);
         }
     }
 
-    // A call of the desk, and the gate is told at which places it offered. Where the log is full the next window begins, the gate has the one that ended, and
-    // the call is made once more; where there is no memory for that, it stays refused.
+    // Makes a call of the desk, and tells the gate at which places it offered verdicts. Where the
+    // log is full the next window begins, the gate takes the one that ended, and the call is made
+    // once more; where there is no memory for that, it stays refused.
     pub(crate) fn with_room<R: Wait, G: Gate, T: Drop, F: Fn() -> (Result<T, Refusal>, PlaceSet)>(
         &self,
         rt: &R,

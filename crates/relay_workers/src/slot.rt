@@ -8,8 +8,8 @@ use grant_board::{BoardName, Pass, RelaySeat};
 use req_view::View;
 use std::marker::PhantomData;
 
-/// A slot of a server, as whoever connects to it is lent it: a pass that a seat of the board that N names has, the only one that it has, and the request whose
-/// pass it is.
+/// A slot of a server, as it is lent to whoever connects to that server: the only pass of a seat of
+/// the board that N names, and the request of the pass.
 #[derive(Drop)]
 pub struct Slot<'a, N: BoardName> {
     seat: &'a RelaySeat,
@@ -26,7 +26,7 @@ pub struct Slot<'a, N: BoardName> {
 }
 
 impl<'a, N: BoardName> Slot<'a, N> {
-    /// The slot of this server that a seat's pass gives to a request.
+    /// Makes the slot of this server that a seat's pass gives to a request.
     pub fn new(
         seat: &'a RelaySeat,
         pass: &'a Pass,
@@ -52,21 +52,21 @@ impl<'a, N: BoardName> Slot<'a, N> {
         }
     }
 
-    /// Its server.
+    /// Returns its server.
     pub fn server(&self) -> usize
         ensures { self.now.pass.now.verdict ≡ Serve result }
     {
         self.server
     }
 
-    /// The ticket of its request.
+    /// Returns the ticket of its request.
     pub fn ticket(&self) -> u64
         ensures { result ≡ self.now.pass.now.ticket }
     {
         self.pass.ticket()
     }
 
-    /// The pass, and the head of its request.
+    /// Returns the pass, and the head of its request.
     pub(crate) fn parts(&self) -> (&Pass, &View)
         ensures same { (result.0.now ≡ self.now.pass.now) × (result.1.now ≡ self.now.view.now) }
         ensures serves { Serves result.0.now.verdict }

@@ -1,15 +1,15 @@
 use thiserror::Error;
 
-/// Reads and writes that one exchange may make.
+/// The most reads and writes of one exchange.
 pub const TURNS: u64 = 1_000_000_000;
 
 /// Why a worker ended while clients still came.
 #[derive(Clone, Copy, Debug, PartialEq, Eq, Error)]
 pub enum Stopped {
-    /// Its exchange found no memory, or there was none to start a thread with.
+    /// Memory for its exchange or for a thread was refused.
     #[error("no memory")]
     NoMemory,
-    /// All pauses of a wait were made, and no pass came even then.
+    /// All pauses of a wait were spent, and no pass came.
     #[error("turns spent")]
     PausesSpent,
 }

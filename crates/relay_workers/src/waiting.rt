@@ -8,7 +8,7 @@ use grant_board::{BoardName, Pass, RelaySeat, Taking};
 use std::io::{Read, Write};
 use std::sync::Wait;
 
-/// A client whose request has its pass. It has no `Drop`: the pass is posted.
+/// A client whose request has its pass. It has no `Drop`: the pass has to be posted.
 pub struct Granted<N: BoardName, C: Read + Write + Drop> {
     pub admitted: Admitted<N, C>,
     pub pass: Pass,
@@ -17,7 +17,7 @@ pub struct Granted<N: BoardName, C: Read + Write + Drop> {
 }
 
 impl<N: BoardName, C: Read + Write + Drop> Granted<N, C> {
-    // A client with the pass of its request's place and ticket.
+    // Joins a client and the pass of its request's place and ticket.
     fn new(admitted: Admitted<N, C>, pass: Pass) -> Granted<N, C>
         requires { (pass.place ≡ admitted.at.place) × (pass.ticket ≡ admitted.at.ticket) }
         ensures { (result.admitted ≡ admitted) × (result.pass ≡ pass) }
@@ -26,10 +26,11 @@ impl<N: BoardName, C: Read + Write + Drop> Granted<N, C> {
     }
 }
 
-/// From a place to a pass: tries to take it, and between two tries asks whether the client is gone, pauses, and turns. A request whose client
-/// is gone, or whose pauses are spent, is given up; where that is refused its pass is there, and is taken as any.
+/// From a place to a pass: tries to take it, and between two tries asks whether the client has
+/// left, pauses, and makes a turn. A request whose client has left, or whose pauses are spent, is
+/// given up; where that is refused its pass is there, and is taken.
 ///
-/// None where all pauses were made and no pass is there even then: the place stays busy.
+/// `None` where all pauses were spent and no pass is there even then: the place stays occupied.
 pub fn wait<R: Wait, N: BoardName, G: Gate + Drop, P: Pause + Drop>(
     rt: &R,
     proxy: &Proxy<N>,
@@ -73,7 +74,7 @@ pub fn wait<R: Wait, N: BoardName, G: Gate + Drop, P: Pause + Drop>(
     unreachable!()
 }
 
-// Whether a client that waits is gone.
+// Says whether a client that waits has left.
 fn is_gone<N: BoardName, G: Gate>(gate: &mut G, admitted: &mut Admitted<N, G::Client>) -> bool
     ensures { (admitted.new.at ≡ admitted.old.at) × (admitted.new.view ≡ admitted.old.view) }
 {

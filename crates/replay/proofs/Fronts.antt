@@ -6,7 +6,7 @@ use Rattle.std.proofs.KnownBytes.{Appends-trans}
 use Rattle.std.specs.Io.KnownBytes.{Appends}
 use Rattle.replay.specs.Transfers.{WritesFront}
 
--- so many more bytes of what is left
+-- this many more bytes of the rest
 pub front_more : (text : List ℕ) (at count : ℕ) → count ≤ length text - at
     → take at text ++ take count (take (length text - at) (drop at text)) ≡ take (at + count) text
 front_more text at count within = ap (λ (l : List ℕ). take at text ++ l) (take-take count (length text - at) (drop at text) within)

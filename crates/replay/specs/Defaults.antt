@@ -13,16 +13,16 @@ default_servers = record { limit = 1; maxqueue = 0; weight = 1; rise_fall = None
 abbrev pub default_names : List (List ℕ)
 default_names = codes "s1" ∷ []
 
--- the items, or where there is none these
+-- the items, or where there are none the default ones
 abbrev pub or_else : {X : Type 0} → List X → List X → List X
 or_else [] others = others
 or_else (x ∷ xs) others = x ∷ xs
 
--- the names of the servers: those that lines say, or the default's
+-- the names of the servers: those of the header lines, or the default one
 abbrev pub names_of : Settings → List (List ℕ)
 names_of settings = or_else settings.names default_names
 
--- what the dispatcher is made for: what lines say, and the defaults where none does
+-- the setup of the dispatcher: that of the header lines, with defaults where they set nothing
 abbrev pub setup_of : Settings → Setup
 setup_of settings = record {
   servers = or_else settings.servers default_servers;

@@ -1,4 +1,4 @@
--- What a replay does to the bytes that a writer holds, where they are known.
+-- The effect of a replay on the bytes that a writer holds, where they are known.
 use Rattle.std.specs.Prelude.{◌≡◌, ◌⊎◌, ℕ, ◌≤◌, List, length, Option, None}
 use Rattle.std.specs.Io.KnownBytes.{Appends}
 use Rattle.script.specs.Faults.{fault_of}
@@ -19,6 +19,6 @@ pub record WritesFrontOfTrace (script : List ℕ) (old new : Option (List ℕ)) 
   pub is_trace : IsTraceOf script trace
   pub written : WritesFront old new trace
 
--- so many writes are no more than the script's trace has bytes; where it has none, none was made
+-- the number of writes is at most the number of bytes of the script's trace; where it has no trace, none was made
 abbrev pub AreFewWrites : List ℕ → ℕ → Type 0
 AreFewWrites script writes = (writes ≡ 0) ⊎ ((trace : List ℕ) × IsTraceOf script trace × (writes ≤ length trace))

@@ -12,14 +12,16 @@ use Rattle.script.specs.ScriptTexts.{IsScriptText}
 use Rattle.script.specs.Steps.{steps_of}
 use Rattle.replay.specs.Defaults.{names_of, opening}
 
--- what the steps of a faultless script leave: the names of the servers, the dispatcher's last window, and the lines of the steps
+-- the result of the steps of a faultless script: the names of the servers, the dispatcher's last
+-- window, and the lines of the steps
 pub record AreReplayed (script : List ℕ) (names : List (List ℕ)) (last : History) (text : List ℕ) : Type 0 where
   pub faultless : fault_of script ≡ None
   pub named : names ≡ names_of (settings_of (lines script))
   pub answered : IsScriptText names (opening (settings_of (lines script))) (steps_of script) last text
 
--- the trace of steps from the opening on that settings make: a script text of the steps, in which each roll has the lines of
--- the reports that certify the window it ends, and behind it the lines of those that certify the last window
+-- the trace of steps under these settings: a text of the steps' lines, in which each roll has the
+-- lines of the reports that certify the window it ends, and after it the lines of the reports that
+-- certify the last window
 pub record IsTraceFrom (settings : Settings) (steps : List Step) (text : List ℕ) : Type 0 where
   pub last : History
   pub answers : List ℕ
@@ -28,6 +30,6 @@ pub record IsTraceFrom (settings : Settings) (steps : List Step) (text : List �
   pub certified : IsCertified last reports
   pub written : text ≡ answers ++ reports_text (names_of settings) reports
 
--- the trace of a script: that of the steps that it asks for, under the settings of its header lines
+-- the trace of a script: that of its steps, under the settings of its header lines
 abbrev pub IsTraceOf : List ℕ → List ℕ → Type 0
 IsTraceOf script text = IsTraceFrom (settings_of (lines script)) (steps_of script) text

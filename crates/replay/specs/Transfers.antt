@@ -8,13 +8,13 @@ use Rattle.replay.specs.declared.fault.Fault.TheVariants as faults
 abbrev pub WritesFront : Option (List ℕ) → Option (List ℕ) → List ℕ → Type 0
 WritesFront old new text = (front : List ℕ) × (rest : List ℕ) × Appends old new front × (text ≡ front ++ rest)
 
--- how many reads failed in a call with this answer: one where it is the read fault, and else none
+-- the number of reads that failed in a call with this answer: one where the fault is a read's, and otherwise none
 abbrev pub read_failures : {A : Type 0} → Result A Fault → ℕ
 read_failures (Ok x) = 0
 read_failures (Err faults.Read) = 1
 read_failures (Err other) = 0
 
--- the same of writes
+-- the same for writes
 abbrev pub write_failures : {A : Type 0} → Result A Fault → ℕ
 write_failures (Ok x) = 0
 write_failures (Err faults.Write) = 1

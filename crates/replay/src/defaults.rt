@@ -8,7 +8,8 @@ use dispatch_log::{ServerSet, Servers, Setup};
 use script::{Header, Names};
 use std::alloc::{AllocError, Global};
 
-/// What a dispatcher is made for, and the names of its servers: as header lines say, or where none does the defaults.
+/// Returns the setup of the dispatcher, and the names of its servers: those of the header lines,
+/// with defaults where they set nothing.
 pub(crate) fn setup_of(alloc: Global, header: Header) -> Result<(Setup, Names), AllocError>
     ensures setup { IfOk result (λ made. made.0 ≡ setup_of header) }
     ensures names { IfOk result (λ made. made.1 ≡ names_of header) }

@@ -14,7 +14,7 @@ use pend_queue::PendQueue;
 use script::{Header, Names, ScriptError, read};
 use std::alloc::Global;
 
-/// What the events of a script leave.
+/// The result of a script's events.
 #[derive(Drop)]
 pub struct Replayed<Q: PendQueue<Key, usize>> {
     /// The dispatcher after the last event.
@@ -25,8 +25,9 @@ pub struct Replayed<Q: PendQueue<Key, usize>> {
     pub text: String,
 }
 
-/// Runs the events of a script in order, on a dispatcher for what its header lines say, or the defaults where none does.
-/// The first faulty line ends the run, and nothing is left of it; an event that the dispatcher refuses has a line that says so.
+/// Runs the events of a script in order, on a dispatcher with the setup of its header lines, with
+/// defaults where they set nothing. The first faulty line ends the run without a result; an event
+/// that the dispatcher refuses gets a line that says so.
 pub fn replay_events<Q: PendQueue<Key, usize>>(
     alloc: Global,
     script: &[u8],
@@ -45,14 +46,14 @@ pub fn replay_events<Q: PendQueue<Key, usize>>(
     match run(alloc, &mut core, &names, script, before) {
         Ok(text) => Ok(Replayed { core, names, text }),
         Err(fault) => {
-            // A call of it is proved faster than the drops of all parts of a dispatcher.
+            // A call is proved faster than the drops of all parts of a dispatcher.
             drop(core);
             Err(fault)
         }
     }
 }
 
-// What the header lines of a script say, and how many they are.
+// Reads the header lines of a script, and returns their number too.
 fn header_of(alloc: Global, script: &[u8]) -> Result<(Header, usize), Fault>
     ensures short { OnOk result (fault_of script.now ≡ fault_behind [] (lines script.now)) }
     ensures header { IfOk result (λ read. IsHeader (lines script.now) read.1) }

@@ -6,7 +6,7 @@ use thiserror::Error;
 /// Why a replay ended early.
 #[derive(Clone, Copy, Debug, PartialEq, Eq, Error)]
 pub enum Fault {
-    /// A growth found no memory. Nothing was written.
+    /// The system refused memory. Nothing was written.
     #[error("no memory")]
     NoMemory,
     /// The first faulty line; 0 where the script is too long. Nothing was written.
@@ -20,7 +20,8 @@ pub enum Fault {
     Write,
 }
 
-/// The status of a program whose replay ended so: 0; 1 where memory, a read or a write failed; 5 where the script is faulty.
+/// Returns the exit status of a program whose replay ended so: 0; 1 where memory is refused, or a
+/// read or a write failed; 5 where the script is faulty.
 pub fn status_of(ended: Result<(), Fault>) -> u8
     ensures { result ≡ status_of ended }
 {

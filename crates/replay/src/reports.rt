@@ -13,9 +13,10 @@ use pend_queue::PendQueue;
 use script::{Names, push_reports, push_roll};
 use std::alloc::{AllocError, Global};
 
-/// The reports of all that a dispatcher decided since the present window began: for each queue and class that has a grant, the least
-/// greatest lateness that any assignment of the same slots has, and the tickets that show it. `O(n log n)` in
-/// the grants; fails only where memory is refused.
+/// Returns the reports on all decisions of a dispatcher since the present window began: for each
+/// queue and class with a grant, the smallest greatest lateness that any assignment of the same
+/// slots has, and the tickets that prove it. `O(n log n)` in the grants; fails only where memory is
+/// refused.
 pub fn reports_of<Q: PendQueue<Key, usize>>(
     alloc: Global,
     core: &Core<Q>,
@@ -25,7 +26,7 @@ pub fn reports_of<Q: PendQueue<Key, usize>>(
     certify(alloc, core.log())
 }
 
-// Writes the lines of a dispatcher's reports at the end.
+// Appends the lines of a dispatcher's reports.
 pub(crate) fn report<Q: PendQueue<Key, usize>>(
     alloc: Global,
     core: &Core<Q>,
@@ -42,7 +43,7 @@ pub(crate) fn report<Q: PendQueue<Key, usize>>(
     kept(push_reports(text, names, reports.as_slice()))
 }
 
-// Writes the line of a roll at the end and those of the reports of the window that it ends, and begins the next.
+// Appends the line of a roll and those of the reports of the window that it ends, and begins the next one.
 pub(crate) fn roll<Q: PendQueue<Key, usize>>(
     alloc: Global,
     core: &mut Core<Q>,

@@ -1,14 +1,13 @@
-ghost use Rattle.std.specs.Prelude.{◌≡◌, ◌≢◌, ◌++◌, ℕ, List, [], Some, None, IfOk, IfErr, OnOk, OnErr, IsOk, string_bytes};
+ghost use Rattle.std.specs.Prelude.{◌≡◌, ◌≢◌, ◌≤◌, ◌++◌, ℕ, List, [], length, drop, Some, None, IfOk, IfErr, OnOk, IsOk, string_bytes};
 ghost use Rattle.std.specs.Str.Lines.{lines};
-ghost use Rattle.dispatch_log.specs.declared.entry.Entry.{Entry};
-ghost use Rattle.dispatch_log.specs.Histories.{RefusedOrNoMemory};
-ghost use Rattle.dispatch_log.specs.Legal.{AddsEvent};
-ghost use Rattle.script.specs.declared.step.Step.TheVariants.{Roll};
+ghost use Rattle.dispatch_log.specs.declared.refusal.Refusal.TheVariants.{NoMemory};
 ghost use Rattle.script.specs.Faults.{fault_behind};
 ghost use Rattle.script.specs.Reading.{IsHeader};
 ghost use Rattle.script.specs.Steps.{steps_of};
-ghost use Rattle.script.specs.ScriptTexts.{Answers, IsEventOf, IsScriptText, refuses};
+ghost use Rattle.script.specs.ScriptTexts.{Answers, IsScriptText};
+ghost use Rattle.script.specs.Traces.{entries_text, refusal_text};
 
+use crate::asked::{Asked, by_numbers};
 use crate::fault::Fault;
 use crate::reports::roll;
 use dispatch_core::Core;
@@ -19,8 +18,8 @@ use proxy_words::Lines;
 use script::{Line, Names, Step, is_faulty, push_entries, push_refusal, step_in};
 use std::alloc::{AllocError, Global};
 
-/// Runs the steps of a script in order, and answers their lines. Behind its header lines, of which there are so many, the
-/// first faulty line ends the run.
+/// Runs the steps of a script in order, and returns their lines. The first faulty line after the
+/// header lines ends the run.
 pub(crate) fn run<Q: PendQueue<Key, usize>>(
     alloc: Global,
     core: &mut Core<Q>,
@@ -53,7 +52,7 @@ pub(crate) fn run<Q: PendQueue<Key, usize>>(
     Ok(text)
 }
 
-// Runs one step, and writes its lines at the end.
+// Runs one step, and appends its lines.
 fn take_step<Q: PendQueue<Key, usize>>(
     alloc: Global,
     core: &mut Core<Q>,
@@ -65,34 +64,42 @@ fn take_step<Q: PendQueue<Key, usize>>(
         × (string_bytes text.new ≡ string_bytes text.old ++ front)) }
     ensures err { IfErr result (λ fault. fault ≡ Fault.NoMemory) }
 {
-    match step {
-        Step::Roll => roll(alloc, core, names, text),
-        step => answer(alloc, core, names, step, text),
+    let before = core.log().len();
+    match by_numbers(names, step) {
+        Asked::Roll => roll(alloc, core, names, text),
+        Asked::Arrive {
+            moment,
+            class,
+            offset,
+            pin,
+        } => {
+            let answer = core.arrive(alloc, moment, class, offset, pin);
+            tell(core, names, before, answer, text)
+        }
+        Asked::Event(event) => {
+            let answer = core.apply(event);
+            tell(core, names, before, answer, text)
+        }
     }
 }
 
-// Runs one event, and writes its lines at the end.
-fn answer<Q: PendQueue<Key, usize>>(
-    alloc: Global,
-    core: &mut Core<Q>,
+// Writes the lines of an event's answer at the end: of the entries behind so many, or of its refusal.
+fn tell<T: Drop, Q: PendQueue<Key, usize>>(
+    core: &Core<Q>,
     names: &Names,
-    step: Step,
+    before: usize,
+    answer: Result<T, Refusal>,
     text: &mut String,
 ) -> Result<(), Fault>
-    requires { step ≢ Roll }
-    ensures ok { OnOk result ((front : List ℕ) × Answers names.now core.old core.new step.entry front
-        × (string_bytes text.new ≡ string_bytes text.old ++ front)) }
+    requires { before ≤ length core.now.log }
+    ensures accepted { OnOk result (OnOk answer (string_bytes text.new ≡ string_bytes text.old ++ entries_text names.now (drop before core.now.log))) }
+    ensures refused { OnOk result (IfErr answer (λ refusal. (refusal ≢ NoMemory) × (string_bytes text.new ≡ string_bytes text.old ++ refusal_text refusal))) }
     ensures err { IfErr result (λ fault. fault ≡ Fault.NoMemory) }
 {
-    let before = core.log().len();
-    match ask(alloc, core, names, step) {
-        Ok(()) => kept(push_entries(text, names, &core.log().entries()[before..])),
-        Err(refusal) => {
-            if refusal == Refusal::NoMemory {
-                return Err(Fault::NoMemory);
-            }
-            kept(push_refusal(text, refusal))
-        }
+    match answer {
+        Ok(_) => kept(push_entries(text, names, &core.log().entries()[before..])),
+        Err(Refusal::NoMemory) => Err(Fault::NoMemory),
+        Err(refusal) => kept(push_refusal(text, refusal)),
     }
 }
 
@@ -103,45 +110,5 @@ pub(crate) fn kept(written: Result<(), AllocError>) -> Result<(), Fault>
     match written {
         Ok(()) => Ok(()),
         Err(_) => Err(Fault::NoMemory),
-    }
-}
-
-fn ask<Q: PendQueue<Key, usize>>(
-    alloc: Global,
-    core: &mut Core<Q>,
-    names: &Names,
-    step: Step,
-) -> Result<(), Refusal>
-    requires { step ≢ Roll }
-    ensures ok { OnOk result ((event : Entry) × IsEventOf names.now core.old step.entry event × AddsEvent core.old core.new event) }
-    ensures err { IfErr result (RefusedOrNoMemory (refuses names.now core.old step.entry)) }
-    ensures unchanged { OnErr result (core.new ≡ core.old) }
-{
-    match step {
-        Step::Arrive {
-            moment,
-            class,
-            offset,
-            pin,
-        } => {
-            let pin = pin.map(|name| names.number(&name));
-            core.arrive(alloc, moment, class, offset, pin)?;
-            Ok(())
-        }
-        Step::Done { moment, ticket } => core.done(moment, ticket),
-        Step::Fail { moment, ticket } => core.failed(moment, ticket),
-        Step::Abort { moment, ticket } => core.abort(moment, ticket),
-        Step::Tick { moment } => core.tick(moment),
-        Step::Check {
-            moment,
-            server,
-            answered,
-        } => core.check(moment, names.number(&server), answered),
-        Step::Limit {
-            moment,
-            server,
-            limit,
-        } => core.limit(moment, names.number(&server), limit),
-        Step::Roll => unreachable!(),
     }
 }

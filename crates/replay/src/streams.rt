@@ -18,15 +18,15 @@ use std::io::{Read, Write};
 
 /// Reads a script to its end, runs its events in order, and writes their trace and the reports of its log.
 ///
-/// At most 4,194,305 reads are made, of which each but the last gives a byte at least, and at most as many writes as
-/// the trace has bytes. Nothing is written before the whole script was read and run. The writer is not flushed. Of
-/// readers and writers that don't tell their bytes, such as the standard streams, these clauses say nothing;
-/// `replay_between` has those on the calls.
+/// It makes at most 4,194,305 reads, of which each but the last returns at least one byte, and at
+/// most as many writes as the trace has bytes. Nothing is written before the whole script was read
+/// and run. The writer isn't flushed. For readers and writers whose bytes aren't known, such as the
+/// standard streams, these clauses say nothing; `replay_between` has those on the calls.
 pub fn replay<R: Read, W: Write>(alloc: Global, reader: &mut R, writer: &mut W) -> Result<(), Fault>
     ensures read { OnOk result (IsAtEnd (R.remaining reader.new)) }
     ensures ok { OnOk result (IfSome (R.remaining reader.old) (λ script. WritesTrace script (W.contents writer.old) (W.contents writer.new))) }
 
-    // The fault is the script's first, and nothing is written but where a write failed.
+    // The fault is the script's first one, and nothing is written except where a write failed.
     ensures script { IfErr result (λ fault. (line : ℕ) → fault ≡ Fault.Script line
         → IfSome (R.remaining reader.old) (λ script. fault_of script ≡ Some line)) }
     ensures write { result ≡ Err Fault.Write
@@ -38,8 +38,8 @@ pub fn replay<R: Read, W: Write>(alloc: Global, reader: &mut R, writer: &mut W) 
     replay_between(alloc, &mut source, &mut sink)
 }
 
-/// `replay` from a source to a sink that count, of which nothing was asked before. A read failed exactly where the
-/// fault is `Read`, and a write exactly where it is `Write`.
+/// `replay` from a source to a sink that count, on which no call was made before. A read failed
+/// exactly where the fault is `Read`, and a write exactly where it is `Write`.
 pub fn replay_between<S: Source, K: Sink>(
     alloc: Global,
     source: &mut S,
@@ -67,7 +67,7 @@ pub fn replay_between<S: Source, K: Sink>(
     write_whole(sink, trace.as_bytes())
 }
 
-/// The trace of a script and its reports, by a dispatcher over such queues.
+/// Returns the trace of a script and its reports, by a dispatcher over this kind of queue.
 pub fn trace_of<Q: PendQueue<Key, usize>>(alloc: Global, script: &[u8]) -> Result<String, Fault>
     ensures faultless { OnOk result (fault_of script.now ≡ None) }
     ensures ok { IfOk result (λ trace. IsTraceOf script.now (string_bytes trace)) }
@@ -81,7 +81,7 @@ pub fn trace_of<Q: PendQueue<Key, usize>>(alloc: Global, script: &[u8]) -> Resul
         mut text,
     } = replay_events::<Q>(alloc, script)?;
     let done = report(alloc, &core, &names, &mut text);
-    // A call of it is proved faster than the drops of all parts of a dispatcher.
+    // A call is proved faster than the drops of all parts of a dispatcher.
     drop(core);
     drop(names);
     done?;

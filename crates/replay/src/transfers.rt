@@ -7,18 +7,18 @@ use counted_io::{Sink, Source};
 use script::MOST_BYTES;
 use std::alloc::Global;
 
-/// The most reads of a script: as many as it takes to read one byte too many, a byte at a time.
+/// The most reads of a script: as many as it takes to read one byte too many, one byte at a time.
 pub const MOST_READS: usize = 4_194_305;
 
 const PIECE: usize = 65_536;
 
-/// Reads to the end, unless more bytes come than a script may have.
+/// Reads to the end, unless a script has too many bytes.
 pub(crate) fn read_whole<S: Source>(alloc: Global, source: &mut S) -> Result<Vec<u8>, Fault>
     requires fresh { (S.stream source.old).calls ≡ 0 }
     ensures read { IfOk result (λ all. Consumes (S.stream source.old).bytes (S.stream source.new).bytes all.items) }
     ensures to_the_end { OnOk result (IsAtEnd (S.stream source.new).bytes) }
 
-    // Each read but the last gave a byte.
+    // Each read but the last returned a byte.
     ensures each { IfOk result (λ all. (S.stream source.new).calls ≤ vec_len all + 1) }
     ensures short { IfOk result (λ all. vec_len all ≤ MOST_BYTES) }
     ensures too_long { IfErr result (λ fault. (line : ℕ) → fault ≡ Fault.Script line

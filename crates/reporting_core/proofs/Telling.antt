@@ -41,6 +41,9 @@ use Rattle.readable_log.proofs.Timely.{follows}
 use Rattle.late_cert.specs.Queues.{IsQueueOf}
 use Rattle.late_cert.specs.Running.{has_room, worst_so_far, latenesses_of, HasRoomFor, IsGreatest, IsWorstAmong}
 use Rattle.late_cert.specs.declared.table.Running.{Running}
+use Rattle.dispatch_core.specs.declared.event.Event.{Event}
+use Rattle.dispatch_core.specs.declared.event.Event.TheVariants.{Done, Fail, Abort, Tick, Check, Limit}
+use Rattle.dispatch_core.specs.Occurrences.{entry_of}
 use Rattle.reporting_core.specs.Reporting.{HaveClasses, IsNew, IsReporting}
 
 -- the grants of entries behind others
@@ -166,6 +169,16 @@ granted_queues here stage base past (e ∷ es) all =
         (subst (IsQueueOf (length here.setup.servers)) (sym (ap (λ (x : SlotGrant). x.queue) f.made)) (by_entry e f.wait all.0 f.is), tt)
 
 -- ---- an event
+
+-- no event but an arrival brings a request, and so a class
+pub brings_no_class : (h : History) (running : Running) (event : Event)
+    → IfSome (arrival_in (entry_of h event)) (λ arrival. IsTrue (has_room running arrival.class))
+brings_no_class h running (Done moment ticket) = tt
+brings_no_class h running (Fail moment ticket) = tt
+brings_no_class h running (Abort moment ticket) = tt
+brings_no_class h running (Tick moment) = tt
+brings_no_class h running (Check moment server answered) = tt
+brings_no_class h running (Limit moment server limit) = tt
 
 -- what an event makes of the grants of a window, where there is room for the class of each request
 pub record IsTelling (h new : History) (running : Running) : Type 0 where

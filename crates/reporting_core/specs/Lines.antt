@@ -1,4 +1,4 @@
--- What each server was given in a window.
+-- The requests that each server was given in a window.
 use Rattle.std.specs.Prelude.{◌≡◌, ℕ, ◌==◌, Bool, false, List, count_by, length, slice_get, Some}
 use Rattle.dispatch_log.specs.declared.entry.Entry.{Entry}
 use Rattle.dispatch_log.specs.declared.entry.Entry.TheVariants.{Direct, Granted}
@@ -7,17 +7,18 @@ use Rattle.dispatch_log.specs.Scenes.{is_up}
 use Rattle.dispatch_trace.specs.Histories.{scene_of}
 use Rattle.reporting_core.specs.declared.lines.ServerLine.{ServerLine}
 
--- whether an entry puts a request on a server at once
+-- an entry puts a request on a server at once
 abbrev pub is_direct : ℕ → Entry → Bool
 is_direct server (Direct ticket other) = other == server
 is_direct server entry = false
 
--- whether an entry grants a request that waited a slot of a server
+-- an entry grants a slot of a server to a request that waited
 abbrev pub is_granted : ℕ → Entry → Bool
 is_granted server (Granted ticket queue other) = other == server
 is_granted server entry = false
 
--- the line of a server: whether it is up, and how many requests the window's entries gave it, at once and after they waited
+-- the line of a server: whether it is up, and how many requests it was given in the window, at once
+-- and after a wait
 abbrev pub line_of : History → ℕ → ServerLine
 line_of history server = record {
   up = is_up (scene_of history) server;

@@ -11,12 +11,12 @@ use Rattle.readable_log.specs.Windows.{window_in, base_rows}
 use Rattle.late_cert.specs.Running.{has_room, worst_so_far, IsWorstAmong}
 use Rattle.late_cert.specs.declared.table.Running.{Running}
 
--- a running worst for the queues of so many servers, told nothing
+-- an empty running worst for the queues of this many servers
 pub record IsNew (running : Running) (servers : ℕ) : Type 0 where
   pub queues : running.servers ≡ servers
   pub none : (queue : Queue) (class : ℤ) → worst_so_far running queue class ≡ None
 
--- what holds of the class of each request of a window, at its base or arrived since
+-- a fact holds of the class of each request of a window, at its base or arrived since
 pub record HaveClasses (P : ℤ → Type 0) (base : List BaseRow) (log : List Entry) : Type 0 where
   pub waited : AllByRecursion (λ row. P row.class) base
   pub arrived : AllByRecursion (λ entry. IfSome (arrival_in entry) (λ arrival. P arrival.class)) log

@@ -4,12 +4,13 @@ ghost use Rattle.dispatch_log.specs.Histories.{first_window, next_window, state_
 ghost use Rattle.dispatch_log.specs.Legal.{IsLegal, AddsEvent};
 ghost use Rattle.dispatch_log.specs.Rows.{row_of, served, queued};
 ghost use Rattle.dispatch_log.specs.Scenes.{is_up};
+ghost use Rattle.dispatch_core.specs.Occurrences.{refuses, entry_of};
 ghost use Rattle.dispatch_trace.specs.Histories.{scene_of, IsAt, HasEntryRoom};
 ghost use Rattle.late_cert.specs.Running.{IsWorstIn};
 ghost use Rattle.readable_log.specs.Windows.{window_in};
 ghost use Rattle.reporting_core.specs.Reporting.{IsNew};
 
-use dispatch_core::Core;
+use dispatch_core::{Core, Event};
 use dispatch_log::{Intake, Queue, Refusal};
 use dispatch_trace::Ticketed;
 use due_key::{Class, Key, Moment, Offset};
@@ -38,7 +39,7 @@ impl<Q: PendQueue<Key, usize>> Model for ReportingCore<Q> {
 }
 
 impl<Q: PendQueue<Key, usize>> ReportingCore<Q> {
-    /// Of a dispatcher that has done nothing, and a running worst for its servers that was told nothing.
+    /// Makes it of a fresh dispatcher, and an empty running worst for its servers.
     pub fn new(core: Core<Q>, running: Running) -> ReportingCore<Q>
         requires first { core ≡ first_window core.setup [] }
         requires running { IsNew running (length core.setup.servers) }
@@ -47,7 +48,8 @@ impl<Q: PendQueue<Key, usize>> ReportingCore<Q> {
         ReportingCore { core, running }
     }
 
-    /// As the dispatcher's. Room for the class's worst is asked for before, so that want of memory comes last.
+    /// As the dispatcher's. It allocates the room for the class's worst before, so that want of
+    /// memory is the last cause of a refusal.
     pub fn arrive(
         &mut self,
         alloc: Global,
@@ -70,6 +72,19 @@ impl<Q: PendQueue<Key, usize>> ReportingCore<Q> {
         Ok(it)
     }
 
+    /// As the dispatcher's. What was granted in it is told to the worst so far.
+    pub fn apply(&mut self, event: Event) -> Result<(), Refusal>
+        ensures ok { OnOk result (AddsEvent self.old self.new (entry_of self.old event)) }
+        ensures err { IfErr result (λ refusal. refuses self.old event ≡ Some refusal) }
+        ensures accepted { OnOk result (refuses self.old event ≡ None) }
+        ensures unchanged { OnErr result (self.new ≡ self.old) }
+    {
+        let from = self.core.log().grants().len();
+        self.core.apply(event)?;
+        self.running.granted_from(self.core.log(), from);
+        Ok(())
+    }
+
     /// As the dispatcher's.
     pub fn done(&mut self, moment: Moment, ticket: u64) -> Result<(), Refusal>
         ensures ok { OnOk result (AddsEvent self.old self.new (Done (effective self.old moment) ticket)) }
@@ -77,10 +92,7 @@ impl<Q: PendQueue<Key, usize>> ReportingCore<Q> {
         ensures accepted { OnOk result (refuses_done self.old ticket ≡ None) }
         ensures unchanged { OnErr result (self.new ≡ self.old) }
     {
-        let from = self.core.log().grants().len();
-        self.core.done(moment, ticket)?;
-        self.running.granted_from(self.core.log(), from);
-        Ok(())
+        self.apply(Event::Done { moment, ticket })
     }
 
     /// As the dispatcher's.
@@ -90,10 +102,7 @@ impl<Q: PendQueue<Key, usize>> ReportingCore<Q> {
         ensures accepted { OnOk result (refuses_failure self.old ticket ≡ None) }
         ensures unchanged { OnErr result (self.new ≡ self.old) }
     {
-        let from = self.core.log().grants().len();
-        self.core.failed(moment, ticket)?;
-        self.running.granted_from(self.core.log(), from);
-        Ok(())
+        self.apply(Event::Fail { moment, ticket })
     }
 
     /// As the dispatcher's.
@@ -103,10 +112,7 @@ impl<Q: PendQueue<Key, usize>> ReportingCore<Q> {
         ensures accepted { OnOk result (refuses_abort self.old ticket ≡ None) }
         ensures unchanged { OnErr result (self.new ≡ self.old) }
     {
-        let from = self.core.log().grants().len();
-        self.core.abort(moment, ticket)?;
-        self.running.granted_from(self.core.log(), from);
-        Ok(())
+        self.apply(Event::Abort { moment, ticket })
     }
 
     /// As the dispatcher's.
@@ -116,10 +122,7 @@ impl<Q: PendQueue<Key, usize>> ReportingCore<Q> {
         ensures accepted { OnOk result (refuses_tick self.old ≡ None) }
         ensures unchanged { OnErr result (self.new ≡ self.old) }
     {
-        let from = self.core.log().grants().len();
-        self.core.tick(moment)?;
-        self.running.granted_from(self.core.log(), from);
-        Ok(())
+        self.apply(Event::Tick { moment })
     }
 
     /// As the dispatcher's.
@@ -129,10 +132,11 @@ impl<Q: PendQueue<Key, usize>> ReportingCore<Q> {
         ensures accepted { OnOk result (refuses_check self.old server ≡ None) }
         ensures unchanged { OnErr result (self.new ≡ self.old) }
     {
-        let from = self.core.log().grants().len();
-        self.core.check(moment, server, ok)?;
-        self.running.granted_from(self.core.log(), from);
-        Ok(())
+        self.apply(Event::Check {
+            moment,
+            server,
+            answered: ok,
+        })
     }
 
     /// As the dispatcher's.
@@ -142,28 +146,30 @@ impl<Q: PendQueue<Key, usize>> ReportingCore<Q> {
         ensures accepted { OnOk result (refuses_limit self.old server ≡ None) }
         ensures unchanged { OnErr result (self.new ≡ self.old) }
     {
-        let from = self.core.log().grants().len();
-        self.core.limit(moment, server, limit)?;
-        self.running.granted_from(self.core.log(), from);
-        Ok(())
+        self.apply(Event::Limit {
+            moment,
+            server,
+            limit,
+        })
     }
 
-    /// As the dispatcher's; the worst so far starts anew.
+    /// As the dispatcher's; the worst so far begins anew.
     pub fn roll(&mut self)
         ensures { self.new ≡ next_window self.old }
     {
-        // Says that the log is legal, so that the classes of its live requests are of requests that came.
+        // This call states that the log is legal, so the classes of its live requests are of
+        // requests that arrived.
         self.core.log();
         self.core.roll();
         self.running.clear();
     }
 
-    /// The greatest lateness of a queue and class in this window, in milliseconds; `None` only where none of them was granted a slot. `O(1)`, no
-    /// memory.
+    /// Returns the greatest lateness of a queue and class in this window, in milliseconds; `None`
+    /// only where none of its requests was granted a slot. `O(1)`, without allocating.
     pub fn worst(&self, queue: Queue, class: Class) -> Option<i64>
         ensures { IsWorstIn (window_in self.now) queue class result }
     {
-        // Says that the log is readable: the grants have the moments of their slots.
+        // This call states that the log is readable: the grants have the moments of their slots.
         self.core.log().grants();
         self.running.worst(queue, class)
     }

@@ -6,18 +6,18 @@ use dispatch_log::Entry;
 use due_key::Key;
 use pend_queue::PendQueue;
 
-/// A server in the report of a window.
+/// The line of a server in the report of a window.
 #[derive(Clone, Copy, Debug, PartialEq, Eq)]
 pub struct ServerLine {
-    /// Whether it is up, by the results of its checks.
+    /// It is up, by the results of its checks.
     pub up: bool,
-    /// How many requests it was given when they came.
+    /// The number of requests that it was given on arrival.
     pub direct: usize,
-    /// How many it was given after they had waited.
+    /// The number of requests that it was given after a wait.
     pub granted: usize,
 }
 
-/// The line of a server. `O(n)` in the window's entries.
+/// Returns the line of a server. `O(n)` in the window's entries.
 pub(crate) fn line_of<Q: PendQueue<Key, usize>>(core: &Core<Q>, server: usize) -> ServerLine
     ensures { result ≡ line_of core.now server }
 {
@@ -29,7 +29,7 @@ pub(crate) fn line_of<Q: PendQueue<Key, usize>>(core: &Core<Q>, server: usize) -
     }
 }
 
-// How many requests entries give a server when they came, and how many after they had waited.
+// Returns how many requests the entries give a server on arrival, and how many after a wait.
 fn direct_in(entries: &[Entry], server: usize) -> usize
     ensures { result ≡ count_by (is_direct server) entries.now }
 {

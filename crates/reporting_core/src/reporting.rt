@@ -19,14 +19,16 @@ pub struct Window {
 }
 
 impl<Q: PendQueue<Key, usize>> ReportingCore<Q> {
-    /// The reports of the present window, each with its critical set. `O(n log n)` in its grants; fails only where memory is refused.
+    /// Returns the reports of the present window, each with its critical set. `O(n log n)` in its
+    /// grants; fails only where memory is refused.
     pub fn report(&self, alloc: Global) -> Result<Reports, AllocError>
         ensures { IfOk result (IsCertified self.now) }
     {
         certify(alloc, self.core.log())
     }
 
-    /// A line for each server in file order, of the present window. `O(s n)` in the servers and entries; fails only where memory is refused.
+    /// Returns a line for each server in file order, of the present window. `O(s n)` in the servers
+    /// and entries; fails only where memory is refused.
     pub fn servers(&self, alloc: Global) -> Result<Vec<ServerLine>, AllocError>
         ensures { IfOk result (λ lines. AreLines self.now lines.items) }
     {
@@ -37,8 +39,8 @@ impl<Q: PendQueue<Key, usize>> ReportingCore<Q> {
         Ok(lines)
     }
 
-    /// Begins the next window where the log has no room for an event, and hands out what is told of the one that ended; `None` where it has
-    /// room. Where memory is refused nothing changes.
+    /// Begins the next window where the log has no room for an event, and returns what is told of
+    /// the one that ended; `None` where it has room. Where memory is refused nothing changes.
     pub fn make_room(&mut self, alloc: Global) -> Result<Option<Window>, AllocError>
         ensures none { IfOk result (λ found. IfNone found (HasEntryRoom self.old × (self.new ≡ self.old))) }
         ensures some { IfOk result (λ found. IfSome found (λ window. (HasEntryRoom self.old → ⊥) × IsCertified self.old window.reports × AreLines self.old window.servers.items × (self.new ≡ next_window self.old))) }

@@ -1,4 +1,4 @@
--- What an answer's head says.
+-- The meaning of an answer's head.
 use Rattle.std.specs.Prelude.{ℕ, List, map}
 use Rattle.httparse.specs.Grammar.{ResponseHead, status_code, reason_phrase}
 use Rattle.httparse.specs.Spans.{name_and_value}
@@ -12,7 +12,7 @@ pub record Answer : Type 0 where
   pub version : Version
   pub fields : List NamedValue
 
--- what the head says
+-- the parts of a head
 abbrev pub answer_of : ResponseHead → Answer
 answer_of h = record {
   status = status_code h;

@@ -1,4 +1,4 @@
--- What a request's head says, and which heads a proxy takes.
+-- The meaning of a request's head, and the heads that the proxy accepts.
 use Rattle.std.specs.Prelude.{◌≡◌, ◌≢◌, ℕ, ◌≤◌, List, map, filter, Bool, false, codes, if◌then◌else◌, ◌==◌, length}
 use Rattle.std.specs.Str.{str_eq_ignore_ascii_case}
 use Rattle.httparse.specs.Grammar.{RequestHead}
@@ -7,7 +7,7 @@ use Rattle.req_view.specs.Target.{has_fragment}
 use Rattle.req_view.specs.declared.version.Version.{Version}
 use Rattle.req_view.specs.declared.version.Version.TheVariants.{Http10, Http11}
 
--- A field is its name as it came, and its value without the white space around it.
+-- A field: its name as it came, and its value without the white space around it.
 abbrev pub NamedValue : Type 0
 NamedValue = List ℕ × List ℕ
 
@@ -22,7 +22,7 @@ pub record Request : Type 0 where
 abbrev pub version_of : ℕ → Version
 version_of minor = if minor == 0 then Http10 else Http11
 
--- what the head says
+-- the parts of a head
 abbrev pub request_of : RequestHead → Request
 request_of h = record {
   method = h.method;
@@ -31,15 +31,15 @@ request_of h = record {
   fields = map name_and_value h.fields;
 }
 
--- the field has this name, whatever the case of its letters
+-- the field has this name, ignoring case
 abbrev pub is_named : List ℕ → NamedValue → Bool
 is_named name field = str_eq_ignore_ascii_case field.0 name
 
--- the values of the fields of a name, in order
+-- the values of the fields with a name, in order
 abbrev pub values_of : List ℕ → List NamedValue → List (List ℕ)
 values_of name fields = map (λ field. field.1) (filter (is_named name) fields)
 
--- how many Host fields there are
+-- the number of Host fields
 abbrev pub hosts : Request → ℕ
 hosts r = length (values_of (codes "Host") r.fields)
 
@@ -48,7 +48,8 @@ abbrev pub SuitsVersion : Version → ℕ → Type 0
 SuitsVersion Http10 count = count ≤ 1
 SuitsVersion Http11 count = count ≡ 1
 
--- a proxy takes the request: it names one host, as its version asks, wants no tunnel, and its target has no fragment
+-- the proxy accepts the request: it names one host, as its version demands, its method isn't
+-- `CONNECT`, and its target has no fragment
 pub record IsWelcome (r : Request) : Type 0 where
   pub names_host : SuitsVersion r.version (hosts r)
   pub wants_no_tunnel : r.method ≢ codes "CONNECT"

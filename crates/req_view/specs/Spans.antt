@@ -1,4 +1,4 @@
--- What the spans of a parsed head say.
+-- The meaning of the spans of a parsed head.
 use Rattle.std.specs.Prelude.{ℕ, List, [], map, take, All}
 use Rattle.http_header.specs.HeaderMap.{Entries, append_all}
 use Rattle.http_header.specs.FieldName.{IsFieldName}
@@ -34,14 +34,14 @@ answer_at bytes places spans = record {
   fields = map (header_bytes bytes) (take spans.headers places);
 }
 
--- where a field's value is, beside its name in lower case
+-- the span of a field's value, with its name in lower case
 abbrev pub named_span : List ℕ → HeaderSpan → List ℕ × Span
 named_span text place = (lowercase (span_bytes text place.name), place.value)
 
--- where the values of each name are
+-- the spans of the values of each name
 abbrev pub index_of : List ℕ → List HeaderSpan → Entries Span
 index_of text places = append_all [] (map (named_span text) places)
 
--- each place covers a field's name
+-- each span covers a field's name
 abbrev pub AreNames : List ℕ → List HeaderSpan → Type 0
 AreNames text places = All (λ place. IsFieldName (span_bytes text place.name)) places

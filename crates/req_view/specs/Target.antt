@@ -11,7 +11,7 @@ is_question_mark byte = byte == 63
 abbrev pub is_number_sign : ℕ → Bool
 is_number_sign byte = byte == 35
 
--- a number sign begins a fragment, which is no part of a request's target (RFC 9112, 3.2)
+-- a number sign begins a fragment, which isn't a part of a request's target (RFC 9112, 3.2)
 abbrev pub has_fragment : List ℕ → Bool
 has_fragment target = list_any is_number_sign target
 
@@ -27,8 +27,9 @@ without_query text = before_first is_question_mark text
 abbrev pub from_slash : List ℕ → List ℕ
 from_slash text = drop (position_or_len is_slash text) text
 
--- The path of a target that begins with a slash, or names a host after `http://` or `https://`, ends
--- before the query; after a host it begins at the first slash, and may be empty. Other targets have none.
+-- The path of a target that begins with a slash, or names a host after `http://` or `https://`,
+-- ends before the query; after a host it begins at the first slash, and may be empty. Other
+-- targets have no path.
 abbrev pub path_of : List ℕ → Option (List ℕ)
 path_of target =
     if begins (codes "/") target then Some (without_query target)

@@ -10,9 +10,9 @@ use httparse::spans::{HeaderSpan, ResponseSpans, Span};
 use std::alloc::{AllocError, Global};
 use std::marker::Model;
 
-/// What an answer's head says.
+/// An answer's head.
 ///
-/// It owns one copy of the head's bytes, of which its parts are pieces.
+/// It owns one copy of the head's bytes, of which its parts are slices.
 #[derive(Drop)]
 pub struct AnswerHead {
     section: Section,
@@ -34,7 +34,7 @@ impl Model for AnswerHead {
 }
 
 impl AnswerHead {
-    /// A copy of the head that the spans cover. `O(n)`.
+    /// Copies the head that the spans cover. `O(n)`.
     pub(crate) fn copied(
         alloc: Global,
         bytes: &[u8],
@@ -55,7 +55,7 @@ impl AnswerHead {
         })
     }
 
-    /// The number of the three digits.
+    /// Returns the status code.
     pub fn status(&self) -> u16
         ensures value { result ≡ self.now.status }
         ensures three_digits { result < 1000 }
@@ -63,7 +63,7 @@ impl AnswerHead {
         self.status
     }
 
-    /// The reason as it came; empty where there is none.
+    /// Returns the reason phrase as it came; empty where there is none.
     pub fn reason(&self) -> &[u8]
         ensures { result.now ≡ self.now.reason }
     {
@@ -76,28 +76,29 @@ impl AnswerHead {
         self.version
     }
 
-    /// The fields, whatever the kind of the head.
+    /// Returns the fields, for code that handles both kinds of heads.
     pub fn section(&self) -> &Section
         ensures { result.now.fields ≡ self.now.fields }
     {
         &self.section
     }
 
-    /// How many fields there are: 64 at most.
+    /// Returns the number of fields: at most 64.
     pub fn field_count(&self) -> usize
         ensures { result ≡ length self.now.fields }
     {
         self.section.count()
     }
 
-    /// The field at a position, counted from 0. `O(1)`.
+    /// Returns the field at a position, counted from 0. `O(1)`.
     pub fn field(&self, position: usize) -> Option<Field<'_>>
         ensures { MatchOption result (slice_get self.now.fields position ≡ None) (λ field. slice_get self.now.fields position ≡ Some (field.name.now, field.value.now)) }
     {
         self.section.field(position)
     }
 
-    /// The values of the fields of a name, case ignored, in order. `O(n)` in the name's bytes, no memory.
+    /// Returns the values of the fields with a name, ignoring case, in order. `O(n)` in the name's
+    /// bytes, without allocating.
     pub fn values(&self, name: &[u8]) -> Values<'_>
         ensures { result ≡ values_of name.now self.now.fields }
     {

@@ -7,10 +7,11 @@ use httparse::Status;
 use httparse::spans::{EMPTY_HEADER_SPAN, parse_response};
 use std::alloc::Global;
 
-/// Looks for an answer's head at the front of the bytes, of which it reads 16,384 at most.
+/// Looks for an answer's head at the front of the bytes, of which it reads at most 16,384.
 ///
-/// The head is what `httparse` takes in its default configuration, as for `view` (RFC 9112, sections 2, 4
-/// and 5). `O(n)`. Memory is taken once a whole head stands there: for its bytes, its fields and their names.
+/// It accepts what `httparse` accepts in its default configuration, as `view` does (RFC 9112,
+/// sections 2, 4 and 5). `O(n)`. It allocates once a whole head stands there: for its bytes, its
+/// fields and their names.
 pub fn answer_head(alloc: Global, bytes: &[u8]) -> Viewed<AnswerHead>
     ensures { TellsAnswer bytes.now result }
 {

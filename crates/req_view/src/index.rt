@@ -9,7 +9,7 @@ use http_header::{HeaderMap, HeaderMapError, HeaderName, HeaderNameError};
 use httparse::spans::{HeaderSpan, Span};
 use std::alloc::{AllocError, Global};
 
-/// Where the values of each name are. `O(n)`; a standard name takes no memory of its own.
+/// Returns the spans of the values of each name. `O(n)`; a standard name takes no memory of its own.
 pub(crate) fn by_name(
     alloc: Global,
     text: &[u8],

@@ -1,8 +1,8 @@
-//! Heads of requests and answers: from the bytes that have come so far to what they say.
+//! Heads of requests and answers: from the bytes that have come so far to their parts.
 //!
-//! A head is what `httparse` takes as one in its default configuration, of at most 16,384 bytes and 64
-//! fields. That of a request also names its host as its version asks, its method isn't `CONNECT`, and its target has no
-//! fragment.
+//! A head is what `httparse` accepts in its default configuration, of at most 16,384 bytes and 64
+//! fields. A request's head also names its host as its version demands, its method isn't `CONNECT`,
+//! and its target has no fragment.
 #![tactic(auto)]
 
 mod answer;

@@ -1,12 +1,12 @@
 use thiserror::Error;
 
-/// Why bytes give no view.
+/// Why bytes aren't read as a head.
 #[derive(Clone, Copy, Debug, PartialEq, Eq, Error)]
 pub enum HeadRefusal {
-    /// No head that the proxy takes stands there, and none can.
+    /// No head that the proxy accepts stands there, and none can.
     #[error("not a head")]
     HeadFault,
-    /// A growth found no memory.
+    /// The system refused memory.
     #[error("no memory")]
     NoMemory,
 }

@@ -12,9 +12,9 @@ use httparse::spans::{HeaderSpan, RequestSpans, Span};
 use std::alloc::{AllocError, Global};
 use std::marker::Model;
 
-/// What a request's head says.
+/// A request's head.
 ///
-/// It owns one copy of the head's bytes, of which its parts are pieces.
+/// It owns one copy of the head's bytes, of which its parts are slices.
 #[derive(Drop)]
 pub struct View {
     section: Section,
@@ -36,7 +36,7 @@ impl Model for View {
 }
 
 impl View {
-    /// A copy of the head that the spans cover. `O(n)`.
+    /// Copies the head that the spans cover. `O(n)`.
     pub(crate) fn copied(
         alloc: Global,
         bytes: &[u8],
@@ -63,17 +63,17 @@ impl View {
         self.section.part(self.method)
     }
 
-    /// The target as it came: a path with its query, an absolute URI, an authority or `*`.
+    /// Returns the target as it came: a path with its query, an absolute URI, an authority or `*`.
     pub fn target(&self) -> &[u8]
         ensures { result.now ≡ self.now.target }
     {
         self.section.part(self.target)
     }
 
-    /// The path of the target, without its query. `O(n)`.
+    /// Returns the path of the target, without its query. `O(n)`.
     ///
-    /// It is empty where a host has no slash after it, and there is none where the target begins neither
-    /// with a slash nor with `http://` or `https://`.
+    /// It is empty where no slash follows a host, and `None` where the target begins neither with a
+    /// slash nor with `http://` or `https://`.
     pub fn path(&self) -> Option<&[u8]>
         ensures { MatchOption result (path_of self.now.target ≡ None) (λ path. path_of self.now.target ≡ Some path.now) }
     {
@@ -86,35 +86,37 @@ impl View {
         self.version
     }
 
-    /// The fields, whatever the kind of the head.
+    /// Returns the fields, for code that handles both kinds of heads.
     pub fn section(&self) -> &Section
         ensures { result.now.fields ≡ self.now.fields }
     {
         &self.section
     }
 
-    /// How many fields there are: 64 at most.
+    /// Returns the number of fields: at most 64.
     pub fn field_count(&self) -> usize
         ensures { result ≡ length self.now.fields }
     {
         self.section.count()
     }
 
-    /// The field at a position, counted from 0. `O(1)`.
+    /// Returns the field at a position, counted from 0. `O(1)`.
     pub fn field(&self, position: usize) -> Option<Field<'_>>
         ensures { MatchOption result (slice_get self.now.fields position ≡ None) (λ field. slice_get self.now.fields position ≡ Some (field.name.now, field.value.now)) }
     {
         self.section.field(position)
     }
 
-    /// The values of the fields of a name, case ignored, in order. `O(n)` in the name's bytes, no memory.
+    /// Returns the values of the fields with a name, ignoring case, in order. `O(n)` in the name's
+    /// bytes, without allocating.
     pub fn values(&self, name: &[u8]) -> Values<'_>
         ensures { result ≡ values_of name.now self.now.fields }
     {
         self.section.values(name)
     }
 
-    /// Whether it names its host as its version asks, wants no tunnel, and its target has no fragment. `O(n)`.
+    /// Says whether it names its host as its version demands, its method isn't `CONNECT`, and its
+    /// target has no fragment. `O(n)`.
     pub(crate) fn is_welcome(&self) -> bool
         ensures { IsTrue result ↔ IsWelcome self.now }
     {

@@ -19,9 +19,9 @@ pub struct Field<'a> {
     pub value: &'a [u8],
 }
 
-/// One copy of a head's bytes, with its fields.
+/// A copy of a head's bytes, with its fields.
 ///
-/// Names and values are pieces of the copy, and a map from names to places finds values by name.
+/// Names and values are slices of the copy, and a map from names to spans finds values by name.
 #[derive(Drop)]
 pub struct Section {
     text: Vec<u8>,
@@ -42,7 +42,7 @@ impl Model for Section {
 }
 
 impl Section {
-    /// A copy of the first `len` bytes, whose fields the first `count` places cover. `O(n)`.
+    /// Copies the first `len` bytes, whose fields the first `count` spans cover. `O(n)`.
     pub(crate) fn copied(
         alloc: Global,
         bytes: &[u8],
@@ -65,7 +65,7 @@ impl Section {
         })
     }
 
-    /// The bytes that a span covers.
+    /// Returns the bytes that a span covers.
     pub(crate) fn part(&self, span: Span) -> &[u8]
         requires { IsWithin (length self.now.text) span }
         ensures { result.now ≡ span_bytes self.now.text span }
@@ -73,14 +73,14 @@ impl Section {
         span.of(&self.text)
     }
 
-    /// How many fields there are: 64 at most.
+    /// Returns the number of fields: at most 64.
     pub fn count(&self) -> usize
         ensures { result ≡ length self.now.fields }
     {
         self.places.len()
     }
 
-    /// The field at a position, counted from 0. `O(1)`.
+    /// Returns the field at a position, counted from 0. `O(1)`.
     pub fn field(&self, position: usize) -> Option<Field<'_>>
         ensures { MatchOption result (slice_get self.now.fields position ≡ None) (λ field. slice_get self.now.fields position ≡ Some (field.name.now, field.value.now)) }
     {
@@ -91,7 +91,8 @@ impl Section {
         })
     }
 
-    /// The values of the fields of a name, case ignored, in order. `O(n)` in the name's bytes, no memory.
+    /// Returns the values of the fields with a name, ignoring case, in order. `O(n)` in the name's
+    /// bytes, without allocating.
     pub fn values(&self, name: &[u8]) -> Values<'_>
         ensures { result ≡ values_of name.now self.now.fields }
     {

@@ -1,7 +1,7 @@
 ghost use Rattle.std.specs.Prelude.{◌≡◌, Some, None, MatchOption, position};
 ghost use Rattle.req_view.specs.Target.{without_query as text_without_query, from_slash as text_from_slash, has_fragment as text_has_fragment, is_slash, is_question_mark, path_of};
 
-/// The path of a request's target.
+/// Returns the path of a request's target.
 pub(crate) fn path(target: &[u8]) -> Option<&[u8]>
     ensures { MatchOption result (path_of target.now ≡ None) (λ path. path_of target.now ≡ Some path.now) }
 {
@@ -16,7 +16,7 @@ pub(crate) fn path(target: &[u8]) -> Option<&[u8]>
     }
 }
 
-/// Whether a target has a fragment.
+/// Says whether a target has a fragment.
 pub(crate) fn has_fragment(target: &[u8]) -> bool
     ensures { result ≡ text_has_fragment target.now }
 {

@@ -3,16 +3,16 @@ ghost use Rattle.std.specs.Prelude.{◌≡◌};
 /// The version of a head.
 #[derive(Clone, Copy, Debug, PartialEq, Eq)]
 pub enum Version {
-    /// HTTP/1.0
+    /// HTTP/1.0.
     Http10,
-    /// HTTP/1.1
+    /// HTTP/1.1.
     Http11,
 }
 
 impl Version {
     ghost use Rattle.req_view.specs.Request.{version_of};
 
-    /// The version by the digit after the dot.
+    /// Returns the version by the digit after the dot.
     pub(crate) fn of_minor(minor: u8) -> Version
         ensures { result ≡ version_of minor }
     {

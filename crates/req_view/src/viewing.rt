@@ -6,28 +6,29 @@ use httparse::Status;
 use httparse::spans::{EMPTY_HEADER_SPAN, parse_request};
 use std::alloc::Global;
 
-/// The most bytes that a head has, its line ends and the last, empty line included.
+/// The most bytes of a head, with its line ends and the empty line.
 pub const HEAD_BYTES: usize = 16_384;
 
-/// The most fields that a head has.
+/// The most fields of a head.
 pub const HEAD_FIELDS: usize = 64;
 
-/// What bytes say so far.
+/// What stands at the front of the bytes so far.
 #[derive(Drop)]
 pub enum Viewed<H> {
-    /// They begin with a head of so many bytes.
+    /// They begin with a head of this number of bytes.
     Whole(H, usize),
-    /// They are no head yet, may become one, and are fewer than a head may have.
+    /// They aren't a whole head yet, may become one, and are fewer than a head may have.
     More,
-    /// They never become a head that the proxy takes, or memory is wanting.
+    /// They can't become a head that the proxy accepts, or memory is short.
     Refused(HeadRefusal),
 }
 
-/// Looks for a request's head at the front of the bytes, of which it reads 16,384 at most.
+/// Looks for a request's head at the front of the bytes, of which it reads at most 16,384.
 ///
-/// The head is what `httparse` takes in its default configuration: empty lines before it belong to it, a
-/// bare line feed ends a line, no line is folded, and the target is UTF-8 (RFC 9112, sections 2 to 5).
-/// `O(n)`. Memory is taken once a whole head stands there: for its bytes, its fields and their names.
+/// It accepts what `httparse` accepts in its default configuration: empty lines before the head
+/// belong to it, a bare line feed ends a line, no line is folded, and the target is UTF-8 (RFC
+/// 9112, sections 2 to 5). `O(n)`. It allocates once a whole head stands there: for its bytes, its
+/// fields and their names.
 pub fn view(alloc: Global, bytes: &[u8]) -> Viewed<View>
     ensures { Tells bytes.now result }
 {

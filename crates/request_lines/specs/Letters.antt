@@ -8,11 +8,11 @@ use Rattle.request_lines.specs.declared.letters.During.{During}
 use Rattle.request_lines.specs.declared.letters.During.TheVariants.{Nothing, Request, Queue, Connect, Head, Data, Last}
 use Rattle.request_lines.specs.declared.letters.Ended.{Ended}
 
--- an exchange that came to its end
+-- an exchange that came to its proper end
 abbrev pub well : Ended
 well = record { by = Nobody; during = Nothing }
 
--- '-', 'C', 'c', 'S', 's', 'P' or 'R', as numbers of characters
+-- '-', 'C', 'c', 'S', 's', 'P' or 'R', as character codes
 abbrev pub by_letter : By → ℕ
 by_letter Nobody = 45
 by_letter Client = 67
@@ -32,7 +32,7 @@ during_letter Head = 72
 during_letter Data = 68
 during_letter Last = 76
 
--- one that was aborted since its time was over timed out
+-- a request that was aborted because its time was over has timed out
 abbrev pub if_aborted : By → Cause
 if_aborted ServerTime = Timeout
 if_aborted Nobody = Aborted
@@ -42,7 +42,7 @@ if_aborted Server = Aborted
 if_aborted Proxy = Aborted
 if_aborted Shortage = Aborted
 
--- why a request wasn't served, by the cause in the dispatcher's log and by who or what ended its exchange
+-- why a request wasn't served, by the cause in the dispatcher's log and by what ended its exchange
 abbrev pub cause_told : Cause → By → Cause
 cause_told Aborted by = if_aborted by
 cause_told Timeout by = Timeout

@@ -7,61 +7,61 @@ use std::net::SocketAddr;
 pub struct Asked {
     pub method: Vec<u8>,
     pub target: Vec<u8>,
-    /// 0 or 1, of HTTP/1.0 or HTTP/1.1.
+    /// The digit after the dot: 0 or 1, of HTTP/1.0 or HTTP/1.1.
     pub minor: u8,
 }
 
-/// When what of an exchange happened first. None: it didn't.
+/// When each step of an exchange first happened; `None` where it didn't.
 #[derive(Clone, Copy, Debug, PartialEq, Eq)]
 pub struct Moments {
-    /// Its first byte came, or its client.
+    /// The first byte of its request, or its client, came.
     pub began: Moment,
-    /// Its head was there.
+    /// Its whole head had come.
     pub asked: Option<Moment>,
-    /// It had its last slot.
+    /// It got its last slot.
     pub granted: Option<Moment>,
-    /// Its server was reached.
+    /// Its server was connected.
     pub connected: Option<Moment>,
-    /// The first byte came of its server.
+    /// The first byte came from its server.
     pub answered: Option<Moment>,
-    /// Its client was told all, or it ended otherwise.
+    /// Its client was sent the whole answer, or it ended otherwise.
     pub ended: Moment,
 }
 
-/// What a loop knows of an exchange.
+/// A loop's record of an exchange.
 #[derive(Debug, Drop)]
 pub struct Account {
     pub client: Option<SocketAddr>,
-    /// None: no head that is taken came.
+    /// `None`: no head came that the proxy accepts.
     pub asked: Option<Asked>,
-    /// What the rules decided. None: they weren't asked.
+    /// The rules' decision; `None` where they weren't applied.
     pub wish: Option<(Class, Offset)>,
-    /// The ticket of its request. None: it had no place.
+    /// The ticket of its request; `None` where it had no place.
     pub ticket: Option<u64>,
-    /// The server that it was given to last.
+    /// The server that it was last given to.
     pub server: Option<usize>,
     pub moments: Moments,
-    /// The status that its client was told.
+    /// The status that its client was sent.
     pub status: Option<u16>,
-    /// So many bytes were read of its client, and written to it.
+    /// The number of bytes that were read from its client, and written to it.
     pub received: u64,
     pub sent: u64,
     pub ended: Ended,
-    /// So many clients there were when it ended.
+    /// The number of clients when it ended.
     pub clients: u64,
-    /// No byte of it came yet.
+    /// No byte of it has come yet.
     pub is_silent: bool,
 }
 
 impl Account {
-    /// It ended otherwise than its messages did, unless that is known already.
+    /// Notes that it ended early, unless a cause is noted already.
     pub fn end_by(&mut self, by: By, during: During) {
         if self.ended.by == By::Nobody && by != By::Nobody {
             self.ended = Ended { by, during };
         }
     }
 
-    /// How far it is, where its client wasn't told all that it is to be told.
+    /// Returns what is under way, where its client wasn't sent its whole answer.
     pub fn under_way(&self) -> During {
         let moments = self.moments;
         if moments.asked.is_none() {
@@ -77,7 +77,7 @@ impl Account {
         }
     }
 
-    /// Its client was told 400 though its server told nothing: it is the request that was at fault.
+    /// Notes that its client was sent 400 though its server answered nothing: the request was at fault.
     pub fn blame_request(&mut self) {
         let told_nothing = self.ended.by == By::Server && self.ended.during == During::Head;
         if told_nothing && self.status == Some(400) {
@@ -88,7 +88,7 @@ impl Account {
         }
     }
 
-    /// Its server has to go on with it, whatever was told of an earlier one.
+    /// Notes the server that it is given to, whatever was noted of an earlier one.
     pub fn grant(&mut self, server: usize, now: Moment) {
         self.server = Some(server);
         self.ended = Ended::well();
@@ -97,7 +97,7 @@ impl Account {
         self.moments.answered = None;
     }
 
-    /// Of an exchange that begins.
+    /// Makes the record of an exchange that begins.
     pub fn new(client: Option<SocketAddr>, began: Moment) -> Account {
         Account {
             client,

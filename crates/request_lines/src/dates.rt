@@ -1,9 +1,9 @@
-//! Moments as wall clock.
+//! Moments as dates and times of day.
 
 use jiff::Timestamp;
 use std::alloc::{AllocError, Global};
 
-/// The text of the last second that was asked for.
+/// The text of the last second that was written.
 #[derive(Drop)]
 struct Second {
     format: &'static str,
@@ -11,24 +11,24 @@ struct Second {
     text: String,
 }
 
-/// The wall clock of a proxy: what it shows when its moments begin, and texts of it.
+/// The wall clock of a proxy: its time at moment 0, and texts of times.
 #[derive(Drop)]
 pub struct Dates {
     alloc: Global,
-    /// Milliseconds since the Unix epoch at moment 0.
+    /// Milliseconds from the Unix epoch to moment 0.
     base: i64,
     now: Second,
     due: Second,
     began: Second,
 }
 
-/// As ISO 8601 has it, and as HAProxy has it, without the milliseconds.
+/// The formats of ISO 8601 and of HAProxy, without the milliseconds.
 const ISO: &str = "%Y-%m-%dT%H:%M:%S";
 
 const PLAIN: &str = "%d/%b/%Y:%H:%M:%S";
 
 impl Dates {
-    /// Where moment 0 is so many milliseconds after the Unix epoch.
+    /// Makes the clock whose moment 0 is this number of milliseconds after the Unix epoch.
     pub fn new(alloc: Global, base: i64) -> Dates {
         Dates {
             alloc,
@@ -39,14 +39,14 @@ impl Dates {
         }
     }
 
-    /// Writes when something happened: so many milliseconds after moment 0, as `2026-11-27T11:10:00.123Z`.
+    /// Writes the time this number of milliseconds after moment 0, as `2026-11-27T11:10:00.123Z`.
     pub fn push_now(&mut self, text: &mut String, millis: i64) -> Result<(), AllocError> {
         let millis = self.base.saturating_add(millis);
         self.now.push(self.alloc, text, millis)?;
         text.push('Z')
     }
 
-    /// The same of a due date.
+    /// Writes a due date in the same form.
     pub fn push_due(&mut self, text: &mut String, millis: i64) -> Result<(), AllocError> {
         let millis = self.base.saturating_add(millis);
         self.due.push(self.alloc, text, millis)?;
@@ -80,7 +80,7 @@ impl Second {
     }
 }
 
-// A moment that no calendar has stands as nothing.
+// A time beyond the calendar becomes an empty text.
 fn text_of(alloc: Global, second: i64, format: &str) -> Result<String, AllocError> {
     let Ok(stamp) = Timestamp::from_second(second) else {
         return Ok(String::new(alloc));
@@ -91,7 +91,7 @@ fn text_of(alloc: Global, second: i64, format: &str) -> Result<String, AllocErro
     }
 }
 
-/// Milliseconds that no clock of this world reaches stand as the last that one could.
+/// A number of milliseconds that doesn't fit becomes the greatest one.
 pub(crate) fn signed(millis: u64) -> i64 {
     i64::try_from(millis).unwrap_or(i64::MAX)
 }

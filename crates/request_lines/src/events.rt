@@ -1,4 +1,4 @@
-//! What happens to a proxy as a whole, a line an event.
+//! The events of a proxy as a whole, one a line.
 
 use crate::dates::{Dates, signed};
 use dispatch_log::{Intake, Queue};
@@ -6,27 +6,28 @@ use script::Names;
 use std::alloc::AllocError;
 use std::net::SocketAddr;
 
-/// How a check failed. A check is a connect.
+/// How a check failed. A check opens a connection.
 #[derive(Clone, Copy, Debug, PartialEq, Eq)]
 pub enum CheckFailure {
     /// The last look-up of the server's name found no address.
     NoAddress,
-    /// Nobody listens there.
+    /// The connection was refused.
     Refused,
-    /// There was no connection within the time of a check.
+    /// No connection was made within the time of a check.
     Late,
-    /// The system says otherwise why there is none.
+    /// The system reported another error.
     Failed,
 }
 
-/// What happened.
+/// An event of the proxy.
 #[derive(Clone, Copy, Debug, PartialEq, Eq)]
 pub enum Event {
     /// The program started.
     Started,
-    /// Clients may come at this address.
+    /// Clients may connect to this address.
     Listening(SocketAddr),
-    /// A check decided that a server is up or down from now on: so many in a row answered, or didn't, and how the last of these failed, where that is known.
+    /// A check decided that a server is up or down from now on: how many checks in a row had this
+    /// result, and how the last one failed, where that is known.
     Health {
         server: usize,
         up: bool,
@@ -35,9 +36,9 @@ pub enum Event {
     },
     /// Requests wait in a queue in which none did.
     Fills(Queue),
-    /// None waits there any more.
+    /// No request waits there any more.
     Empties(Queue),
-    /// A server takes so many from now on.
+    /// A server's limit was set.
     Limit {
         server: usize,
         intake: Intake,
@@ -48,9 +49,9 @@ pub enum Event {
     Lost(u64),
     /// Entries of the dispatcher's log weren't read in time.
     Gap,
-    /// No more clients are taken.
+    /// No more clients are accepted.
     Stopping,
-    /// All is over.
+    /// The proxy has ended.
     Stopped,
 }
 

@@ -1,4 +1,4 @@
-//! What a line has.
+//! The fields of a line.
 
 ghost use Rattle.std.specs.Prelude.{◌≡◌};
 ghost use Rattle.request_lines.specs.Escapes.{is_plain};
@@ -9,7 +9,7 @@ use script::Names;
 use std::alloc::AllocError;
 use ticket_numbers::Numbers;
 
-/// How many requests were at servers when a line was written.
+/// The number of requests at servers when a line was written.
 #[derive(Clone, Copy, Debug, PartialEq, Eq)]
 pub struct Load {
     pub all: usize,
@@ -17,7 +17,8 @@ pub struct Load {
     pub own: usize,
 }
 
-/// What a line tells: what a loop knows, and what the dispatcher's log says of the request. None: that isn't known any more, or the request had no ticket.
+/// The data of a line: the loop's record, and the numbers from the dispatcher's log; `None` where
+/// these aren't known any more, or the request had no ticket.
 #[derive(Clone, Copy)]
 pub struct Line<'a> {
     pub account: &'a Account,
@@ -26,7 +27,7 @@ pub struct Line<'a> {
     pub load: Load,
 }
 
-/// The times of HAProxy's line, in milliseconds. None: it didn't come to that.
+/// The times of HAProxy's line, in milliseconds; `None` where the exchange didn't come to that step.
 #[derive(Clone, Copy)]
 pub(crate) struct Spans {
     pub(crate) request: Option<u64>,
@@ -48,7 +49,7 @@ impl<'a> Line<'a> {
         }
     }
 
-    /// The name of its server; `<NOSRV>` where it was given to none.
+    /// Returns the name of its server; `<NOSRV>` where it was given to none.
     pub(crate) fn server(&self) -> &'a str {
         match self.account.server {
             None => "<NOSRV>",
@@ -56,7 +57,7 @@ impl<'a> Line<'a> {
         }
     }
 
-    /// How many of its connections failed and were followed by another try.
+    /// Returns how many of its connections failed and were followed by another try.
     pub(crate) fn retries(&self) -> u32 {
         match self.numbers {
             None => 0,
@@ -81,7 +82,8 @@ fn span(from: Moment, to: Moment) -> u64 {
     to.get().saturating_sub(from.get())
 }
 
-/// Writes bytes of a request: a byte that isn't printed, a blank, a quote and a `#` stand as `#` and two digits.
+/// Writes bytes of a request: `#` and two digits stand for a byte that isn't printable, a blank, a
+/// quote and a `#`.
 pub(crate) fn push_escaped(text: &mut String, bytes: &[u8]) -> Result<(), AllocError> {
     for byte in bytes {
         push_byte(text, *byte)?;
@@ -97,7 +99,7 @@ fn push_byte(text: &mut String, byte: u8) -> Result<(), AllocError> {
     }
 }
 
-// Whether a byte stands for itself.
+// Says whether a byte stands for itself.
 fn is_plain(byte: u8) -> bool
     ensures { result ≡ is_plain byte }
 {

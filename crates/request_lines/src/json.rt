@@ -1,4 +1,4 @@
-//! A line as one value of JSON.
+//! A line as one JSON value.
 
 use crate::dates::Dates;
 use crate::fields::{Line, push_escaped};
@@ -57,7 +57,7 @@ struct Request<'a> {
     served_by_server: usize,
 }
 
-/// Writes a line as one value of JSON.
+/// Writes a line as one JSON value.
 pub fn push_json(
     alloc: Global,
     text: &mut String,
@@ -75,7 +75,7 @@ pub fn push_json(
     }
 }
 
-/// Writes that so many lines were left out.
+/// Writes that this number of lines were left out.
 pub(crate) fn push_lost_json(text: &mut String, lost: u64) -> Result<(), AllocError> {
     writeln!(text, "{{\"lost\":{lost}}}")
 }

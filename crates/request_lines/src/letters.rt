@@ -1,24 +1,24 @@
-//! How an exchange ended, in the two letters of HAProxy's termination state.
+//! The end of an exchange, in the two letters of HAProxy's termination state.
 
 ghost use Rattle.std.specs.Prelude.{◌≡◌};
 ghost use Rattle.request_lines.specs.Letters as letters;
 
 use verdict::Cause;
 
-/// Who or what ended an exchange before its end.
+/// What ended an exchange early.
 #[derive(Clone, Copy, Debug, PartialEq, Eq)]
 pub enum By {
-    /// Nobody: it came to its end.
+    /// Nothing: it came to its proper end.
     Nobody,
     /// Its client left, or its connection broke.
     Client,
-    /// `timeout client` was over.
+    /// `timeout client` expired.
     ClientTime,
     /// Its server refused it, or its connection broke.
     Server,
-    /// `timeout server`, `timeout connect` or `timeout queue` was over.
+    /// `timeout server`, `timeout connect` or `timeout queue` expired.
     ServerTime,
-    /// The proxy, which doesn't take it.
+    /// The proxy refused it.
     Proxy,
     /// Memory, places or descriptors were short.
     Shortage,
@@ -27,19 +27,19 @@ pub enum By {
 /// What was under way then.
 #[derive(Clone, Copy, Debug, PartialEq, Eq)]
 pub enum During {
-    /// All was over.
+    /// Nothing: all was done.
     Nothing,
-    /// The request came in.
+    /// The request was being read.
     Request,
     /// It waited.
     Queue,
-    /// The server's connection was opened.
+    /// The server was being connected to.
     Connect,
     /// The answer's head was awaited.
     Head,
-    /// The answer's body was handed on.
+    /// The answer's body was being handed on.
     Data,
-    /// The rest of the answer went to the client, and its server was through.
+    /// The rest of the answer was being sent to the client, after the server's end.
     Last,
 }
 
@@ -51,7 +51,7 @@ pub struct Ended {
 }
 
 impl Ended {
-    /// It came to its end.
+    /// Makes the proper end.
     pub fn well() -> Ended
         ensures { result ≡ letters.well }
     {
@@ -61,7 +61,7 @@ impl Ended {
         }
     }
 
-    /// Both letters.
+    /// Returns both letters.
     pub fn letters(self) -> (char, char)
         ensures { result ≡ (letters.by_letter self.by, letters.during_letter self.during) }
     {
@@ -69,7 +69,9 @@ impl Ended {
     }
 }
 
-/// Why a request wasn't served, where its exchange ended so. The loops have one aborted whose `timeout queue` is over and began before it had a place: it timed out.
+/// Returns why a request wasn't served, where its exchange ended so. The loops abort a request
+/// whose `timeout queue` expires and which began to wait before it had a place; it counts as timed
+/// out.
 pub fn cause_told(cause: Cause, ended: Ended) -> Cause
     ensures { result ≡ letters.cause_told cause ended.by }
 {

@@ -1,4 +1,5 @@
-//! The lines of an access log: from what a loop accounts of an exchange, and what the dispatcher's log tells of its request, to text or JSON.
+//! The lines of an access log: from a loop's record of an exchange, and what the dispatcher's log
+//! tells of its request, to text or JSON.
 #![tactic(auto)]
 
 mod account;

@@ -1,4 +1,4 @@
-//! A line as HAProxy's `option httplog` has it, and behind the quoted request what only this dispatcher knows.
+//! A line in the form of HAProxy's `option httplog`, with the dispatcher's own fields after the quoted request.
 
 use crate::dates::{Dates, signed};
 use crate::fields::{Line, push_escaped};
@@ -9,7 +9,7 @@ use script::Names;
 use std::alloc::{AllocError, Global};
 use ticket_numbers::{Numbers, Slot};
 
-/// In which form lines are written.
+/// The form of the lines.
 #[derive(Clone, Copy, Debug, PartialEq, Eq)]
 pub enum Format {
     Text,
@@ -30,7 +30,7 @@ pub fn push_line(
     }
 }
 
-/// Writes that so many lines were left out, as a line.
+/// Writes a line that reports this number of lines as left out.
 pub fn push_lost(
     text: &mut String,
     dates: &mut Dates,
@@ -59,7 +59,7 @@ pub fn push_text(text: &mut String, dates: &mut Dates, line: &Line) -> Result<()
     text.push('\n')
 }
 
-// Five words as a line of syslog has them, the client, when it came, and its server.
+// Writes five words as in a line of syslog, the client, the time when it came, and its server.
 fn push_head(text: &mut String, dates: &mut Dates, line: &Line) -> Result<(), AllocError> {
     let account = line.account;
     dates.push_now(text, account.moments.ended.get() as i64)?;
@@ -107,7 +107,7 @@ fn push_load(text: &mut String, line: &Line) -> Result<(), AllocError> {
     )
 }
 
-// How many requests went before it from its server's queue, and from the backend's.
+// Returns how many requests went before it from its server's queue, and from the backend's.
 fn ahead(numbers: Option<&Numbers>) -> (usize, usize) {
     let Some(slot) = slot_of(numbers) else {
         return (0, 0);
@@ -136,7 +136,7 @@ fn push_request(text: &mut String, line: &Line) -> Result<(), AllocError> {
     write!(text, " HTTP/1.{}\"", asked.minor)
 }
 
-// What the rules decided, and when it was due.
+// Writes the rules' decision, and the due date.
 fn push_wish(text: &mut String, dates: &mut Dates, line: &Line) -> Result<(), AllocError> {
     if let Some((class, offset)) = line.account.wish {
         write!(text, " class={} offset={}", class.get(), offset.get())?;
@@ -151,7 +151,7 @@ fn push_wish(text: &mut String, dates: &mut Dates, line: &Line) -> Result<(), Al
     write!(text, " read={}", line.account.received)
 }
 
-// Where it waited and how long, and who went before it.
+// Writes where it waited and how long, and how many requests went before it.
 fn push_wait(text: &mut String, line: &Line) -> Result<(), AllocError> {
     let Some(numbers) = line.numbers else {
         return Ok(());
@@ -181,7 +181,7 @@ fn push_wait(text: &mut String, line: &Line) -> Result<(), AllocError> {
     }
 }
 
-/// The queue in which a stay was: `*` is the backend's. None: there was none.
+/// Returns the queue of a stay: `*` is the backend's. `None` where there was no stay.
 pub(crate) fn queue_name<'a>(names: &'a Names, slot: &Slot) -> Option<&'a str> {
     match slot.stay?.queue {
         Queue::Backend => Some("*"),

@@ -1,5 +1,6 @@
-//! The access log and the event log of a proxy that runs: loops tell of exchanges that ended through rings of their own, and a thread joins that with what the dispatcher's
-//! log says. No loop waits for it, and where it is too slow, lines are left out and counted.
+//! The access log and the event log of a running proxy: each loop puts the records of ended
+//! exchanges into a ring of its own, and a thread joins them with the dispatcher's log. No loop
+//! waits for it; where it is too slow, lines are left out and counted.
 #![tactic(auto)]
 
 mod log;

@@ -8,28 +8,28 @@ use std::sync::atomic::{AtomicBool, AtomicU64, Ordering};
 use std::sync::{Arc, Mutex, MutexGuard, Wait};
 use std::time::{Clock, Instant};
 
-/// So many exchanges that ended wait for the thread that writes of them, at most, in each ring.
+/// The most records that wait in each ring for the writing thread.
 const RING: usize = 8192;
 
-/// Where lines of exchanges go.
+/// The target of the lines of exchanges.
 #[derive(Drop)]
 pub struct Access {
     pub sink: Arc<Sink>,
     pub format: Format,
-    /// The lines of windows go there, too.
+    /// The lines of windows go there too.
     pub has_windows: bool,
 }
 
-/// What is wanted of logs.
+/// The logs that are wanted.
 #[derive(Drop)]
 pub struct Logs {
     pub access: Option<Access>,
     pub events: Option<Arc<Sink>>,
-    /// What is counted, where that is wanted: of a proxy to which nothing happened.
+    /// The counters of a fresh proxy, where they are wanted.
     pub numbers: Option<ProxyNumbers>,
 }
 
-/// Of how many servers and loops, and when: moments begin here, at so many milliseconds after the Unix epoch.
+/// The number of servers and loops, and the origin of moments, with its time in milliseconds since the Unix epoch.
 #[derive(Clone, Copy)]
 pub struct Extent {
     pub servers: usize,
@@ -38,40 +38,40 @@ pub struct Extent {
     pub base: i64,
 }
 
-/// What the threads of a proxy share of its logs.
+/// The logs of a proxy, which its threads share.
 #[derive(Drop)]
 pub struct RequestLog {
     pub(crate) access: Option<Access>,
     pub(crate) events: Option<Arc<Sink>>,
     numbers: Option<Mutex<ProxyNumbers>>,
     rings: Mutex<Vec<Producer<Told>>>,
-    /// So many exchanges were told of, those that found no room among them.
+    /// The number of records so far, with those that found no room.
     told: AtomicU64,
     scribe: Mutex<Option<Scribe>>,
-    /// Accounts that found no room.
+    /// The number of records that found no room.
     lost: AtomicU64,
-    /// Lines of exchanges and of events that were lost, and not told of to the end.
+    /// The numbers of lines of exchanges and of events that were lost and never reported.
     untold: AtomicU64,
     unsaid: AtomicU64,
-    /// How each server's last check failed, where one did.
+    /// How each server's last failed check failed, where one did.
     failures: Mutex<Vec<Option<CheckFailure>>>,
-    /// So many requests wait outside for a place.
+    /// The number of requests that wait outside for a place.
     outside: AtomicU64,
     stopping: AtomicBool,
     over: AtomicBool,
 }
 
-/// An exchange that ended, and how many were told of before it, by any loop.
+/// A record of an ended exchange, and the number of records before it, by any loop.
 #[derive(Drop)]
 pub(crate) struct Told {
     pub(crate) number: u64,
     pub(crate) account: Box<Account>,
 }
 
-/// The other ends of the rings.
+/// The receiving ends of the rings.
 pub(crate) type Ends = Vec<Consumer<Told>>;
 
-/// What a loop tells of its exchanges with.
+/// The sink for a loop's records.
 #[derive(Drop)]
 pub struct Teller<'a> {
     ring: Producer<Told>,
@@ -79,7 +79,8 @@ pub struct Teller<'a> {
 }
 
 impl RequestLog {
-    /// The logs of a proxy. A ring for each loop is there where exchanges are to be told of or counted. None: nothing is wanted.
+    /// Makes the logs of a proxy. There is a ring for each loop where exchanges are logged or
+    /// counted. `None`: nothing is wanted.
     pub fn new(
         alloc: Global,
         logs: Logs,
@@ -118,19 +119,19 @@ impl RequestLog {
         }))
     }
 
-    /// What its writing thread works with; once.
+    /// Takes the state of the writing thread; once.
     pub fn take_scribe<R: Wait>(&self, rt: &R) -> Option<Scribe> {
         self.scribe.lock(rt).take()
     }
 
-    /// What a loop tells with. None: lines aren't wanted, or each ring is taken.
+    /// Takes the sink for a loop's records. `None` where no lines are wanted, or all are taken.
     pub fn teller<R: Wait>(&self, rt: &R) -> Option<Teller<'_>> {
         let popped = self.rings.lock(rt).pop();
         let ring = popped?;
         Some(Teller { ring, log: self })
     }
 
-    /// What is counted, where that is wanted. The thread that counts waits while it is looked at.
+    /// Returns the counters, where they are wanted. The counting thread waits while the guard is held.
     pub fn numbers<R: Wait>(&self, rt: &R) -> Option<MutexGuard<'_, ProxyNumbers>> {
         let numbers = self.numbers.as_ref()?;
         Some(numbers.lock(rt))
@@ -143,7 +144,7 @@ impl RequestLog {
         }
     }
 
-    /// Has their files opened anew. False: no log goes to a file.
+    /// Has the log files opened again. False where no log goes to a file.
     pub fn reopen<R: Wait>(&self, rt: &R) -> bool {
         let access = match &self.access {
             Some(access) => access.sink.reopen(rt),
@@ -156,7 +157,7 @@ impl RequestLog {
         access || events
     }
 
-    /// A check of a server failed.
+    /// Notes how a check of a server failed.
     pub fn note_failure<R: Wait>(&self, rt: &R, server: usize, failure: CheckFailure) {
         let mut failures = self.failures.lock(rt);
         if let Some(last) = failures.get_mut(server) {
@@ -164,13 +165,13 @@ impl RequestLog {
         }
     }
 
-    /// How the last check of a server failed that did.
+    /// Returns how the last failed check of a server failed.
     pub(crate) fn failure_of<R: Wait>(&self, rt: &R, server: usize) -> Option<CheckFailure> {
         let failures = self.failures.lock(rt);
         failures.get(server).copied().flatten()
     }
 
-    /// So many requests wait outside for a place.
+    /// Sets the number of requests that wait outside for a place.
     pub fn note_outside(&self, requests: u64) {
         self.outside.store(requests, Ordering::SeqCst);
     }
@@ -179,7 +180,7 @@ impl RequestLog {
         self.outside.load(Ordering::SeqCst)
     }
 
-    /// No more clients are taken.
+    /// Notes that no more clients are accepted.
     pub fn note_stop(&self) {
         self.stopping.store(true, Ordering::SeqCst);
     }
@@ -188,12 +189,12 @@ impl RequestLog {
         self.stopping.load(Ordering::SeqCst)
     }
 
-    /// All loops have ended.
+    /// Notes that all loops have ended.
     pub fn end(&self) {
         self.over.store(true, Ordering::SeqCst);
     }
 
-    /// So many lines of exchanges and of events were lost, and their logs say nothing of it.
+    /// Counts lost lines of exchanges and of events that the logs don't report.
     pub(crate) fn note_untold(&self, exchanges: u64, events: u64) {
         self.untold.store(exchanges, Ordering::SeqCst);
         self.unsaid.store(events, Ordering::SeqCst);
@@ -203,17 +204,18 @@ impl RequestLog {
         self.over.load(Ordering::SeqCst)
     }
 
-    /// How many exchanges were told of.
+    /// Returns the number of records so far.
     pub(crate) fn told(&self) -> u64 {
         self.told.load(Ordering::SeqCst)
     }
 
-    /// How many exchanges couldn't be told of since it was last asked.
+    /// Returns how many records found no room since the last call.
     pub(crate) fn take_lost(&self) -> u64 {
         self.lost.swap(0, Ordering::SeqCst)
     }
 
-    /// Waits until all lines are written, for a while. Answers how many lines of exchanges and how many of events weren't written then, and weren't told of.
+    /// Waits for a while until all lines are written. Returns how many lines of exchanges and of
+    /// events weren't written and weren't reported.
     pub fn close<R: Wait + Clock>(&self, rt: &R) -> (u64, u64) {
         let access = match &self.access {
             Some(access) => access.sink.end(rt),
@@ -230,7 +232,7 @@ impl RequestLog {
 }
 
 impl Teller<'_> {
-    /// Tells of an exchange that ended. Where its ring is full it is counted, and nobody waits.
+    /// Hands on the record of an ended exchange. Where its ring is full it is only counted; no thread waits.
     pub fn tell(&mut self, account: Box<Account>) {
         let number = self.log.told.fetch_add(1, Ordering::SeqCst);
         if self.ring.push(Told { number, account }).is_err() {

@@ -15,22 +15,22 @@ use std::thread;
 use std::time::{Clock, Duration, Instant, SystemTime, UNIX_EPOCH};
 use ticket_numbers::{Follower, Numbers};
 
-/// The dispatcher's log is read whenever so many milliseconds have passed.
+/// The dispatcher's log is read each time this number of milliseconds has passed.
 const PAUSE: u64 = 10;
 
-/// Lines of so many bytes go on their way at once.
+/// Lines are handed over in blocks of this number of bytes.
 const BLOCK: usize = 1 << 15;
 
-/// So many entries wait to be read, at most.
+/// The most entries that wait to be read.
 const TAIL: usize = 1 << 17;
 
-/// So many exchanges are told of at once, at most.
+/// The most records of exchanges that the thread holds at a time.
 const MOST: usize = 16_384;
 
-/// Of so many requests something is known, at most: where more accounts are lost than that, their numbers are forgotten.
+/// The most requests that the follower knows: where more records than that are lost, their numbers are forgotten.
 const MOST_KNOWN: usize = 1 << 17;
 
-/// The thread that writes the logs: what it reads, and what it knows.
+/// The state of the thread that writes the logs.
 #[derive(Drop)]
 pub struct Scribe {
     alloc: Global,
@@ -42,14 +42,14 @@ pub struct Scribe {
     dates: Dates,
     start: Instant,
     text: String,
-    /// Lines of exchanges that were left out and not told of yet.
+    /// The number of lines of exchanges that were left out and not reported yet.
     lost: u64,
-    /// The same of lines of events.
+    /// The same for lines of events.
     unsaid: u64,
     stopping: bool,
 }
 
-/// The wall clock at moment 0, in milliseconds since the Unix epoch; 0 where no clock can be read.
+/// Returns the wall clock at moment 0, in milliseconds since the Unix epoch; 0 where no clock can be read.
 pub fn base_of<R: Clock>(rt: &R, start: Instant) -> i64 {
     let passed = start.elapsed(rt).unwrap_or(Duration::from_millis(0));
     let Ok(now) = SystemTime::now(rt) else {
@@ -61,17 +61,17 @@ pub fn base_of<R: Clock>(rt: &R, start: Instant) -> i64 {
     i64::try_from(since.saturating_sub(passed).as_millis()).unwrap_or(i64::MAX)
 }
 
-/// Of which proxy is written.
+/// The proxy that the logs are about.
 #[derive(Clone, Copy)]
 pub struct Site<'a> {
     /// The names of its servers.
     pub names: &'a Names,
-    /// Where clients come.
+    /// The address where clients connect.
     pub address: Option<SocketAddr>,
 }
 
 impl Scribe {
-    /// With the ends of rings, for servers at which nothing happened.
+    /// Makes the state of the writing thread, with the ends of the rings, for servers that have served nothing.
     pub(crate) fn new(alloc: Global, ends: Ends, extent: Extent) -> Result<Scribe, AllocError> {
         Ok(Scribe {
             alloc,
@@ -89,7 +89,7 @@ impl Scribe {
         })
     }
 
-    /// Writes of all that happens at a desk, until all loops have ended and all is told.
+    /// Writes the lines of a desk's log, until all loops have ended and all is written.
     pub fn write_all<N: BoardName, R: Clock + Wait>(
         self,
         rt: &R,
@@ -122,7 +122,7 @@ impl Scribe {
         log.note_untold(scribe.lost, scribe.unsaid);
     }
 
-    // Tells of what ended and what happened since. True: more may be there already.
+    // Writes what has happened since the last call. Returns true where there may be more already.
     fn go_on<N: BoardName, R: Clock + Wait>(
         &mut self,
         rt: &R,
@@ -130,9 +130,10 @@ impl Scribe {
         desk: &Desk<N>,
         names: &Names,
     ) -> bool {
-        // The loops go on telling: what they tell from here on is taken the next time, so that no line stands before an earlier one's.
+        // The loops go on meanwhile: what they hand on from here is taken the next time, so that no
+        // line stands before an earlier one.
         let has_more = self.gather(log.told());
-        // What is told of an exchange is in the log by now.
+        // The log has the entries of each exchange whose record was taken.
         desk.read_new(rt, &mut self.batch);
         self.take_in(rt, log, desk, names);
         self.count_ends(rt, log);
@@ -141,7 +142,8 @@ impl Scribe {
         has_more
     }
 
-    // Takes the accounts of what ended, in the order in which loops told of it, before so many were told of. True: there are more.
+    // Takes the records of ended exchanges, in the order in which the loops handed them on, up to
+    // the given number. Returns true where there are more.
     fn gather(&mut self, until: u64) -> bool {
         for _ in self.accounts.len()..MOST {
             let Some(ring) = self.next_ring(until) else {
@@ -157,7 +159,7 @@ impl Scribe {
         true
     }
 
-    // The ring whose first account was told of before those of all others, and before so many.
+    // Returns the ring with the earliest record, below the given number.
     fn next_ring(&mut self, until: u64) -> Option<usize> {
         let mut least = until;
         let mut found = None;
@@ -172,7 +174,7 @@ impl Scribe {
         found
     }
 
-    // What was read of the dispatcher's log becomes known.
+    // Takes the new entries of the dispatcher's log.
     fn take_in<N: BoardName, R: Clock + Wait>(
         &mut self,
         rt: &R,
@@ -202,7 +204,7 @@ impl Scribe {
         }
     }
 
-    // Nothing is known any more of requests that came before; so many windows ended unread.
+    // Forgets all earlier requests, after this number of windows that ended unread.
     fn forget<R: Wait>(&mut self, rt: &R, log: &RequestLog, ends: u64) {
         self.follower.forget();
         if let Some(mut numbers) = log.numbers(rt) {
@@ -255,7 +257,7 @@ impl Scribe {
         }
     }
 
-    // Queues that fill or are empty again, and the end that comes.
+    // Writes the queues that fill or become empty, and the beginning of the end.
     fn tell_changes<R: Clock + Wait>(&mut self, rt: &R, log: &RequestLog, names: &Names) {
         if log.events.is_none() {
             return;
@@ -313,7 +315,7 @@ impl Scribe {
         }
     }
 
-    // No line is wanted of what ended.
+    // Drops the records, where no lines of exchanges are wanted.
     fn pass_over<R: Wait>(&mut self, rt: &R) {
         for _ in rt.forever() {
             let Some(account) = self.accounts.pop_front() else {
@@ -337,7 +339,7 @@ impl Scribe {
         self.hand_over(rt, access, lines);
     }
 
-    // What was written so far of so many lines goes on its way.
+    // Hands over the text of `lines` lines.
     fn hand_over<R: Wait>(&mut self, rt: &R, access: &Access, lines: u64) {
         if lines != 0 && !access.sink.add(rt, self.text.as_str(), lines) {
             self.lost = self.lost.saturating_add(lines);
@@ -345,7 +347,7 @@ impl Scribe {
         self.text.clear();
     }
 
-    // Writes one behind so many lines, and answers how many there are then.
+    // Appends a line after `lines` others, and returns how many there are then.
     fn add_line<R: Wait>(
         &mut self,
         rt: &R,
@@ -384,7 +386,7 @@ impl Scribe {
         0
     }
 
-    // Tells how many lines were left out, once others could be written again.
+    // Writes how many lines were left out, once others can be written again.
     fn write_lost<R: Clock + Wait>(&mut self, rt: &R, access: &Access) {
         if self.lost == 0 || access.sink.is_failing(rt) {
             return;
@@ -430,7 +432,7 @@ impl Scribe {
         );
     }
 
-    // Makes the line of an event; false where there is no memory for it.
+    // Makes the line of an event. False where there is no memory for it.
     fn makes<R: Clock>(&mut self, rt: &R, names: &Names, event: Event) -> bool {
         let now = self.now(rt);
         self.text.clear();

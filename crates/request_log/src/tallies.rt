@@ -1,4 +1,4 @@
-//! What is counted of a dispatcher's log while it is read.
+//! The counts that are kept while a dispatcher's log is read.
 
 use dispatch_log::{Entry, Queue};
 use grant_board::BoardName;
@@ -7,23 +7,23 @@ use std::alloc::{AllocError, Global};
 use std::sync::Wait;
 use ticket_numbers::Follower;
 
-/// The results of the last checks of a server, as far as they are alike.
+/// The last results of a server's checks, as far as they are equal.
 #[derive(Clone, Copy)]
 struct Run {
     ok: bool,
     checks: u32,
 }
 
-/// How many requests wait in a queue, and what was last said of it.
+/// The number of requests that wait in a queue, and the last report on it.
 #[derive(Clone, Copy)]
 struct Length {
     waiting: usize,
     told: bool,
-    /// When that was said. None: nothing was.
+    /// When that report was made; `None` where there was none.
     since: Option<u64>,
 }
 
-/// How many requests each server serves, how many wait in each queue, and how its checks went.
+/// The number of requests that each server serves and that wait in each queue, and the results of the checks.
 #[derive(Drop)]
 pub(crate) struct Tallies {
     served: Vec<usize>,
@@ -32,11 +32,11 @@ pub(crate) struct Tallies {
     lengths: Vec<Length>,
 }
 
-/// A change of a queue is told once in so many milliseconds, at most.
+/// The least time between two reports on a queue, in milliseconds.
 const SELDOM: u64 = 1000;
 
 impl Tallies {
-    /// Of so many servers, of which nothing is known.
+    /// Makes the counts for this number of servers, of which nothing is known.
     pub(crate) fn new(alloc: Global, servers: usize) -> Result<Tallies, AllocError> {
         let mut served = Vec::new(alloc);
         let mut runs = Vec::new(alloc);
@@ -57,7 +57,8 @@ impl Tallies {
         })
     }
 
-    /// What a desk says in place of what was counted, where entries of its log weren't read. What it does at the same time may be counted twice or not at all.
+    /// Replaces the counts by what a desk says, where entries of its log weren't read. What the
+    /// desk does at the same time may be counted twice or not at all.
     pub(crate) fn set_anew<N: BoardName, R: Wait>(&mut self, rt: &R, desk: &Desk<N>) {
         for (server, served) in self.served.as_mut_slice().iter_mut().enumerate() {
             *served = desk.served(rt, server);
@@ -67,7 +68,7 @@ impl Tallies {
         }
     }
 
-    /// Takes an entry in that follows what the follower knows.
+    /// Counts the next entry of the log, together with the follower.
     pub(crate) fn note(&mut self, follower: &Follower, entry: &Entry) {
         match *entry {
             Entry::Direct(_, server) => self.serves(server),
@@ -87,14 +88,14 @@ impl Tallies {
         }
     }
 
-    /// So many are served by all servers.
+    /// Returns the number of requests that all servers serve.
     pub(crate) fn served_by_all(&self) -> usize {
         self.served
             .iter()
             .fold(0usize, |sum, served| sum.saturating_add(*served))
     }
 
-    /// So many by this one.
+    /// Returns the number of requests that this server serves.
     pub(crate) fn served(&self, server: Option<usize>) -> usize {
         match server {
             None => 0,
@@ -102,7 +103,7 @@ impl Tallies {
         }
     }
 
-    /// How many checks of a server in a row went as its last one.
+    /// Returns how many checks of a server in a row had the result of its last one.
     pub(crate) fn checks(&self, server: usize) -> u32 {
         match self.runs.get(server) {
             None => 0,
@@ -110,7 +111,7 @@ impl Tallies {
         }
     }
 
-    /// A queue that is empty or not, other than was last said of it, and which of both it is.
+    /// Returns a queue that is empty or not, unlike its last report, and which of both it is.
     pub(crate) fn take_change(&mut self, now: u64) -> Option<(Queue, bool)> {
         let number = self
             .lengths

@@ -1,7 +1,7 @@
--- How much a proxy may take on.
+-- The sizes of a proxy.
 use Rattle.std.specs.Prelude.{ℕ, ◌<◌, ◌≤◌, Option, IfSome}
 
--- where it is given, it is 1 to so many
+-- the number, where it is given, is from 1 to this one
 abbrev pub IsWithin : Option ℕ → ℕ → Type 0
 IsWithin given most = IfSome given (λ number. (0 < number) × (number ≤ most))
 

@@ -1,4 +1,4 @@
-//! How much a proxy takes on, as the command line says.
+//! The sizes of a proxy, by the command line.
 #![tactic(auto)]
 
 mod sizes;

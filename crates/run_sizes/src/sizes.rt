@@ -1,16 +1,16 @@
 ghost use Rattle.std.specs.Prelude.{◌≡◌, ◌<◌, ◌≤◌, ◌↔◌, IfSome, IsSome, IsTrue};
 ghost use Rattle.run_sizes.specs.Sizes.{IsWithin, AreWithin};
 
-/// So many loops there are at most.
+/// The most loops.
 pub const MOST_LOOPS: u32 = 64;
 
-/// So many runners there are at most.
+/// The most runners.
 pub const MOST_WORKERS: u32 = 256;
 
-/// So many requests wait beyond the places at most before no client is accepted.
+/// The most requests that may wait beyond the places before no client is accepted.
 pub const MOST_WAITING: u32 = 65_536;
 
-/// What the command line says.
+/// The sizes that the command line gives.
 #[derive(Clone, Copy, Debug, PartialEq, Eq)]
 pub struct Sizes {
     pub workers: Option<u32>,
@@ -22,20 +22,22 @@ pub struct Sizes {
     ghost most: { places ≤ 4096 },
 }
 
-/// How many loops there are, and for how many places.
+/// The number of loops, and of their places.
 #[derive(Clone, Copy, Debug, PartialEq, Eq)]
 pub struct LoopSizes {
     pub loops: usize,
     pub places: usize,
-    /// So many requests are at servers at a time, at most.
+    /// The most requests that are at servers at a time.
     pub slots: usize,
-    /// While so many requests wait for a place, no client is accepted.
+    /// While this number of requests wait for a place, no client is accepted.
     pub waiting: u64,
 }
 
 impl Sizes {
-    /// So many runners, 1 to 256, loops, 1 to 64, and requests that wait beyond the places, 1 to 65,536, where they are given; so many requests live, 1 to 4,096; after so many clients it ends, at most
-    /// 999,999,999, 0: never. None where one of them is out of its range.
+    /// Checks the sizes: runners, 1 to 256, loops, 1 to 64, and requests that wait beyond the
+    /// places, 1 to 65,536, where they are given; live requests, 1 to 4,096; and the number of
+    /// clients after which it ends, at most 999,999,999, where 0 is never. `None` where one of them
+    /// is out of its range.
     pub fn new(
         workers: Option<u32>,
         loops: Option<u32>,
@@ -66,7 +68,7 @@ impl Sizes {
     }
 }
 
-// Whether a number that is given is 1 to this one.
+// Says whether a number that is given is from 1 to this one.
 fn is_within(given: Option<u32>, most: u32) -> bool
     ensures { IsTrue result ↔ IsWithin given most }
 {

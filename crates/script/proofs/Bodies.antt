@@ -194,7 +194,7 @@ settings_whole all count is none =
         ap (λ o. cons_option o (filter_map setting_of rest)) (step_sets_nothing line step)
         ∙ none_set (take count all ++ line ∷ []) rest (begun_now (take count all) line step) (sym (next_fault (take count all) line rest fine) ∙ here)
 
--- so many lines are gone through, behind a header of so many; no fault stands in them
+-- this many lines behind a header of this many were read; none of them is faulty
 pub record AreThrough (all before left : List (List ℕ)) (header number : ℕ) : Type 0 where
   pub cut : all ≡ before ++ left
   pub count : number ≡ length before

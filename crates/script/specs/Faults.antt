@@ -7,15 +7,15 @@ use Rattle.script.specs.Steps.{step_of}
 use Rattle.script.specs.Headers.{Settings, settings_of}
 use Rattle.script.specs.Lines.{line_of, is_fault}
 
--- whether a line asks for a step: for an event, or for the next window
+-- a line asks for a step: an event, or the next window
 abbrev pub is_step : List ℕ → Bool
 is_step line = is_some (step_of line)
 
--- whether a line is faulty behind lines with these settings, and with a step or none
+-- a line is faulty after lines with these settings, and with a step or none
 abbrev pub is_faulty : Settings → Bool → List ℕ → Bool
 is_faulty settings begun line = is_fault settings begun (line_of line)
 
--- the number of the first line that is faulty behind those before it, of which the first ones are known not to be
+-- the number of the first line that is faulty after those before it, where the first lines are known to be sound
 abbrev pub fault_behind : List (List ℕ) → List (List ℕ) → Option ℕ
 fault_behind before [] = None
 fault_behind before (line ∷ rest) =

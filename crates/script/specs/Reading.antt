@@ -1,4 +1,4 @@
--- Settings that are taken in one by one.
+-- Settings that are collected one by one.
 use Rattle.std.specs.Prelude.{◌≡◌, take, drop, ℕ, ◌<◌, ◌≤◌, ◌^◌, ◌||◌, IsTrue, List, [], ◌∷◌, ◌++◌, Option, None, Some}
 use Rattle.std.specs.Option.{option_map_or, option_or}
 use Rattle.dispatch_log.specs.Setups.{is_within}
@@ -22,12 +22,12 @@ abbrev pub IsWithinLine : Line → Type 0
 IsWithinLine (lines.Setting setting) = IsWithin setting
 IsWithinLine other = Unit
 
--- items, and one more where there is one
+-- the items, and one more if there is one
 abbrev pub with_last : {X : Type 0} → List X → Option X → List X
 with_last xs None = xs
 with_last xs (Some x) = xs ++ x ∷ []
 
--- settings, and one more: a server comes last, and of a word that comes again the last stands
+-- the settings with one more: a server comes last, and where a word is repeated its last value counts
 abbrev pub with_setting : Settings → Setting → Settings
 with_setting settings setting = record {
   names = with_last settings.names (name_in setting);
@@ -39,16 +39,17 @@ with_setting settings setting = record {
   queue_timeout = option_or (timeout_in setting) settings.queue_timeout;
 }
 
--- settings, and what a line sets
+-- the settings with those of a line
 abbrev pub with_line : Settings → List ℕ → Settings
 with_line settings line = option_map_or (with_setting settings) (setting_of line) settings
 
--- settings, and what a line is
+-- the settings with those of a line of this kind
 abbrev pub with_kind : Settings → Option Line → Settings
 with_kind settings (Some (lines.Setting setting)) = with_setting settings setting
 with_kind settings other = settings
 
--- so many lines stand before the first step of all: behind them comes a step or nothing, and none of them is the first faulty line
+-- this many lines stand before the first step: after them comes a step or nothing, and none of
+-- them is the first faulty line
 pub record IsHeader (all : List (List ℕ)) (count : ℕ) : Type 0 where
   pub begins : (line : List ℕ) (rest : List (List ℕ)) → drop count all ≡ line ∷ rest → IsTrue (is_step line)
   pub faultless : fault_behind [] all ≡ fault_behind (take count all) (drop count all)

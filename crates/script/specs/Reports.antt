@@ -6,20 +6,20 @@ use Rattle.late_cert.specs.declared.report.Report.{Report}
 use Rattle.readable_log.specs.declared.grant.Stay.{Stay}
 use Rattle.script.specs.Traces.{queue_name}
 
--- the ticket of a stay, behind a space
+-- the ticket of a stay, after a space
 abbrev pub ticket_text : Stay → List ℕ
 ticket_text stay = codes " " ++ decimal stay.ticket
 
--- those of stays, in order
+-- the tickets of stays, in order
 abbrev pub tickets_text : List Stay → List ℕ
 tickets_text stays = flat_map ticket_text stays
 
--- whom a report is about, under these names of the servers: how many requests from which queue and of which class
+-- the subject of a report, with the servers' names: the number of requests, their queue and their class
 abbrev pub group_text : List (List ℕ) → Report → List ℕ
 group_text names report = codes "queue " ++ queue_name names report.queue ++ codes " class " ++ signed_decimal report.class ++ codes " granted " ++ decimal
     report.granted
 
--- the greatest lateness, the due date of the worst stay, the cut, and the position of that stay's slot
+-- the greatest lateness, the due date of the worst stay, the cut, and the position of the worst stay's slot
 abbrev pub worst_text : Report → List ℕ
 worst_text report = codes " worst " ++ signed_decimal report.worst ++ codes " due " ++ signed_decimal report.due ++ codes " after " ++ decimal report.after ++
     codes " to " ++ decimal report.to
@@ -31,6 +31,6 @@ report_text names report = group_text names report ++ worst_text report ++ codes
 abbrev pub reports_text : List (List ℕ) → List Report → List ℕ
 reports_text names reports = flat_map (report_text names) reports
 
--- the line of a roll, and those of the reports of the window that it ends
+-- the line of a roll, and the lines of the reports on the window that it ends
 abbrev pub roll_text : List (List ℕ) → List Report → List ℕ
 roll_text names reports = codes "roll\n" ++ reports_text names reports

@@ -1,4 +1,4 @@
--- The text that a dispatcher's answers to a script are written as.
+-- The text of a dispatcher's answers to a script.
 use Rattle.std.specs.Prelude.{◌≡◌, ◌⊎◌, ℕ, pos, ◌+ℤ◌, List, [], ◌∷◌, ◌++◌, length, position, Option, Some, None, option_map}
 use Rattle.std.specs.Option.{unwrap_or}
 use Rattle.std.specs.Str.{bytes_eq}
@@ -15,15 +15,15 @@ use Rattle.script.specs.declared.step.Step.{Step}
 use Rattle.script.specs.declared.step.Step.TheVariants.{Arrive, Done, Fail, Abort, Tick, Check, Limit, Roll}
 use Rattle.script.specs.Traces.{entries_text, refusal_text}
 
--- the number of the server that has a name; where none has it the number of servers, which is no server's
+-- the number of the server with a name; where no server has it the number of servers, which is no server's
 abbrev pub number_of : List (List ℕ) → List ℕ → ℕ
 number_of names name = unwrap_or (position (bytes_eq name) names) (length names)
 
--- the pin that a name stands for
+-- the pin of a name
 abbrev pub pin_of : List (List ℕ) → Option (List ℕ) → Option ℕ
 pin_of names pin = option_map (number_of names) pin
 
--- what refuses a step now; nothing refuses the next window
+-- why a step is refused now; the next window never is
 abbrev pub refuses : List (List ℕ) → History → Step → Option Refusal
 refuses names history (Arrive moment class offset pin) = refuses_arrival history (pin_of names pin)
 refuses names history (Done moment ticket) = refuses_done history ticket
@@ -34,8 +34,8 @@ refuses names history (Check moment server answered) = refuses_check history (nu
 refuses names history (Limit moment server limit) = refuses_limit history (number_of names server)
 refuses names history Roll = None
 
--- an entry is the event that a step asks for, at the step's effective moment: an arrival is due by its offset from
--- then, and has the pin that its name stands for; a check and a limit are of the server that its name stands for
+-- an entry is the event of a step, at the step's effective moment: an arrival is due by its offset
+-- from then, and has the pin of its name; a check and a limit are of the server with its name
 abbrev pub IsEventOf : List (List ℕ) → History → Step → Entry → Type 0
 IsEventOf names history (Arrive moment class offset pin) (entries.Arrive at arrival) =
     (at ≡ effective history moment) × (arrival.class ≡ class) × (arrival.due ≡ (pos at +ℤ offset)) × (arrival.pin ≡ pin_of names pin)
@@ -49,21 +49,21 @@ IsEventOf names history (Limit moment name limit) (entries.Limit at server most)
     × (most ≡ limit)
 IsEventOf names history step entry = ⊥
 
--- a step that is refused leaves the history as it was, and the line of its refusal
+-- a step that is refused doesn't change the history, and writes the line of its refusal
 pub record IsRefused (names : List (List ℕ)) (old new : History) (step : Step) (text : List ℕ) : Type 0 where
   pub refusal : Refusal
   pub applies : refuses names old step ≡ Some refusal
   pub unchanged : new ≡ old
   pub written : text ≡ refusal_text refusal
 
--- a step that is accepted adds its event to the log, and leaves the lines of the entries that are new
+-- a step that is accepted adds its event to the log, and writes the lines of the new entries
 pub record IsAccepted (names : List (List ℕ)) (old new : History) (step : Step) (text : List ℕ) : Type 0 where
   pub event : Entry
   pub asked : IsEventOf names old step event
   pub adds : AddsEvent old new event
   pub written : text ≡ entries_text names (event ∷ adds.brought)
 
--- a roll begins the next window, and leaves its line and those of the reports that certify the window that it ends
+-- a roll begins the next window, and writes its line and those of the reports that certify the window that it ends
 pub record IsRolled (names : List (List ℕ)) (old new : History) (text : List ℕ) : Type 0 where
   pub reports : List Report
   pub begins : new ≡ next_window old
@@ -74,8 +74,8 @@ abbrev pub Answers : List (List ℕ) → History → History → Step → List �
 Answers names old new Roll text = IsRolled names old new text
 Answers names old new step text = IsRefused names old new step text ⊎ IsAccepted names old new step text
 
--- script text: what is written for each step in order, where each step finds the history that those before it left, and
--- the last one leaves this one
+-- script text: the text of each step in order, where each step finds the history that those before
+-- it left, and the last one leaves this one
 abbrev pub IsScriptText : List (List ℕ) → History → List Step → History → List ℕ → Type 0
 IsScriptText names history [] last text = (last ≡ history) × (text ≡ [])
 IsScriptText names history (step ∷ steps) last text =

@@ -14,7 +14,7 @@ use Rattle.dispatch_log.specs.declared.refusal.Refusal.{Refusal}
 use Rattle.dispatch_log.specs.Refusals.{number_of}
 use Rattle.verdict.specs.Cause.{word_of}
 
--- the name of the server with a number, of the names in file order
+-- the name of the server with a number, among the names in file order
 abbrev pub name_of : List (List ℕ) → ℕ → List ℕ
 name_of names server = slice_index_or names server []
 
@@ -22,17 +22,17 @@ abbrev pub queue_name : List (List ℕ) → Queue → List ℕ
 queue_name names Backend = codes "*"
 queue_name names (Server server) = name_of names server
 
--- the word for a server that is up, or answers a check, and for one that is down, or doesn't
+-- the words for a server that is up or passes a check, and for one that is down or fails it
 abbrev pub health_word : Bool → List ℕ
 health_word true = codes "up"
 health_word false = codes "down"
 
--- how many requests a server takes: the most that it serves at once, or the word for none
+-- the number of requests that a server takes: the most at once, or the word for none
 abbrev pub intake_text : Intake → List ℕ
 intake_text (Open limit) = decimal limit
 intake_text Closed = codes "closed"
 
--- the name of the server that an arrival is bound to, behind a space
+-- the name of the server that an arrival is pinned to, after a space
 abbrev pub pin_text : List (List ℕ) → Option ℕ → List ℕ
 pin_text names None = []
 pin_text names (Some server) = codes " " ++ name_of names server
@@ -42,7 +42,7 @@ abbrev pub arrival_text : ℕ → Arrival → List ℕ
 arrival_text moment arrival = decimal moment ++ codes " arrive " ++ decimal arrival.ticket ++ codes " " ++ signed_decimal arrival.class ++ codes " " ++
     signed_decimal arrival.due
 
--- the line of an entry, under these names of the servers
+-- the line of an entry, with the servers' names
 abbrev pub entry_text : List (List ℕ) → Entry → List ℕ
 entry_text names (Arrive moment arrival) = arrival_text moment arrival ++ (pin_text names arrival.pin ++ codes "\n")
 entry_text names (Done moment ticket) = decimal moment ++ codes " done " ++ decimal ticket ++ codes "\n"

@@ -16,13 +16,13 @@ use std::alloc::{AllocError, Global};
 use std::marker::Model;
 use thiserror::Error;
 
-/// The greatest length of a script.
+/// The most bytes of a script.
 pub const MOST_BYTES: usize = 4_194_304;
 
-/// The greatest number of servers.
+/// The most servers.
 const MOST_SERVERS: usize = 64;
 
-/// What the header lines of a script say.
+/// The settings of a script's header lines.
 #[derive(Debug, Drop)]
 pub struct Header {
     names: Names,
@@ -47,7 +47,7 @@ impl Model for Header {
 /// Why a script wasn't read.
 #[derive(Clone, Copy, Debug, PartialEq, Eq, Error)]
 pub enum ScriptError {
-    /// A growth found no memory.
+    /// The system refused memory.
     #[error("no memory")]
     NoMemory,
     /// The number of the first faulty line, from 1; 0 where the script is too long.
@@ -55,17 +55,18 @@ pub enum ScriptError {
     Fault { line: usize },
 }
 
-// Why a line wasn't taken in.
+// Why a line was refused.
 #[derive(Clone, Copy)]
 enum LineError {
     NoMemory,
     Faulty,
 }
 
-/// Reads the header lines of a script, those before its first step, and answers how many lines these are. An error is the
-/// first faulty one of them: a line that is neither a header line nor empty nor a comment, a server's name again, or a 65th
-/// server. What stands behind them is left to [`is_faulty`]. A script of more than [`MOST_BYTES`] bytes is at fault as a
-/// whole: line 0. One pass over the header's bytes; memory is taken for the servers.
+/// Reads the header lines of a script, those before its first step, and returns their number too.
+/// An error is the first faulty one of them: a line that is neither a header line nor empty nor a
+/// comment, a server's name again, or a 65th server. The lines after them are left to
+/// [`is_faulty`]. A script of more than [`MOST_BYTES`] bytes is faulty as a whole: line 0. One pass
+/// over the header's bytes; it allocates for the servers.
 pub fn read(alloc: Global, script: &[u8]) -> Result<(Header, usize), ScriptError>
     ensures short { OnOk result (fault_of script.now ≡ fault_behind [] (lines script.now)) }
     ensures header { IfOk result (λ read. IsHeader (lines script.now) read.1) }
@@ -101,7 +102,8 @@ fn read_lines(alloc: Global, script: &[u8]) -> Result<(Header, usize), ScriptErr
     Ok((header, number))
 }
 
-/// Whether such a line is faulty behind the first step of a script: it is a header line, or none of those that may stand there.
+/// Says whether a line of this kind is faulty after the first step of a script: it is a header
+/// line, or none of those that may stand there.
 pub fn is_faulty(kind: &Option<Line>) -> bool
     ensures { (settings : Settings) → result ≡ is_fault settings true kind.now }
 {
@@ -126,7 +128,7 @@ impl Header {
         }
     }
 
-    /// How many places a line sets; None where none does.
+    /// Returns the number of places that a line sets, if one does.
     pub fn places(&self) -> Option<usize>
         ensures value { result ≡ self.now.places }
         ensures within { AreWithin self.now }
@@ -134,7 +136,7 @@ impl Header {
         self.places
     }
 
-    /// The room of the log that a line sets; None where none does.
+    /// Returns the room of the log that a line sets, if one does.
     pub fn log(&self) -> Option<usize>
         ensures value { result ≡ self.now.log }
         ensures within { AreWithin self.now }
@@ -142,7 +144,7 @@ impl Header {
         self.log
     }
 
-    /// How many further tries a line sets; None where none does.
+    /// Returns the number of further tries that a line sets, if one does.
     pub fn retries(&self) -> Option<u32>
         ensures value { result ≡ self.now.retries }
         ensures within { AreWithin self.now }
@@ -150,14 +152,15 @@ impl Header {
         self.retries
     }
 
-    /// Whether a `redispatch` line stands.
+    /// Says whether there is a `redispatch` line.
     pub fn redispatch(&self) -> bool
         ensures { result ≡ self.now.redispatch }
     {
         self.redispatch
     }
 
-    /// The longest stay in a queue that a line sets, in milliseconds, 0 for none; None where none does.
+    /// Returns the longest stay in a queue that a line sets, in milliseconds, where 0 is without
+    /// limit, if one does.
     pub fn queue_timeout(&self) -> Option<u64>
         ensures value { result ≡ self.now.queue_timeout }
         ensures within { AreWithin self.now }
@@ -165,7 +168,7 @@ impl Header {
         self.queue_timeout
     }
 
-    /// The names of the servers, and what these may take.
+    /// Returns the names and the settings of the servers.
     pub fn into_servers(self) -> (Names, Servers)
         ensures value { (result.0 ≡ self.names) × (result.1 ≡ self.servers) }
         ensures within { AreWithin self }
@@ -182,7 +185,7 @@ impl Header {
         (names, Servers::from_vec(servers))
     }
 
-    // Takes a line in that isn't a step, by what it is.
+    // Takes a line that isn't a step, by its kind.
     fn take(&mut self, alloc: Global, kind: Option<Line>) -> Result<(), LineError>
         requires { IfSome kind IsWithinLine }
         ensures ok { OnOk result ((is_fault self.old false kind.entry ≡ false) × (self.new ≡ with_kind self.old kind.entry)) }

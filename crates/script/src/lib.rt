@@ -1,4 +1,5 @@
-//! Scripts of steps for a dispatcher, and the trace that a dispatcher's answers to them and its reports are written as.
+//! Scripts of steps for a dispatcher, and the trace, which is the text of the dispatcher's answers
+//! and its reports.
 #![tactic(auto)]
 
 mod header;

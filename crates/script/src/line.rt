@@ -7,19 +7,19 @@ use crate::setting::{Setting, setting_of};
 use crate::step::{Step, step_of};
 use proxy_words::Words;
 
-/// What a line of a script is.
+/// The kind of a script's line.
 #[derive(Debug, Drop)]
 pub enum Line<'a> {
-    /// A header line, and what it sets.
+    /// A header line, and its setting.
     Setting(Setting<'a>),
     /// An event, or the next window.
     Step(Step<'a>),
-    /// Nothing: it has no word, or its first byte is `#`.
+    /// Skipped: it has no word, or its first byte is `#`.
     Skipped,
 }
 
 impl<'a> Line<'a> {
-    /// What a line is; None where it is none of these.
+    /// Returns the kind of a line; `None` where it has none.
     pub fn of(line: &'a [u8]) -> Option<Line<'a>>
         ensures value { result ≡ line_of line.now }
         ensures within { IfSome result IsWithinLine }
@@ -38,7 +38,7 @@ impl<'a> Line<'a> {
     }
 }
 
-/// The step that such a line is, if it is one.
+/// Returns the step of such a line, if it has one.
 pub fn step_in(kind: Option<Line>) -> Option<Step>
     ensures { result ≡ step_in kind.entry }
 {

@@ -5,7 +5,7 @@ use proxy_words::is_name;
 use std::marker::Model;
 use std::str;
 
-/// The name of a server, as a line of a script has it: one to 32 letters, digits, `-`, `_`, `.` and `:`.
+/// The name of a server: one to 32 letters, digits, `-`, `_`, `.` and `:`.
 #[derive(Debug, Drop)]
 pub struct Name<'a> {
     text: &'a str,
@@ -20,7 +20,7 @@ impl<'a> Model for Name<'a> {
 }
 
 impl<'a> Name<'a> {
-    /// The name that a word is, if it is one.
+    /// Makes a name of a word, if it is one.
     pub fn new(word: &'a [u8]) -> Option<Name<'a>>
         ensures { result ≡ named word.now }
     {

@@ -29,7 +29,7 @@ impl Names {
         Names { list }
     }
 
-    /// The name of the server with this number; nothing where there is none.
+    /// Returns the name of the server with this number; an empty text where there is none.
     pub fn of(&self, server: usize) -> &str
         ensures { result.now ≡ name_of self.now server }
     {
@@ -39,36 +39,36 @@ impl Names {
         }
     }
 
-    /// How many servers there are.
+    /// Returns the number of servers.
     pub fn len(&self) -> usize
         ensures { result ≡ length self.now }
     {
         self.list.len()
     }
 
-    /// The number of the first server with this name. One pass over the names.
+    /// Returns the number of the first server with this name. One pass over the names.
     pub fn find(&self, name: &Name) -> Option<usize>
         ensures { result ≡ position (bytes_eq name.now) self.now }
     {
         place_of(&self.list, name.as_str())
     }
 
-    /// The number that a name stands for, in a pin or in a check: its server's, and where no server has it the number of
-    /// servers, which a dispatcher refuses as no server's. One pass over the names.
+    /// Returns the number that a name means in a pin or in a check: its server's, and where no
+    /// server has it the number of servers, which a dispatcher refuses. One pass over the names.
     pub fn number(&self, name: &Name) -> usize
         ensures { result ≡ number_of self.now name.now }
     {
         self.find(name).unwrap_or(self.len())
     }
 
-    // Whether a server has this name.
+    // Says whether a server has this name.
     pub(crate) fn has(&self, name: &Name) -> bool
         ensures { result ≡ has_name self.now name.now }
     {
         self.find(name).is_some()
     }
 
-    // Adds a name at the end.
+    // Appends a name.
     pub(crate) fn push(&mut self, alloc: Global, name: &Name) -> Result<(), AllocError>
         ensures ok { OnOk result (self.new ≡ self.old ++ name.now ∷ []) }
         ensures err { OnErr result (self.new ≡ self.old) }

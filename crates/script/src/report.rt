@@ -6,7 +6,7 @@ use crate::trace::name_of;
 use late_cert::{Report, Stay};
 use std::alloc::AllocError;
 
-/// Writes the lines of reports at the end. After an `Err` a part of them may stand there.
+/// Appends the lines of reports. After an `Err` some of them may stand there.
 pub fn push_reports(text: &mut String, names: &Names, reports: &[Report]) -> Result<(), AllocError>
     ensures { OnOk result (string_bytes text.new ≡ string_bytes text.old ++ reports_text names.now reports.now) }
 {
@@ -16,8 +16,8 @@ pub fn push_reports(text: &mut String, names: &Names, reports: &[Report]) -> Res
     Ok(())
 }
 
-/// Writes the line of a roll at the end, and those of the reports of the window that it ends. After an `Err` a part of
-/// them may stand there.
+/// Appends the line of a roll, and those of the reports on the window that it ends. After an `Err`
+/// some of them may stand there.
 pub fn push_roll(text: &mut String, names: &Names, reports: &[Report]) -> Result<(), AllocError>
     ensures { OnOk result (string_bytes text.new ≡ string_bytes text.old ++ roll_text names.now reports.now) }
 {
@@ -35,7 +35,7 @@ fn push_report(text: &mut String, names: &Names, report: &Report) -> Result<(), 
     writeln!(text)
 }
 
-// Whom the report is about.
+// Writes the subject of the report.
 fn push_group(text: &mut String, names: &Names, report: &Report) -> Result<(), AllocError>
     ensures { OnOk result (string_bytes text.new ≡ string_bytes text.old ++ group_text names.now report.now) }
 {

@@ -8,24 +8,24 @@ use crate::step::only;
 use dispatch_log::ServerSet;
 use proxy_words::{Words, number};
 
-/// What a header line of a script sets.
+/// The setting of a script's header line.
 #[derive(Debug, Drop)]
 pub enum Setting<'a> {
-    /// `places N`: the greatest number of live requests.
+    /// `places N`: the most live requests.
     Places(usize),
-    /// `log N`: the greatest number of log entries.
+    /// `log N`: the most log entries.
     LogRoom(usize),
-    /// `retries N`: how many further tries a request has whose connection fails.
+    /// `retries N`: the number of further tries of a request whose connection fails.
     Retries(u32),
     /// `redispatch`: the last of them goes to another server.
     Redispatch,
-    /// `queue-timeout N`: how many milliseconds a request may wait in a queue.
+    /// `queue-timeout N`: the longest wait of a request in a queue, in milliseconds.
     QueueTimeout(u64),
     /// `server NAME MAXCONN MAXQUEUE WEIGHT` or `server NAME MAXCONN MAXQUEUE WEIGHT RISE FALL`.
     Server(Name<'a>, ServerSet),
 }
 
-/// What a line sets, if it is a header line.
+/// Returns the setting of a line, if it is a header line.
 pub(crate) fn setting_of(line: &[u8]) -> Option<Setting>
     ensures value { result ≡ setting_of line.now }
     ensures within { IfSome result IsWithin }
@@ -49,7 +49,7 @@ pub(crate) fn setting_of(line: &[u8]) -> Option<Setting>
     }
 }
 
-// `N`, behind `places`.
+// Reads `N`, after `places`.
 fn places(words: Words) -> Option<Setting>
     ensures value { result ≡ places_line words.entry }
     ensures within { IfSome result IsWithin }
@@ -58,7 +58,7 @@ fn places(words: Words) -> Option<Setting>
     Some(Setting::Places(places as usize))
 }
 
-// `N`, behind `log`.
+// Reads `N`, after `log`.
 fn log_room(words: Words) -> Option<Setting>
     ensures value { result ≡ log_line words.entry }
     ensures within { IfSome result IsWithin }
@@ -67,7 +67,7 @@ fn log_room(words: Words) -> Option<Setting>
     Some(Setting::LogRoom(room as usize))
 }
 
-// `N`, behind `retries`.
+// Reads `N`, after `retries`.
 fn retries(words: Words) -> Option<Setting>
     ensures value { result ≡ retries_line words.entry }
     ensures within { IfSome result IsWithin }
@@ -76,7 +76,7 @@ fn retries(words: Words) -> Option<Setting>
     Some(Setting::Retries(retries))
 }
 
-// Nothing, behind `redispatch`.
+// Reads nothing, after `redispatch`.
 fn redispatch(mut words: Words) -> Option<Setting>
     ensures value { result ≡ redispatch_line words.entry }
     ensures within { IfSome result IsWithin }
@@ -87,7 +87,7 @@ fn redispatch(mut words: Words) -> Option<Setting>
     }
 }
 
-// `N`, behind `queue-timeout`.
+// Reads `N`, after `queue-timeout`.
 fn queue_timeout(words: Words) -> Option<Setting>
     ensures value { result ≡ timeout_line words.entry }
     ensures within { IfSome result IsWithin }
@@ -96,7 +96,7 @@ fn queue_timeout(words: Words) -> Option<Setting>
     Some(Setting::QueueTimeout(timeout.into()))
 }
 
-// `NAME MAXCONN MAXQUEUE WEIGHT` or `NAME MAXCONN MAXQUEUE WEIGHT RISE FALL`, behind `server`.
+// Reads `NAME MAXCONN MAXQUEUE WEIGHT` or `NAME MAXCONN MAXQUEUE WEIGHT RISE FALL`, after `server`.
 fn server<'a>(mut words: Words<'a>) -> Option<Setting<'a>>
     ensures value { result ≡ server_line words.entry }
     ensures within { IfSome result IsWithin }
@@ -116,7 +116,7 @@ fn server<'a>(mut words: Words<'a>) -> Option<Setting<'a>>
     server_of(name, limit, maxqueue, weight, Some(checks))
 }
 
-// `RISE FALL`, behind a server's weight.
+// Reads `RISE FALL`, after a server's weight.
 fn checks_of(rise: &[u8], fall: &[u8]) -> Option<(u32, u32)>
     ensures value { result ≡ checks_of rise.now fall.now }
     ensures within { IsTrue (has_rise_and_fall result) }

@@ -8,11 +8,11 @@ use dispatch_log::Intake;
 use due_key::{Class, Moment, Offset};
 use proxy_words::{Words, long_number, number, signed_long_number};
 
-/// What a line of a script asks of a dispatcher.
+/// A step of a script, for a dispatcher.
 #[derive(Debug, Drop)]
 pub enum Step<'a> {
-    /// `M arrive C O` or `M arrive C O NAME`: a request comes at this moment, of this class, due by this offset from its
-    /// arrival, and bound to the server with this name.
+    /// `M arrive C O` or `M arrive C O NAME`: a request arrives at this moment, of this class, due
+    /// by this offset from its arrival, and pinned to the server with this name.
     Arrive {
         moment: Moment,
         class: Class,
@@ -38,24 +38,25 @@ pub enum Step<'a> {
     Tick {
         moment: Moment,
     },
-    /// `M check NAME up` or `M check NAME down`: a check of the server with this name ended, and it answered or not.
+    /// `M check NAME up` or `M check NAME down`: a check of the server with this name ended, with a
+    /// success or a failure.
     Check {
         moment: Moment,
         server: Name<'a>,
         answered: bool,
     },
-    /// `M limit NAME N` or `M limit NAME closed`: from this moment the server with this name serves at most so many requests at
-    /// a time, where 0 is no limit, or takes none.
+    /// `M limit NAME N` or `M limit NAME closed`: from this moment the server with this name serves
+    /// at most this number of requests at a time, where 0 is no limit, or takes none.
     Limit {
         moment: Moment,
         server: Name<'a>,
         limit: Intake,
     },
-    /// `roll`: the next window of the log begins. It is no event, and has no moment.
+    /// `roll`: the next window of the log begins. It isn't an event, and has no moment.
     Roll,
 }
 
-/// The step that a line asks for.
+/// Returns the step of a line, if it has one.
 pub(crate) fn step_of(line: &[u8]) -> Option<Step>
     ensures { result ≡ step_of_line line.now }
 {
@@ -83,7 +84,7 @@ pub(crate) fn step_of(line: &[u8]) -> Option<Step>
     }
 }
 
-// `C O` or `C O NAME`, behind `M arrive`.
+// Reads `C O` or `C O NAME`, after `M arrive`.
 fn arrival_line<'a>(moment: &[u8], mut words: Words<'a>) -> Option<Step<'a>>
     ensures { result ≡ arrival_line moment.now words.entry }
 {
@@ -118,7 +119,7 @@ fn arrival_of<'a>(
     })
 }
 
-// `T`, behind `M done`.
+// Reads `T`, after `M done`.
 fn return_of<'a>(moment: &[u8], words: Words) -> Option<Step<'a>>
     ensures { result ≡ return_of moment.now words.entry }
 {
@@ -126,7 +127,7 @@ fn return_of<'a>(moment: &[u8], words: Words) -> Option<Step<'a>>
     Some(Step::Done { moment, ticket })
 }
 
-// `T`, behind `M fail`.
+// Reads `T`, after `M fail`.
 fn failure_of<'a>(moment: &[u8], words: Words) -> Option<Step<'a>>
     ensures { result ≡ failure_of moment.now words.entry }
 {
@@ -134,7 +135,7 @@ fn failure_of<'a>(moment: &[u8], words: Words) -> Option<Step<'a>>
     Some(Step::Fail { moment, ticket })
 }
 
-// `T`, behind `M abort`.
+// Reads `T`, after `M abort`.
 fn abort_of<'a>(moment: &[u8], words: Words) -> Option<Step<'a>>
     ensures { result ≡ abort_of moment.now words.entry }
 {
@@ -142,7 +143,7 @@ fn abort_of<'a>(moment: &[u8], words: Words) -> Option<Step<'a>>
     Some(Step::Abort { moment, ticket })
 }
 
-// `M tick`.
+// Reads `M tick`.
 fn tick_of<'a>(moment: &[u8], mut words: Words) -> Option<Step<'a>>
     ensures { result ≡ tick_of moment.now words.entry }
 {
@@ -153,7 +154,7 @@ fn tick_of<'a>(moment: &[u8], mut words: Words) -> Option<Step<'a>>
     Some(Step::Tick { moment })
 }
 
-// `NAME up` or `NAME down`, behind `M check`.
+// Reads `NAME up` or `NAME down`, after `M check`.
 fn check_of<'a>(moment: &[u8], mut words: Words<'a>) -> Option<Step<'a>>
     ensures { result ≡ check_of moment.now words.entry }
 {
@@ -172,7 +173,7 @@ fn check_of<'a>(moment: &[u8], mut words: Words<'a>) -> Option<Step<'a>>
     })
 }
 
-// `NAME N` or `NAME closed`, behind `M limit`.
+// Reads `NAME N` or `NAME closed`, after `M limit`.
 fn limit_of<'a>(moment: &[u8], mut words: Words<'a>) -> Option<Step<'a>>
     ensures { result ≡ limit_of moment.now words.entry }
 {
@@ -191,7 +192,7 @@ fn limit_of<'a>(moment: &[u8], mut words: Words<'a>) -> Option<Step<'a>>
     })
 }
 
-/// How many requests a server takes, by a word: `closed`, or a number of at most nine digits.
+/// Reads the number of requests that a server takes: `closed`, or a number of at most nine digits.
 pub fn intake_of(word: &[u8]) -> Option<Intake>
     ensures { result ≡ intake_of word.now }
 {
@@ -203,7 +204,7 @@ pub fn intake_of(word: &[u8]) -> Option<Intake>
     }
 }
 
-// `roll`, the only word.
+// Reads `roll`, the only word.
 fn roll_of<'a>(word: &[u8]) -> Option<Step<'a>>
     ensures { result ≡ roll_of word.now }
 {
@@ -232,7 +233,7 @@ fn ticketed(moment: &[u8], words: Words) -> Option<(Moment, u64)>
     Some((moment, ticket))
 }
 
-// The word that stands alone.
+// Returns the only word.
 pub(crate) fn only<'a>(mut words: Words<'a>) -> Option<&'a [u8]>
     ensures { option_copied result ≡ only words.entry }
 {
@@ -243,7 +244,7 @@ pub(crate) fn only<'a>(mut words: Words<'a>) -> Option<&'a [u8]>
     }
 }
 
-// A long number always is a moment.
+// A long number is always a moment.
 fn moment_of(word: &[u8]) -> Option<Moment>
     ensures { result ≡ numeral 18 word.now }
 {

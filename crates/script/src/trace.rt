@@ -9,7 +9,7 @@ use dispatch_log::{Arrival, Entry, Intake, Queue, Refusal};
 use due_key::Moment;
 use std::alloc::AllocError;
 
-/// Writes the lines of entries at the end. After an `Err` a part of them may stand there.
+/// Appends the lines of entries. After an `Err` some of them may stand there.
 pub fn push_entries(text: &mut String, names: &Names, entries: &[Entry]) -> Result<(), AllocError>
     ensures { OnOk result (string_bytes text.new ≡ string_bytes text.old ++ entries_text names.now entries.now) }
 {
@@ -19,7 +19,7 @@ pub fn push_entries(text: &mut String, names: &Names, entries: &[Entry]) -> Resu
     Ok(())
 }
 
-/// Writes the line of an event that was refused at the end.
+/// Appends the line of an event that was refused.
 pub fn push_refusal(text: &mut String, refusal: Refusal) -> Result<(), AllocError>
     ensures { OnOk result (string_bytes text.new ≡ string_bytes text.old ++ refusal_text refusal) }
 {
@@ -70,7 +70,7 @@ fn push_entry(text: &mut String, names: &Names, entry: &Entry) -> Result<(), All
     }
 }
 
-// ` N` or ` closed`, and the line's end.
+// Appends ` N` or ` closed`, and the line's end.
 fn end_by_intake(text: &mut String, limit: Intake) -> Result<(), AllocError>
     ensures { OnOk result (string_bytes text.new ≡ string_bytes text.old ++ (codes " " ++ intake_text limit ++ codes "\n")) }
 {
@@ -80,7 +80,7 @@ fn end_by_intake(text: &mut String, limit: Intake) -> Result<(), AllocError>
     }
 }
 
-// `M WORD T`, a line.
+// Appends the line `M WORD T`.
 fn push_told(text: &mut String, moment: Moment, word: &str, ticket: u64) -> Result<(), AllocError>
     ensures { OnOk result (string_bytes text.new ≡ string_bytes text.old ++ (decimal moment ++ word.now ++ decimal ticket ++ codes "\n")) }
 {
@@ -89,7 +89,7 @@ fn push_told(text: &mut String, moment: Moment, word: &str, ticket: u64) -> Resu
     text.push_str("\n")
 }
 
-// `WORD T NAME`, a line.
+// Appends the line `WORD T NAME`.
 fn push_put(text: &mut String, word: &str, ticket: u64, name: &str) -> Result<(), AllocError>
     ensures { OnOk result (string_bytes text.new ≡ string_bytes text.old ++ (word.now ++ decimal ticket ++ codes " " ++ name.now ++ codes "\n")) }
 {
@@ -97,7 +97,7 @@ fn push_put(text: &mut String, word: &str, ticket: u64, name: &str) -> Result<()
     end_by_name(text, name)
 }
 
-// `  end T`, a line.
+// Appends the line `  end T`.
 fn push_end(text: &mut String, ticket: u64) -> Result<(), AllocError>
     ensures { OnOk result (string_bytes text.new ≡ string_bytes text.old ++ (codes "  end " ++ decimal ticket ++ codes "\n")) }
 {
@@ -129,7 +129,7 @@ fn push_arrived(text: &mut String, moment: Moment, arrival: Arrival) -> Result<(
     push_signed(text, arrival.due.get())
 }
 
-// And the end of the line.
+// Appends the pin's name, if there is one, and the line's end.
 fn push_pin(text: &mut String, names: &Names, pin: Option<usize>) -> Result<(), AllocError>
     ensures { OnOk result (string_bytes text.new ≡ string_bytes text.old ++ (pin_text names.now pin ++ codes "\n")) }
 {

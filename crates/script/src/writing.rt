@@ -1,4 +1,5 @@
-//! Numbers and words at the end of a text, of which the lines of a trace are made: nothing is formatted but digits, which is quicker than `write!`.
+//! Numbers and words at the end of a text, the parts of a trace's lines: only digits are formatted,
+//! which is faster than `write!`.
 
 ghost use Rattle.std.specs.Prelude.{◌≡◌, ◌++◌, OnOk, string_bytes, codes, decimal};
 ghost use Rattle.std.specs.Fmt.{signed_decimal};
@@ -21,7 +22,7 @@ pub(crate) fn push_signed(text: &mut String, number: i64) -> Result<(), AllocErr
     text.push_str(digits.format(number))
 }
 
-/// `M WORD`, the word with its spaces.
+/// Appends `M WORD`, the word with its spaces.
 pub(crate) fn push_moment(text: &mut String, moment: Moment, word: &str) -> Result<(), AllocError>
     ensures { OnOk result (string_bytes text.new ≡ string_bytes text.old ++ (decimal moment ++ word.now)) }
 {
@@ -29,7 +30,7 @@ pub(crate) fn push_moment(text: &mut String, moment: Moment, word: &str) -> Resu
     text.push_str(word)
 }
 
-/// `WORD T`, the word with its spaces.
+/// Appends `WORD T`, the word with its spaces.
 pub(crate) fn push_ticket(text: &mut String, word: &str, ticket: u64) -> Result<(), AllocError>
     ensures { OnOk result (string_bytes text.new ≡ string_bytes text.old ++ (word.now ++ decimal ticket)) }
 {
@@ -37,7 +38,7 @@ pub(crate) fn push_ticket(text: &mut String, word: &str, ticket: u64) -> Result<
     push_number(text, ticket)
 }
 
-/// ` NAME`.
+/// Appends ` NAME`.
 pub(crate) fn push_name(text: &mut String, name: &str) -> Result<(), AllocError>
     ensures { OnOk result (string_bytes text.new ≡ string_bytes text.old ++ (codes " " ++ name.now)) }
 {
@@ -45,7 +46,7 @@ pub(crate) fn push_name(text: &mut String, name: &str) -> Result<(), AllocError>
     text.push_str(name)
 }
 
-/// ` NAME`, and the line's end.
+/// Appends ` NAME`, and the line's end.
 pub(crate) fn end_by_name(text: &mut String, name: &str) -> Result<(), AllocError>
     ensures { OnOk result (string_bytes text.new ≡ string_bytes text.old ++ (codes " " ++ name.now ++ codes "\n")) }
 {
@@ -53,7 +54,7 @@ pub(crate) fn end_by_name(text: &mut String, name: &str) -> Result<(), AllocErro
     text.push_str("\n")
 }
 
-/// ` N`, and the line's end.
+/// Appends ` N`, and the line's end.
 pub(crate) fn end_by_number(text: &mut String, number: u32) -> Result<(), AllocError>
     ensures { OnOk result (string_bytes text.new ≡ string_bytes text.old ++ (codes " " ++ decimal number ++ codes "\n")) }
 {

@@ -1,4 +1,4 @@
-//! Which word of a faulty line of a script can't stand there, and why.
+//! The word of a script's faulty line that can't stand there, and why.
 
 use crate::forms::{EVENTS, Form, HEADERS, form_of};
 use line_advice::nearest;
@@ -6,24 +6,24 @@ use proxy_words::{Lines, Words, long_number};
 use std::alloc::{AllocError, Global};
 use std::str;
 
-/// What is wrong with a line.
+/// The cause of a line's fault.
 #[derive(Clone, Copy, Debug)]
 pub(crate) enum Cause {
     /// No line begins so.
     NoLine,
     /// No event has this name.
     NoEvent,
-    /// An event's name stands where its moment should.
+    /// An event's name stands in the place of its moment.
     NoMoment,
-    /// What has to stand at the word's place; and the line as it should look.
+    /// What the word's place demands, and the form of the line.
     Wanted(&'static str, &'static str),
-    /// The line ends too early, or goes on for too long; and the line as it should look.
+    /// The line ends too early, or goes on for too long; and the form of the line.
     Length(&'static str),
-    /// The line has the words of a header line, and stands behind an event.
+    /// The line is a header line, and stands after an event.
     Behind,
-    /// The server's name stands in an earlier line.
+    /// The server's name is in an earlier line.
     Again,
-    /// There are 64 servers before it.
+    /// 64 servers stand before it.
     Many,
 }
 
@@ -32,7 +32,7 @@ pub(crate) enum Cause {
 pub(crate) struct Blame {
     pub(crate) place: Option<usize>,
     pub(crate) cause: Cause,
-    /// What may have been meant.
+    /// The known word that may have been meant.
     pub(crate) meant: Option<&'static str>,
 }
 
@@ -46,7 +46,7 @@ impl Blame {
     }
 }
 
-/// The fault of the line with this number, counted from 1, of a script; it is faulty, and no line before it is.
+/// Returns the fault of a script's line with this number, counted from 1; the line is the first faulty one.
 pub(crate) fn blame_of(alloc: Global, script: &[u8], number: usize) -> Result<Blame, AllocError> {
     let line = line_at(script, number);
     let first = word_at(line, 0);
@@ -67,7 +67,7 @@ pub(crate) fn blame_of(alloc: Global, script: &[u8], number: usize) -> Result<Bl
     })
 }
 
-/// The words with which a line may begin, but for moments.
+/// The words with which a line may begin, beside moments.
 const STARTS: [&str; 7] = [
     "places",
     "log",
@@ -80,7 +80,7 @@ const STARTS: [&str; 7] = [
 
 const NAMES: [&str; 7] = ["arrive", "done", "fail", "abort", "tick", "check", "limit"];
 
-// Of a line that begins with a moment.
+// Returns the fault of a line that begins with a moment.
 fn blame_of_event(alloc: Global, line: &[u8]) -> Result<Blame, AllocError> {
     let name = word_at(line, 1);
     if let Some(form) = form_of(&EVENTS, name) {
@@ -105,7 +105,7 @@ fn near(
     }
 }
 
-// The first word behind the keyword that can't stand there. None: each can.
+// Returns the first word after the keyword that can't stand there; `None` where each can.
 fn misfit(form: &Form, line: &[u8], start: usize) -> Option<Blame> {
     let mut words = Words::new(line).skip(start);
     for (at, place) in form.places.iter().enumerate() {
@@ -129,7 +129,7 @@ fn misfit(form: &Form, line: &[u8], start: usize) -> Option<Blame> {
     Some(Blame::new(Some(behind), Cause::Length(form.looks)))
 }
 
-// Of a header line that has the right words.
+// Returns the fault of a header line whose words are right.
 fn blame_of_header(script: &[u8], number: usize, name: &[u8]) -> Blame {
     if Lines::new(script).take(number).any(is_event) {
         return Blame::new(Some(0), Cause::Behind);
@@ -144,13 +144,13 @@ fn blame_of_header(script: &[u8], number: usize, name: &[u8]) -> Blame {
     }
 }
 
-// Of a line that isn't faulty.
+// Says whether a line that isn't faulty is an event.
 fn is_event(line: &[u8]) -> bool {
     let first = word_at(line, 0);
     long_number(first).is_some() || first == b"roll".as_slice()
 }
 
-/// The line with this number, counted from 1; nothing where there is none.
+/// Returns the line with this number, counted from 1; an empty one where there is none.
 pub(crate) fn line_at(script: &[u8], number: usize) -> &[u8] {
     Lines::new(script)
         .nth(number.saturating_sub(1))

@@ -1,15 +1,15 @@
-//! What a line of a script may hold, word by word.
+//! The forms of a script's lines, word by word.
 
 use proxy_words::{is_name, long_number, number, signed_long_number};
 
-/// What a word has to be.
+/// What a word's place demands.
 #[derive(Clone, Copy, Debug, PartialEq, Eq)]
 pub(crate) enum Place {
     /// A number of at most nine digits, from the least to the most.
     Number(u32, u32),
     /// A number of at most 18 digits.
     Long,
-    /// The same, with a `-` before it or none.
+    /// The same, with or without a `-` before it.
     Signed,
     /// A server's name.
     Name,
@@ -19,12 +19,12 @@ pub(crate) enum Place {
     Intake,
 }
 
-/// The words behind a keyword: those that have to be there, and how many of them all may stand.
+/// The words after a keyword: the places of all, and how many of them are required.
 #[derive(Clone, Copy, Debug)]
 pub(crate) struct Form {
     pub(crate) keyword: &'static str,
     pub(crate) places: &'static [Place],
-    /// After how many words the line may end before all of them are there.
+    /// The number of words after which the line may end.
     pub(crate) least: usize,
     pub(crate) looks: &'static str,
 }
@@ -84,7 +84,7 @@ pub(crate) static HEADERS: [Form; 6] = [
     },
 ];
 
-/// The events, behind their moment.
+/// The events, after their moments.
 pub(crate) static EVENTS: [Form; 7] = [
     Form {
         keyword: "arrive",
@@ -130,13 +130,13 @@ pub(crate) static EVENTS: [Form; 7] = [
     },
 ];
 
-/// The line of this keyword, among these.
+/// Returns the form with this keyword, among these.
 pub(crate) fn form_of(forms: &'static [Form], word: &[u8]) -> Option<&'static Form> {
     forms.iter().find(|form| word == form.keyword.as_bytes())
 }
 
 impl Place {
-    /// Whether a word may stand here.
+    /// Says whether a word may stand here.
     pub(crate) fn takes(self, word: &[u8]) -> bool {
         match self {
             Place::Number(least, most) => number(word).is_some_and(|value| least <= value
@@ -149,7 +149,7 @@ impl Place {
         }
     }
 
-    /// What has to stand here.
+    /// Returns what has to stand here.
     pub(crate) fn wants(self) -> &'static str {
         match self {
             Place::Number(1, 4096) => "A number from 1 to 4096 has to stand here.",

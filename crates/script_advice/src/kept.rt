@@ -1,11 +1,11 @@
-//! A reader that keeps what it read, and why a read failed.
+//! A reader that keeps what it read, and the last failure.
 
 use std::alloc::Global;
 use std::io;
 use std::io::{Error, Read};
 
-/// Reads what another reader gives, and keeps it for whoever wants to show a line of it. Where there is no memory for that,
-/// nothing is kept, and the reading goes on.
+/// Reads from another reader, and keeps the bytes, so that a line of them can be shown. Where there
+/// is no memory for that, nothing is kept, and the reading goes on.
 #[derive(Drop)]
 pub struct Kept<'r, R> {
     reader: &'r mut R,
@@ -22,7 +22,7 @@ impl<'r, R: Read> Kept<'r, R> {
         }
     }
 
-    /// All that was read; None where there was no memory for it.
+    /// Returns all that was read; `None` where there was no memory for it.
     pub fn seen(&self) -> Option<&[u8]> {
         match &self.bytes {
             Some(bytes) => Some(bytes.as_slice()),
@@ -30,13 +30,13 @@ impl<'r, R: Read> Kept<'r, R> {
         }
     }
 
-    /// Why the last read that failed did.
+    /// Returns the error of the last read that failed.
     pub fn failure(&self) -> Option<Error> {
         self.failure
     }
 }
 
-// Adds what was read to what is kept; where there is no memory for it, nothing is kept from then on.
+// Adds read bytes to those that are kept; where there is no memory for them, nothing is kept from then on.
 fn keep(kept: &mut Option<Vec<u8>>, read: &[u8]) {
     let full = match kept {
         Some(bytes) => bytes.extend_from_slice(read).is_err(),

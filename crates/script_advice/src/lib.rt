@@ -1,4 +1,4 @@
-//! What is said of a faulty line of a script or of a trace: the line, a mark below the word at fault, and the cause.
+//! Advice on a faulty line of a script or of a trace: the line, a mark below the word at fault, and the cause.
 #![tactic(auto)]
 
 mod blame;

@@ -4,8 +4,9 @@ use crate::blame::{Blame, Cause, blame_of, line_at};
 use line_advice::{push_marked_line, span_of};
 use std::alloc::{AllocError, Global};
 
-/// Says what is wrong with the first faulty line of a script, which has this number, 0 where the script is too long: the line, a
-/// mark below the word at fault, or behind the line where it ends too early, and the cause.
+/// Writes what is wrong with the first faulty line of a script, which has this number, 0 where the
+/// script is too long: the line, a mark below the word at fault, or after the line where it ends
+/// too early, and the cause.
 pub fn explain_script_line(
     alloc: Global,
     script: &[u8],
@@ -24,7 +25,7 @@ pub fn explain_script_line(
     Ok(text)
 }
 
-/// Shows the line of a trace with this number; nothing for line 0.
+/// Writes the line of a trace with this number; nothing for line 0.
 pub fn explain_trace_line(
     alloc: Global,
     trace: &[u8],

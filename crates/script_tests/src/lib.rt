@@ -1,4 +1,5 @@
-//! Tests of scripts, of their replays and of the lines of windows: a crate of their own, so that what they test isn't proved once more with them.
+//! Tests of scripts, of their replays and of the lines of windows. They are a crate of their own,
+//! so that the crates under test aren't proved a second time with them.
 #![tactic(auto)]
 
 #[cfg(test)]

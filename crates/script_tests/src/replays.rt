@@ -18,21 +18,21 @@ use replay::{replay, trace_of};
 use std::alloc::Global;
 use std::process::Abort;
 
-/// A script, what it shows, and its trace.
+/// A script, the name of the example, and its trace.
 struct Replay {
     name: &'static str,
     script: &'static str,
     trace: &'static str,
 }
 
-// Each script has its trace.
+// Checks that each script has its trace.
 fn play(rt: &impl Abort, alloc: Global, rows: &[Replay]) {
     for row in rows {
         expect(rt, alloc, row.name, row.script, row.trace);
     }
 }
 
-// The trace of a script, over both kinds of queues.
+// Checks the trace of a script, over both kinds of queues.
 fn expect(rt: &impl Abort, alloc: Global, name: &str, script: &str, expected: &str) {
     let mut reader = script.as_bytes();
     let mut trace = Vec::new(alloc);

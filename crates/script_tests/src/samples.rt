@@ -1,16 +1,15 @@
-//! What several tests are made of.
+//! Samples that several tests use.
 use due_key::Moment;
 use script::Names;
 use std::alloc::Global;
 use std::process::Abort;
 
-/// A moment. A number out of range, which no test has, would be 0: so what is made of it
-/// can't fail.
+/// Makes a moment. A number out of range, which no test has, would give 0, so this can't fail.
 pub fn moment(number: u64) -> Moment {
     Moment::new(number).unwrap_or(Moment::zero())
 }
 
-/// Servers of these names.
+/// Makes servers with these names.
 pub fn named(rt: &impl Abort, alloc: Global, names: &[&str]) -> Names {
     let mut list = Vec::new(alloc);
     for name in names {

@@ -1,4 +1,4 @@
-//! What is printed of faults.
+//! Tests of the texts of faults.
 
 use crate::assertions::same;
 use replay::Fault;
@@ -21,7 +21,7 @@ static OF_REPLAYS: [(Fault, &str); 5] = [
     (Fault::Write, "write fault"),
 ];
 
-// Each has its text.
+// Checks the text of each.
 fn say<T: Display>(rt: &impl Abort, alloc: Global, rows: &[(T, &str)]) {
     for (it, text) in rows {
         let said = it.to_string(alloc).expect(rt, "memory");

@@ -6,7 +6,7 @@ use late_cert::{Report, Stay, Stays};
 use reporting_core::ServerLine;
 use window_lines::{Sums, end_text, push_servers, push_window};
 
-// What two windows gave each of two servers.
+// The lines of two servers in two windows.
 static WINDOWS: [[ServerLine; 2]; 2] = [
     [
         ServerLine {

@@ -1,4 +1,5 @@
--- An exchange and its server's connection (RFC 9112, section 9.3): which exchanges had that before, and what went over it.
+-- An exchange and its server's connection (RFC 9112, section 9.3): the exchanges that owned it
+-- before, and the bytes that went over it.
 use Rattle.std.specs.Prelude.{◌≡◌, ◌≢◌, ◌⊎◌, ℕ, true, List, [], ◌∷◌, ◌++◌, Option, Some}
 use Rattle.std.specs.Io.KnownBytes.{Appends, Consumes}
 use Rattle.std.specs.List.{flat_map, AllByRecursion}
@@ -14,14 +15,15 @@ use Rattle.mixed_exchange.specs.declared.exchange.Exchange.{Exchange}
 use Rattle.exchange_driver.specs.Wires.{Wire}
 use Rattle.seated_exchange.specs.Seats.{server_of}
 
--- behind it the server may be asked again: it was asked to keep its connection, and keeps it
+-- the server may be asked again afterwards: it was asked to keep its connection open, and does
 pub record IsOpenToServer (w : Whole) : Type 0 where
   pub asks : w.adds.asks ≡ Persist
   pub kept : w.kept ≡ true
 
--- What a server was sent is the forwarded texts of the requests that had its connection one after another, each whole before the next begins, none left out and
--- none twice, and then a front of that of the request that has it; and what came of it is their answers one after another, each whole, and then what came for
--- that request.
+-- The bytes sent to a server are the forwarded texts of the requests that owned its connection one
+-- after another, each whole before the next begins, none left out and none twice, and then a front
+-- of that of the request that owns it; the bytes from it are their answers one after another, each
+-- whole, and then those for that request.
 pub record SentInOrder (before : List Whole) (now : History) (sent came : List ℕ) : Type 0 where
   pub each : AllByRecursion IsWhole before
   pub stays : AllByRecursion IsOpenToServer before
@@ -29,8 +31,8 @@ pub record SentInOrder (before : List Whole) (now : History) (sent came : List �
   pub came_is : came ≡ flat_map answer_of_server before ++ now.server_in
   pub last : ToServer now
 
--- Behind these exchanges this one has the connection: since its socket was opened, it took what the server was sent in order, and gave what came of it, or waits to
--- be taken.
+-- After these exchanges this one owns the connection: since its socket was opened, the socket took
+-- the bytes sent to the server in order, and gave the bytes from it, or has them still to give.
 pub record IsServedOn (opened : Wire) (before : List Whole) (x : Exchange) (now : Wire) : Type 0 where
   pub history : History
   pub at : IsAt x history
@@ -44,15 +46,16 @@ pub record IsServedOn (opened : Wire) (before : List Whole) (x : Exchange) (now 
 abbrev pub IsOn : Wire → List Whole → Exchange → Wire → Type 0
 IsOn opened before x now = ∥ IsServedOn opened before x now ∥₁
 
--- Behind these exchanges nobody has the connection: since its socket was opened, it took their forwarded texts, each whole, and no byte more, and gave their
--- answers, each whole, and no byte more.
+-- After these exchanges no exchange owns the connection: since its socket was opened, the socket
+-- took their forwarded texts, each whole, and no byte more, and gave their answers, each whole, and
+-- no byte more.
 pub record IsBehind (opened : Wire) (before : List Whole) (taken left : Option (List ℕ)) : Type 0 where
   pub each : AllByRecursion IsWhole before
   pub stays : AllByRecursion IsOpenToServer before
   pub took : Appends opened.taken taken (flat_map forwarded_of before)
   pub gave : Consumes opened.left left (flat_map answer_of_server before)
 
--- the exchange ended clean, and is the last of those
+-- the exchange ended clean, and is the last one of them
 pub record IsLeftBy (opened : Wire) (before : List Whole) (x : Exchange) (taken left : Option (List ℕ)) : Type 0 where
   pub history : History
   pub at : IsAt x history
@@ -63,7 +66,7 @@ pub record IsLeftBy (opened : Wire) (before : List Whole) (x : Exchange) (taken 
 abbrev pub IsLeft : Wire → List Whole → Exchange → Option (List ℕ) → Option (List ℕ) → Type 0
 IsLeft opened before x taken left = ∥ IsLeftBy opened before x taken left ∥₁
 
--- an exchange that holds a pass sent nothing to a server yet, and nothing came of one
+-- an exchange that holds a pass has sent nothing to a server yet, and nothing has come from one
 abbrev pub IsUnsentYet : Exchange → Type 0
 IsUnsentYet x = held_by x ≢ [] → ∥ ((h : History) × IsAt x h × IsUnsent h) ∥₁
 
@@ -71,6 +74,6 @@ IsUnsentYet x = held_by x ≢ [] → ∥ ((h : History) × IsAt x h × IsUnsent 
 abbrev pub IsFor : ℕ → List Grant → Type 0
 IsFor server passes = passes ≢ [] → server_of passes ≡ Some server
 
--- no pass is held any more, or the same
+-- no pass is held any more, or the same one
 abbrev pub StillHolds : List Grant → List Grant → Type 0
 StillHolds old new = (new ≡ []) ⊎ (new ≡ old)

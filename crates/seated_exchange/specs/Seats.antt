@@ -1,4 +1,4 @@
--- What is held of an exchange and of its seat.
+-- The passes and the seat of an exchange.
 use Rattle.std.specs.Prelude.{ℕ, Bool, true, false, ◌&&◌, List, [], ◌∷◌, Option, Some, None}
 use Rattle.atomic_table.specs.Seated.{TableId}
 use Rattle.exchange_machine.specs.Histories.{History}
@@ -13,7 +13,7 @@ use Rattle.verdict.specs.declared.Ending.TheVariants.{Done, Failed}
 use Rattle.verdict.specs.declared.Verdict.{Verdict}
 use Rattle.verdict.specs.declared.Verdict.TheVariants.{Serve, Told}
 
--- there is a history that it waits after
+-- it waits after some history
 abbrev pub HasWaited : waitings.Waiting → Type 0
 HasWaited w = ∥ ((h : History) × IsWaiting w h) ∥₁
 
@@ -31,7 +31,7 @@ abbrev pub is_taken : Option Relay → Bool
 is_taken None = true
 is_taken (Some seat) = has_one seat.view.passes
 
--- its board and its terms, or else these
+-- the board of a seat, and its terms, or else these
 abbrev pub board_at : TableId → Option Relay → TableId
 board_at board None = board
 board_at board (Some seat) = seat.board
@@ -40,7 +40,7 @@ abbrev pub terms_at : Terms → Option Relay → Terms
 terms_at terms None = terms
 terms_at terms (Some seat) = seat.view.terms
 
--- all are passes of servers' slots
+-- the verdict of a pass for a server's slot
 abbrev pub serves : Verdict → Bool
 serves (Serve server) = true
 serves (Told cause) = false
@@ -49,17 +49,17 @@ abbrev pub all_serve : List Grant → Bool
 all_serve [] = true
 all_serve (pass ∷ passes) = serves pass.verdict && all_serve passes
 
--- the server whose slot such a verdict gives
+-- the server of such a verdict
 abbrev pub served_by : Verdict → Option ℕ
 served_by (Serve server) = Some server
 served_by (Told cause) = None
 
--- the server of a pass that is held, where one is
+-- the server of the pass that is held, if one is
 abbrev pub server_of : List Grant → Option ℕ
 server_of [] = None
 server_of (pass ∷ passes) = served_by pass.verdict
 
--- an exchange of such a verdict may end so
+-- an exchange with this verdict may end so
 abbrev pub may_end : Verdict → Ending → Bool
 may_end (Serve server) ending = true
 may_end (Told cause) Done = true

@@ -1,5 +1,6 @@
-//! An exchange and the seat that its pass is taken at, as one value: the pass comes out with its seat, to be posted, and else stays. And an exchange with its
-//! server's connection, which comes out of it for another exchange only where it ended clean.
+//! An exchange and the seat at which its pass was taken, as one value: the pass leaves only
+//! together with its seat, to be posted. And an exchange with its server's connection, which goes
+//! to another exchange only where this one ended clean.
 #![tactic(auto)]
 
 mod linked;

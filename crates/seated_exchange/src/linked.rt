@@ -23,19 +23,21 @@ use std::mem;
 use std::sync::ledger::Ledger;
 use verdict::Ending;
 
-/// An exchange and the connection to its server, where it has one. It gets a connection only before anything was sent to a server for it, and keeps it until
-/// its pass is gone or it asks for another one.
+/// An exchange and the connection to its server, where it has one. It gets a connection only before
+/// anything was sent to a server for it, and keeps it until its pass is gone or it asks for another
+/// one.
 pub struct Linked<N: BoardName + Ledger, S: Socket> {
     seated: Seated<N>,
     line: Line<S>,
-    /// Where its connection goes to.
+    /// The server of its connection.
     server: usize,
     ghost its: { line.there ≡ true → IsFor server (held_by seated.exchange) },
     ghost unsent: { line.there ≡ false → IsUnsentYet seated.exchange },
     ghost empty: { line.there ≡ false → line.waits ≡ [] },
 }
 
-/// What became of an exchange and of its server's connection: what it gave away, at which side bytes moved, and whether there is more to do.
+/// The result of an event for an exchange and its server's connection: what it gave away, the sides
+/// at which bytes moved, and whether there is more to do.
 pub struct Carried<N: BoardName + Ledger, S: Socket> {
     pub linked: Linked<N, S>,
     pub given: Given<N>,
@@ -45,7 +47,7 @@ pub struct Carried<N: BoardName + Ledger, S: Socket> {
 }
 
 impl<N: BoardName + Ledger, S: Socket> Linked<N, S> {
-    /// Of a new client.
+    /// Makes the exchange of a new client.
     pub fn new(alloc: Global) -> Linked<N, S>
         ensures none { held_by result.seated.exchange ≡ [] }
         ensures unlinked { result.line.there ≡ false }
@@ -53,7 +55,7 @@ impl<N: BoardName + Ledger, S: Socket> Linked<N, S> {
         Linked::without_line(alloc, Seated::new(alloc))
     }
 
-    /// Its pass came, of a slot of a server: it has no connection yet.
+    /// Continues the exchange with its pass, which is for a slot of a server: it has no connection yet.
     pub fn granted(alloc: Global, queued: Queued, taken: Taken<N>) -> Linked<N, S>
         requires { Serves taken.held.pass.verdict }
         ensures pass { held_by result.seated.exchange ≡ taken.held.pass ∷ [] }
@@ -62,7 +64,7 @@ impl<N: BoardName + Ledger, S: Socket> Linked<N, S> {
         Linked::without_line(alloc, queued.grant(taken))
     }
 
-    /// It goes on without a pass: it is told why.
+    /// Continues the exchange without a pass: its client is told why.
     pub fn unseated(alloc: Global, queued: Queued) -> Linked<N, S>
         ensures none { held_by result.seated.exchange ≡ [] }
         ensures unlinked { result.line.there ≡ false }
@@ -82,19 +84,19 @@ impl<N: BoardName + Ledger, S: Socket> Linked<N, S> {
         }
     }
 
-    /// The exchange.
+    /// Returns the exchange.
     pub fn seated(&self) -> &Seated<N>
         ensures { result.now ≡ self.now.seated }
     {
         &self.seated
     }
 
-    /// The socket of its connection, where it has one.
+    /// Returns the socket of its connection, where it has one.
     pub fn socket(&self) -> Option<&S> {
         self.line.socket()
     }
 
-    /// A poll told that its connection may be read again, or written to.
+    /// The poll reports its connection as ready to read or to write.
     pub fn wake(&mut self, reads: bool, writes: bool)
         ensures seated { self.new.seated ≡ self.old.seated }
         ensures server { self.new.server ≡ self.old.server }
@@ -106,7 +108,8 @@ impl<N: BoardName + Ledger, S: Socket> Linked<N, S> {
         self.line.wake(reads, writes);
     }
 
-    /// A new socket becomes the connection to the server of its pass. False: it has one, or waits for none, and the socket is closed.
+    /// Makes a new socket the connection to the server of its pass. False where it has one already
+    /// or waits for none: the socket is closed.
     pub fn open(&mut self, alloc: Global, socket: S) -> bool
         ensures linked { OnTrue result (self.new.line.there ≡ true) }
         ensures seated { self.new.seated ≡ self.old.seated }
@@ -122,8 +125,9 @@ impl<N: BoardName + Ledger, S: Socket> Linked<N, S> {
         true
     }
 
-    /// A connection that other exchanges had becomes its own, where that is to the server of its pass, its request may go out on one that was used before
-    /// and nothing came of it meanwhile. False: it isn't, and is closed.
+    /// Makes a used connection its own, where that goes to the server of its pass, its request may
+    /// go out on a used one, and nothing came on it meanwhile. Otherwise the connection is closed,
+    /// and this returns false.
     pub fn take_up(&mut self, alloc: Global, unused: Unused<S>, buffer: &mut [u8]) -> bool
         requires { 0 < length buffer.old }
         ensures length { length buffer.new ≡ length buffer.old }
@@ -150,7 +154,7 @@ impl<N: BoardName + Ledger, S: Socket> Linked<N, S> {
         true
     }
 
-    // The server that it waits for a connection to.
+    // Returns the server that it waits for a connection to.
     fn wanted(&self) -> Option<usize>
         ensures wanted { IfSome result (λ server. (server_of (held_by self.now.seated.exchange) ≡ Some server) × (self.now.line.there ≡ false)) }
     {
@@ -160,7 +164,8 @@ impl<N: BoardName + Ledger, S: Socket> Linked<N, S> {
         self.seated.server()
     }
 
-    /// Its connection is given up, where it holds no pass any more. It stays for another exchange where this one ended clean, and is closed else.
+    /// Gives up its connection, where it holds no pass any more. The connection is returned for
+    /// another exchange where this one ended clean, and otherwise closed.
     pub fn release(&mut self, alloc: Global) -> Option<Unused<S>>
         ensures seated { self.new.seated ≡ self.old.seated }
         ensures gone { held_by self.old.seated.exchange ≡ [] → self.new.line.there ≡ false }
@@ -182,7 +187,8 @@ impl<N: BoardName + Ledger, S: Socket> Linked<N, S> {
         Some(Unused::new(self.server, socket))
     }
 
-    /// Reads and writes, as `exchange_driver::drive` does. Where it asks for another connection, the one that it had is closed.
+    /// Reads and writes, as `exchange_driver::drive` does. Where it asks for another connection,
+    /// the old one is closed.
     pub fn drive<C: Socket>(
         self,
         settings: Settings,
@@ -208,7 +214,7 @@ impl<N: BoardName + Ledger, S: Socket> Linked<N, S> {
         linked_anew(settings.alloc, served, line, server)
     }
 
-    /// It is told something. Where it asks for another connection, the one that it had is closed.
+    /// Reports an event to it. Where it asks for another connection, the old one is closed.
     pub fn tell(self, settings: Settings, notice: Notice) -> Carried<N, S>
         ensures server { result.linked.line.there ≡ true → (self.line.there ≡ true) × (result.linked.server ≡ self.server) }
         ensures on { result.linked.line.there ≡ true → (opened : Wire) (before : List Whole) → IsOn opened before self.seated.exchange self.line
@@ -225,7 +231,7 @@ impl<N: BoardName + Ledger, S: Socket> Linked<N, S> {
         linked_anew(settings.alloc, served, line, server)
     }
 
-    /// The exchange that waits for a pass, where it does.
+    /// Returns the exchange that waits for a pass, if it does.
     pub fn into_queued(self) -> Result<Queued, Linked<N, S>>
         ensures same { IfErr result (λ linked. (linked ≡ self) × (is_waiting self.seated.exchange ≡ false)) }
     {
@@ -243,7 +249,8 @@ impl<N: BoardName + Ledger, S: Socket> Linked<N, S> {
         }
     }
 
-    /// The next exchange of a client that may ask again, which holds no pass. It begins with what came behind the request, and without a connection.
+    /// Makes the next exchange of a client that may ask again; it has no pass. It begins with the
+    /// bytes after the request, and without a connection.
     pub fn ask_again(self, alloc: Global) -> Result<Linked<N, S>, Linked<N, S>>
         ensures next { IfOk result (λ next. (h : History) → steps.IsAt self.seated.exchange h → chains.IsNext h next.seated.exchange) }
         ensures none { IfOk result (λ next. held_by next.seated.exchange ≡ []) }
@@ -265,7 +272,8 @@ impl<N: BoardName + Ledger, S: Socket> Linked<N, S> {
         }
     }
 
-    /// It is over, however far it is: its connection is closed, and its pass is to be posted, as done, since the server isn't to blame.
+    /// Ends it at any stage: its connection is closed, and its pass is to be posted as done, since
+    /// the server isn't to blame.
     pub fn abandon(self) -> Option<Posting<N>>
         ensures done { IfSome result (λ posting. posting.ending ≡ Ending.Done) }
         ensures pass { MatchOption result (held_by self.seated.exchange ≡ []) (λ posting. held_by self.seated.exchange ≡ posting.taken.held.pass ∷ []) }
@@ -279,7 +287,7 @@ impl<N: BoardName + Ledger, S: Socket> Linked<N, S> {
     }
 }
 
-// Who asks for another connection has none.
+// An exchange that asks for another connection has none.
 fn linked_anew<N: BoardName + Ledger, S: Socket>(
     alloc: Global,
     served: Served<N>,

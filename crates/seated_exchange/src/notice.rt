@@ -8,12 +8,12 @@ ghost use Rattle.mixed_exchange.specs.declared.exchange.Outcome.{Outcome};
 use exchange_machine::Terms;
 use mixed_exchange::{Clock, Event};
 
-/// What an exchange is told without bytes and passes.
+/// An event of an exchange without bytes and passes.
 #[derive(Clone, Copy)]
 pub enum Notice {
     /// No pass comes.
     Unserved,
-    /// The server was reached, on a connection of these terms.
+    /// The server was reached, on a connection with these terms.
     Connected(Terms),
     /// The server can't be reached.
     Unreachable,
@@ -21,7 +21,7 @@ pub enum Notice {
     ClientEnd,
     /// The client's connection broke.
     ClientFailed,
-    /// A time is over.
+    /// A timeout expired.
     TimeOver(Clock),
 }
 

@@ -12,7 +12,7 @@ use mixed_exchange::Exchange;
 use req_view::View;
 use std::sync::ledger::Ledger;
 
-/// An exchange that waits for a pass: it holds none, so that it may be let go.
+/// An exchange that waits for a pass: it holds none, so it may be dropped.
 #[derive(Drop)]
 pub struct Queued {
     waiting: Waiting,
@@ -27,12 +27,12 @@ impl Queued {
         Queued { waiting }
     }
 
-    /// Its request.
+    /// Returns its request.
     pub fn view(&self) -> &View {
         self.waiting.view()
     }
 
-    /// Its pass came, of a slot of a server.
+    /// Continues the exchange with its pass, which is for a slot of a server.
     pub fn grant<N: BoardName + Ledger>(self, taken: Taken<N>) -> Seated<N>
         requires { Serves taken.held.pass.verdict }
         ensures pass { held_by result.exchange ≡ taken.held.pass ∷ [] }
@@ -44,7 +44,7 @@ impl Queued {
         Seated::of(Exchange::Dialing(waiting.grant(pass)), seat, Some(out))
     }
 
-    /// It goes on without a pass: it is told why.
+    /// Continues the exchange without a pass: its client is told why.
     pub fn unseated<N: BoardName + Ledger>(self) -> Seated<N>
         ensures none { held_by result.exchange ≡ [] }
     {

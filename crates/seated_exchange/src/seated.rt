@@ -22,7 +22,8 @@ use std::marker::PhantomData;
 use std::sync::ledger::Ledger;
 use verdict::{Ending, Verdict};
 
-/// An exchange, and the seat of the pass that it holds, where it holds one, which is lent to it. It has no `Drop`, as a pass has none.
+/// An exchange, and the lent seat of the pass that it holds, where it holds one. It has no `Drop`,
+/// since a pass has none.
 pub struct Seated<N: BoardName + Ledger> {
     exchange: Exchange,
     seat: Option<RelaySeat>,
@@ -37,14 +38,14 @@ pub struct Seated<N: BoardName + Ledger> {
     ghost at: { HasHistory exchange },
 }
 
-/// How far an exchange is.
+/// The stage of an exchange.
 #[derive(Clone, Copy, Debug, PartialEq, Eq)]
 pub enum Stage {
     Asking,
     Waiting,
     Dialing,
     Passing,
-    /// Its pass was posted, and its client is still told something.
+    /// Its pass was posted, and its client is still to be sent bytes.
     Telling,
     Over,
 }
@@ -64,7 +65,8 @@ pub enum Given<N: BoardName + Ledger> {
     Retries,
 }
 
-/// What became of an exchange: what it gave away, at which side bytes moved, and whether there is more to do.
+/// The result of an event: the exchange, what it gave away, the sides at which bytes moved, and
+/// whether there is more to do.
 pub struct Served<N: BoardName + Ledger> {
     pub seated: Seated<N>,
     pub given: Given<N>,
@@ -74,14 +76,14 @@ pub struct Served<N: BoardName + Ledger> {
 }
 
 impl<N: BoardName + Ledger> Posting<N> {
-    /// The place of the pass.
+    /// Returns the place of the pass.
     pub fn place(&self) -> usize
         ensures { result ≡ self.now.taken.held.pass.place }
     {
         self.taken.place()
     }
 
-    /// Spends the pass: says how its exchange ended. One step, and no memory. Its seat is to be given back.
+    /// Posts the pass, with how its exchange ended. One step, without allocating. Its seat has to be given back.
     pub fn post(self, board: &Board) -> Lent<N>
         requires { board.now ≡ N.board }
         ensures { result.idle.seat.view ≡ post_after self.taken.held.seat.view self.taken.held.pass self.ending }
@@ -91,14 +93,14 @@ impl<N: BoardName + Ledger> Posting<N> {
     }
 }
 
-// An exchange behind an outcome, and what that gives away.
+// An exchange after an outcome, and what that gives away.
 struct Parted<N: BoardName + Ledger> {
     seated: Seated<N>,
     given: Given<N>,
 }
 
 impl<N: BoardName + Ledger> Seated<N> {
-    /// Of a new client.
+    /// Makes the exchange of a new client.
     pub fn new(alloc: Global) -> Seated<N>
         ensures none { held_by result.exchange ≡ [] }
     {
@@ -123,7 +125,7 @@ impl<N: BoardName + Ledger> Seated<N> {
         }
     }
 
-    /// How far it is.
+    /// Returns its stage.
     pub fn stage(&self) -> Stage {
         match &self.exchange {
             Exchange::Asking(_) => Stage::Asking,
@@ -141,7 +143,7 @@ impl<N: BoardName + Ledger> Seated<N> {
         }
     }
 
-    /// The server of the pass that it holds, where it holds one.
+    /// Returns the server of the pass that it holds, where it holds one.
     pub fn server(&self) -> Option<usize>
         ensures { result ≡ server_of (held_by self.now.exchange) }
     {
@@ -157,7 +159,7 @@ impl<N: BoardName + Ledger> Seated<N> {
         }
     }
 
-    /// Was its request read whole, or isn't it read before a pass is there?
+    /// Says whether its request was read whole, or isn't read before a pass is there.
     pub fn has_asked(&self) -> bool {
         match &self.exchange {
             Exchange::Waiting(_) | Exchange::Dialing(_) => true,
@@ -170,40 +172,41 @@ impl<N: BoardName + Ledger> Seated<N> {
         }
     }
 
-    /// Which limit's time runs.
+    /// Returns the timeout that runs.
     pub fn clock(&self) -> Option<Clock>
         ensures { result ≡ steps.clock_of self.now.exchange }
     {
         self.exchange.wants().clock
     }
 
-    /// Is more of what its client sends read now?
+    /// Says whether more of the client's bytes are read now.
     pub fn reads_client(&self) -> bool
         ensures { result ≡ steps.reads_client self.now.exchange }
     {
         self.exchange.wants().reads_client
     }
 
-    /// Was its client sent all that it is told?
+    /// Says whether its client was sent all its bytes.
     pub fn has_told(&self) -> bool {
         self.exchange.to_client().is_empty()
     }
 
-    /// Is what its client is told, and was told, the whole answer of its server, and no refusal, nor an answer that broke off?
+    /// Says whether its client is or was sent the whole answer of its server, and not a refusal or
+    /// an answer that broke off.
     pub fn is_answered(&self) -> bool
         ensures { result ≡ chains.is_answered self.now.exchange }
     {
         self.exchange.is_answered()
     }
 
-    /// Did nothing come of its client yet?
+    /// Says whether no byte has come from its client yet.
     pub fn is_silent(&self) -> bool
         ensures { result ≡ chains.is_silent self.now.exchange }
     {
         self.exchange.is_silent()
     }
 
-    /// Can its server's connection be used again, as `mixed_exchange` says?
+    /// Says whether its server's connection can be used again, as in `mixed_exchange`.
     pub fn is_clean(&self) -> bool
         ensures clean { result ≡ chains.is_clean self.now.exchange }
         ensures ends { IsTrue result → (h : History) → steps.IsAt self.now.exchange h → EndsClean h (steps.to_client self.now.exchange) }
@@ -211,21 +214,22 @@ impl<N: BoardName + Ledger> Seated<N> {
         self.exchange.is_clean()
     }
 
-    /// May its request go out on a server's connection that was used before?
+    /// Says whether its request may go out on a used connection of a server.
     pub fn takes_used(&self) -> bool
         ensures { result ≡ chains.takes_used self.now.exchange }
     {
         self.exchange.takes_used()
     }
 
-    /// May its client ask again, as `mixed_exchange` says?
+    /// Says whether its client may ask again, as in `mixed_exchange`.
     pub fn may_ask_again(&self) -> bool
         ensures { result ≡ chains.may_ask_again self.now.exchange }
     {
         self.exchange.may_ask_again()
     }
 
-    /// The next exchange of a client that may ask again, which holds no pass. It begins with what came behind the request.
+    /// Makes the next exchange of a client that may ask again; it has no pass. It begins with the
+    /// bytes after the request.
     pub fn ask_again(self, alloc: Global) -> Result<Seated<N>, Seated<N>>
         ensures next { IfOk result (λ next. (h : History) → steps.IsAt self.exchange h → chains.IsNext h next.exchange) }
         ensures none { IfOk result (λ next. held_by next.exchange ≡ []) }
@@ -251,7 +255,7 @@ impl<N: BoardName + Ledger> Seated<N> {
         }
     }
 
-    /// The exchange that waits for a pass, where it does.
+    /// Returns the exchange that waits for a pass, if it does.
     pub fn into_queued(self) -> Result<Queued, Seated<N>>
         ensures same { IfErr result (λ seated. (seated ≡ self) × (is_waiting self.exchange ≡ false)) }
     {
@@ -273,7 +277,7 @@ impl<N: BoardName + Ledger> Seated<N> {
         }
     }
 
-    /// Does it wait for a pass?
+    /// Says whether it waits for a pass.
     pub fn is_waiting(&self) -> bool
         ensures { result ≡ is_waiting self.now.exchange }
     {
@@ -330,7 +334,7 @@ impl<N: BoardName + Ledger> Seated<N> {
         }
     }
 
-    /// It is told something: no byte goes to a server by it, and none comes of one.
+    /// Reports an event to it: by that no byte goes to a server, and none comes from one.
     pub fn tell(self, settings: Settings, notice: Notice) -> Served<N>
         ensures at { (h : History) → steps.IsAt self.exchange h → (now : History) × (outcome : outcomes.Outcome)
             × (now.to_server ≡ h.to_server) × (now.server_in ≡ h.server_in) × steps.IsAt result.seated.exchange (steps.ended outcome now)
@@ -359,7 +363,7 @@ impl<N: BoardName + Ledger> Seated<N> {
         }
     }
 
-    /// It is over, however far it is: its pass is to be posted, as done, since the server isn't to blame.
+    /// Ends it at any stage: its pass is to be posted as done, since the server isn't to blame.
     pub fn abandon(self) -> Option<Posting<N>>
         ensures done { IfSome result (λ posting. posting.ending ≡ Ending.Done) }
         ensures pass { MatchOption result (held_by self.exchange ≡ []) (λ posting. held_by self.exchange ≡ posting.taken.held.pass ∷ []) }
@@ -387,7 +391,7 @@ impl<N: BoardName + Ledger> Seated<N> {
     }
 }
 
-// The server whose slot a verdict gives.
+// Returns the server of a verdict.
 fn served_by(verdict: Verdict) -> Option<usize>
     ensures { result ≡ served_by verdict }
 {
@@ -397,7 +401,7 @@ fn served_by(verdict: Verdict) -> Option<usize>
     }
 }
 
-// What an outcome gives away, with the seat of its pass.
+// Returns what an outcome gives away, with the seat of its pass.
 fn part<N: BoardName + Ledger>(
     exchange: Exchange,
     seat: Option<RelaySeat>,
@@ -434,7 +438,7 @@ fn part<N: BoardName + Ledger>(
     }
 }
 
-// The pass goes back with its seat.
+// Gives the pass away with its seat.
 fn posts<N: BoardName + Ledger>(exchange: Exchange, posting: Posting<N>) -> Parted<N>
     requires none { held_by exchange ≡ [] }
     requires at { HasHistory exchange }

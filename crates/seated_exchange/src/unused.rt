@@ -3,8 +3,9 @@ ghost use Rattle.std.specs.Io.KnownBytes.{Consumes};
 
 use exchange_driver::{Heard, Socket};
 
-/// A server's connection between two exchanges. Only one whose exchange ended clean leaves one: both messages stand at their ends, and both sides agreed
-/// that it stays (RFC 9112, section 9.3).
+/// A server's connection between two exchanges. Only an exchange that ended clean leaves one: both
+/// messages are at their ends, and both sides agreed to keep the connection open (RFC 9112, section
+/// 9.3).
 #[derive(Drop)]
 pub struct Unused<S: Socket> {
     server: usize,
@@ -19,21 +20,22 @@ impl<S: Socket> Unused<S> {
         Unused { server, socket }
     }
 
-    /// The number of its server.
+    /// Returns the number of its server.
     pub fn server(&self) -> usize
         ensures { result ≡ self.now.server }
     {
         self.server
     }
 
-    /// Its socket, for the poll to be told of it.
+    /// Returns its socket, for registration with a poll.
     pub fn socket(&self) -> &S
         ensures { result.now ≡ self.now.socket }
     {
         &self.socket
     }
 
-    // Its socket, where nothing came of it. None: a byte came that nobody asked for, or its end, so that it is closed.
+    // Returns its socket, where nothing came on it. `None`: a byte came that no exchange asked for,
+    // or its end, so it is closed.
     pub(crate) fn into_quiet(self, buffer: &mut [u8]) -> Option<S>
         requires { 0 < length buffer.old }
         ensures length { length buffer.new ≡ length buffer.old }

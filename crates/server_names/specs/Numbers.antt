@@ -1,4 +1,4 @@
--- Addresses that stand in a configuration.
+-- Addresses that a configuration gives in numbers.
 use Rattle.std.specs.Prelude.{ℕ, ◌≡◌, List, Option, IsSomeAnd}
 use Rattle.std.specs.declared.net.ipv4_addr.Ipv4Addr.{Ipv4Addr}
 use Rattle.std.specs.declared.net.ip_addr.IpAddr.TheVariants.{V4}
@@ -8,10 +8,10 @@ use Rattle.std.specs.Net.Socket.{socket_ip, IsPlainSocket}
 use Rattle.proxy_config.specs.declared.parts.Address.{Address}
 use Rattle.proxy_config.specs.declared.parts.Host.TheVariants.{Ip}
 
--- the socket's address of this IPv4 address and this port
+-- the socket address of this IPv4 address and this port
 abbrev pub IsAt : List ℕ → ℕ → SocketAddr → Type 0
 IsAt octets port address = (ip : Ipv4Addr) × (ipv4_octets ip ≡ octets) × (socket_ip address ≡ V4 ip) × IsPlainSocket address port
 
--- an address in numbers is found, and is the one that stands there
+-- an address in numbers is found as it is given
 abbrev pub IsAddressOf : Address → Option SocketAddr → Type 0
 IsAddressOf address found = (octets : List ℕ) → address.host ≡ Ip octets → IsSomeAnd found (IsAt octets address.port)

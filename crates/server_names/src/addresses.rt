@@ -16,7 +16,7 @@ pub struct Addresses {
 }
 
 impl Addresses {
-    /// Those of these servers, no name of which was looked up.
+    /// Makes the addresses of these servers, before any look-up.
     pub fn new(alloc: Global, config: &Config) -> Result<Addresses, AllocError> {
         let servers = config.servers.as_slice();
         let mut names = Vec::with_capacity(alloc, servers.len())?;
@@ -26,8 +26,9 @@ impl Addresses {
         Ok(Addresses { names })
     }
 
-    /// The address of a server of the same configuration: the one that stands there in numbers, or that of the last look-up of its name. None: that failed, or none was
-    /// answered so far. It waits for no look-up.
+    /// Returns the address of a server of the same configuration: the one that is given in numbers,
+    /// or that of the last look-up of its name. `None` where that failed, or there is no answer
+    /// yet. It doesn't wait for a look-up.
     pub fn of<R: Wait>(&self, rt: &R, config: &Config, server: usize) -> Option<SocketAddr>
         ensures numbers { IfSome (slice_get config.now.servers server) (λ it. IsAddressOf it.address result) }
         ensures nobody { slice_get config.now.servers server ≡ None → result ≡ None }
@@ -39,7 +40,7 @@ impl Addresses {
         }
     }
 
-    // The address of the last look-up of a server's name.
+    // Returns the address of the last look-up of a server's name.
     fn found<R: Wait>(&self, rt: &R, server: usize) -> Option<SocketAddr> {
         match self.names.as_slice().get(server)? {
             Some(name) => name.address(rt),
@@ -47,14 +48,14 @@ impl Addresses {
         }
     }
 
-    /// Has the name of a server looked up once more, where it has one. It doesn't wait for the answer.
+    /// Has the name of a server looked up again, where it has one. It doesn't wait for the answer.
     pub fn look_again<R: Wait>(&self, rt: &R, server: usize) {
         if let Some(Some(name)) = self.names.as_slice().get(server) {
             name.look_again(rt);
         }
     }
 
-    /// No name is looked up any more. A look-up that is under way goes on, and nobody waits for it.
+    /// Ends the look-ups. One that is under way goes on, and nobody waits for it.
     pub fn close<R: Wait>(&self, rt: &R) {
         for name in self.names.as_slice() {
             if let Some(name) = name {

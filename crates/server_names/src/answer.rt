@@ -1,4 +1,4 @@
-//! What is known of a name.
+//! The knowledge of a name's address.
 
 ghost use Rattle.std.specs.Prelude.{◌≡◌, ◌↔◌, false, true, IsTrue};
 ghost use Rattle.server_names.specs.Answers.{address_in, answer_of};
@@ -9,15 +9,15 @@ use std::net::SocketAddr;
 /// The last answer for a name.
 #[derive(Clone, Copy, Debug)]
 pub(crate) enum Answer {
-    /// None came so far.
+    /// There is none yet.
     Nothing,
-    /// It has no address, or that couldn't be found out.
+    /// The name has no address, or the look-up failed.
     Failed,
     /// Its first address.
     At(SocketAddr),
 }
 
-/// What is known of a name, and what is still to be done for it.
+/// The knowledge of a name's address, and what is still to be done for it.
 #[derive(Drop)]
 pub(crate) struct Lookup {
     answer: Answer,
@@ -26,7 +26,7 @@ pub(crate) struct Lookup {
 }
 
 impl Lookup {
-    /// Of a name that is to be looked up, and never was.
+    /// Makes the state of a name that is to be looked up for the first time.
     pub(crate) fn new() -> Lookup
         ensures { (result.answer ≡ answers.Nothing) × (result.is_wanted ≡ true) × (result.is_over ≡ false) }
     {
@@ -37,21 +37,21 @@ impl Lookup {
         }
     }
 
-    /// It is to be looked up once more.
+    /// Asks for another look-up.
     pub(crate) fn want(&mut self)
         ensures { self.new ≡ record self.old { is_wanted = true } }
     {
         self.is_wanted = true;
     }
 
-    /// It is looked up now.
+    /// Notes that the look-up begins.
     pub(crate) fn begin(&mut self)
         ensures { self.new ≡ record self.old { is_wanted = false } }
     {
         self.is_wanted = false;
     }
 
-    /// This was found. What was asked for meanwhile is still to be done.
+    /// Notes the result. A look-up that was asked for meanwhile is still to be done.
     pub(crate) fn note(&mut self, found: Option<SocketAddr>)
         ensures { self.new ≡ record self.old { answer = answer_of found } }
     {
@@ -61,14 +61,14 @@ impl Lookup {
         };
     }
 
-    /// It isn't looked up any more.
+    /// Ends the look-ups of the name.
     pub(crate) fn end(&mut self)
         ensures { self.new ≡ record self.old { is_over = true } }
     {
         self.is_over = true;
     }
 
-    /// Whether there is nothing to do for it now.
+    /// Says whether there is nothing to do for it now.
     pub(crate) fn rests(&self) -> bool
         ensures { IsTrue result ↔ ((self.now.is_wanted ≡ false) × (self.now.is_over ≡ false)) }
     {
@@ -81,14 +81,14 @@ impl Lookup {
         self.is_over
     }
 
-    /// Whether no answer came so far.
+    /// Says whether there is no answer yet.
     pub(crate) fn is_unanswered(&self) -> bool
         ensures { IsTrue result ↔ (self.now.answer ≡ answers.Nothing) }
     {
         matches!(&self.answer, Answer::Nothing)
     }
 
-    /// The address of the last answer, where that had one.
+    /// Returns the address of the last answer, where that had one.
     pub(crate) fn address(&self) -> Option<SocketAddr>
         ensures { result ≡ address_in self.now.answer }
     {

@@ -1,4 +1,5 @@
-//! The addresses of servers. Names are looked up by threads of their own, so that nobody else waits for the system's answer, which may take as long as it likes.
+//! The addresses of servers. Threads of their own look names up, so that no other thread waits for
+//! the system's answer, which may take any time.
 #![tactic(auto)]
 
 mod addresses;

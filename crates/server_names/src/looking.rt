@@ -9,12 +9,14 @@ use std::thread;
 use std::thread::Threads;
 use std::time::{Clock, Duration, Instant};
 
-/// So many milliseconds the first answers are waited for, at most.
+/// The longest wait for the first answers, in milliseconds.
 const FIRST: u64 = 1000;
 
 impl Addresses {
-    /// Has a thread look each name up, now and whenever that is asked for, and waits a second at most for the first answers. A thread owns all that it works with:
-    /// it may still wait for an answer when everything else is over. Where one can't be started, none is left.
+    /// Starts a thread for each name that looks it up, now and each time that is asked for, and
+    /// waits at most a second for the first answers. A thread owns all that it works with: it may
+    /// still wait for an answer when everything else has ended. Where one can't be started, all are
+    /// ended.
     pub fn start<
         R: Net<Listener = TcpListener, Stream = TcpStream>
             + Clock

@@ -4,10 +4,10 @@ use std::sync::{Condvar, CondvarTimeouts, Mutex, Wait};
 use std::thread;
 use std::time::{Clock, Duration};
 
-/// Between two look-ups of a name so many milliseconds pass at least.
+/// The least time between two look-ups of a name, in milliseconds.
 const PAUSE: u64 = 100;
 
-/// A server's name, and what is known of it. It is shared by who asks and by the thread that looks it up.
+/// A server's name, and the knowledge of its address. The threads that ask and the one that looks it up share it.
 #[derive(Drop)]
 pub(crate) struct Name {
     host: String,
@@ -26,24 +26,24 @@ impl Name {
         }
     }
 
-    /// The address of its last answer.
+    /// Returns the address of its last answer.
     pub(crate) fn address<R: Wait>(&self, rt: &R) -> Option<SocketAddr> {
         self.lookup.lock(rt).address()
     }
 
-    /// Has it looked up once more.
+    /// Asks for another look-up.
     pub(crate) fn look_again<R: Wait>(&self, rt: &R) {
         self.lookup.lock(rt).want();
         self.bell.notify_all();
     }
 
-    /// Has its thread end, once that waits for no answer.
+    /// Ends its thread, once that doesn't wait for an answer.
     pub(crate) fn close<R: Wait>(&self, rt: &R) {
         self.lookup.lock(rt).end();
         self.bell.notify_all();
     }
 
-    /// Returns once it was answered, and after so long at most.
+    /// Waits until there is an answer, or for this time.
     pub(crate) fn wait_for_answer<R: Wait + Clock>(&self, rt: &R, limit: Duration) {
         let _lookup = self
             .bell
@@ -52,7 +52,7 @@ impl Name {
             });
     }
 
-    /// Looks it up whenever that is asked for, until it is closed.
+    /// Looks it up each time that is asked for, until it is closed.
     pub(crate) fn look_up_all<R: Net + Wait + Clock>(&self, rt: &R) {
         for _ in rt.forever() {
             if !self.begin(rt) {
@@ -66,7 +66,7 @@ impl Name {
         unreachable!()
     }
 
-    // Once it is to be looked up. False: it is closed.
+    // Waits until it is to be looked up. False where it is closed.
     fn begin<R: Wait>(&self, rt: &R) -> bool {
         let mut lookup = self
             .bell

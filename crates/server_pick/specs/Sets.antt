@@ -2,7 +2,7 @@
 use Rattle.std.specs.Prelude.{◌≡◌, ◌==◌, ℕ, Bool, IsTrue, ◌↔◌, ◌⊎◌}
 use Rattle.std.specs.Int.{bit_at}
 
--- whether a set has a server, by the bits of its marks
+-- a set has a server, by the bits of its marks
 abbrev pub has : ℕ → ℕ → Bool
 has marks server = bit_at marks server == 1
 
@@ -10,6 +10,6 @@ has marks server = bit_at marks server == 1
 abbrev pub IsIn : ℕ → ℕ → Type 0
 IsIn marks server = IsTrue (has marks server)
 
--- a set has one server more where it is wanted
+-- the second set has one more server where it is wanted, otherwise the same
 abbrev pub IsMore : ℕ → Bool → ℕ → ℕ → Type 0
 IsMore server wanted old new = (other : ℕ) → IsIn new other ↔ (IsIn old other ⊎ (IsTrue wanted × (other ≡ server)))

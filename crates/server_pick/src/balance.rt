@@ -12,8 +12,8 @@ use crate::server_set::Set64;
 use crate::servers::{has_room, load, weight};
 use slot_ledger::Ledger;
 
-/// The servers that balancing may choose from: the usable ones with room, without the avoided one
-/// unless nothing is left.
+/// Returns the servers that balancing may choose from: the usable ones with room, and the one to
+/// avoid only where it is the only one.
 pub fn candidates<H: Drop>(ledger: &Ledger<H>, avoid: Option<usize>) -> Set64
     ensures { (server : ℕ) → IsIn result server ↔ IsCandidate (scene_of ledger.now) avoid server }
 {
@@ -24,8 +24,7 @@ pub fn candidates<H: Drop>(ledger: &Ledger<H>, avoid: Option<usize>) -> Set64
     }
 }
 
-/// The server of a set that balancing picks, and the cursor moves to it. `None` only for the empty
-/// set.
+/// Returns the server of a set that balancing picks, and moves the cursor to it; `None` only for the empty set.
 pub fn pick<H: Drop>(ledger: &Ledger<H>, cursor: &mut Cursor, among: &Set64) -> Option<usize>
     requires usable { (server : ℕ) → IsIn among.now server → IsTrue (is_usable (scene_of ledger.now) server) }
     ensures picked { MatchOption result ((server : ℕ) → IsIn among.now server → ⊥) (λ server. IsPick (scene_of ledger.now) cursor.old (IsIn among.now) server) }
@@ -41,7 +40,7 @@ pub fn pick<H: Drop>(ledger: &Ledger<H>, cursor: &mut Cursor, among: &Set64) -> 
     best
 }
 
-/// The usable servers with room but the avoided one.
+/// Returns the usable servers with room, without the one to avoid.
 fn with_room<H: Drop>(ledger: &Ledger<H>, avoid: Option<usize>) -> Set64
     ensures { (server : ℕ) → IsIn result server ↔ HasRoomBut (scene_of ledger.now) avoid server }
 {
@@ -52,14 +51,14 @@ fn with_room<H: Drop>(ledger: &Ledger<H>, avoid: Option<usize>) -> Set64
     set
 }
 
-/// Whether a server has room and isn't the avoided one.
+/// Says whether a server is usable, has room and isn't the one to avoid.
 fn has_room_but<H: Drop>(ledger: &Ledger<H>, avoid: Option<usize>, server: usize) -> bool
     ensures { IsTrue result ↔ HasRoomBut (scene_of ledger.now) avoid server }
 {
     has_room(ledger, server) && avoid != Some(server)
 }
 
-/// The server of a set that goes before all others.
+/// Returns the server of a set that goes before all others.
 fn best_of<H: Drop>(ledger: &Ledger<H>, cursor: Cursor, among: &Set64) -> Option<usize>
     requires usable { (server : ℕ) → IsIn among.now server → IsTrue (is_usable (scene_of ledger.now) server) }
     ensures { MatchOption result ((server : ℕ) → IsIn among.now server → ⊥) (λ server. IsPick (scene_of ledger.now) cursor (IsIn among.now) server) }
@@ -71,7 +70,7 @@ fn best_of<H: Drop>(ledger: &Ledger<H>, cursor: Cursor, among: &Set64) -> Option
     best
 }
 
-/// The best so far, or the next server where it is of the set and goes before.
+/// Returns the best so far, or the next server where it is in the set and goes before.
 fn better_of<H: Drop>(
     ledger: &Ledger<H>,
     cursor: Cursor,
@@ -90,7 +89,7 @@ fn better_of<H: Drop>(
     }
 }
 
-/// Whether a server goes before the best so far.
+/// Says whether a server goes before the best so far.
 fn beats<H: Drop>(ledger: &Ledger<H>, cursor: Cursor, server: usize, best: Option<usize>) -> bool
     requires server { server < length ledger.now.setup.servers }
     requires best { IfSome best (λ other. other < length ledger.now.setup.servers) }
@@ -102,8 +101,8 @@ fn beats<H: Drop>(ledger: &Ledger<H>, cursor: Cursor, server: usize, best: Optio
     }
 }
 
-/// Whether a server is less loaded than another, or as loaded and nearer after the cursor. Loads
-/// are compared as fractions of the weights, without a division.
+/// Says whether a server is less loaded than another, or equally loaded and nearer after the
+/// cursor. Loads are compared relative to the weights, without a division.
 fn goes_before<H: Drop>(ledger: &Ledger<H>, cursor: Cursor, server: usize, other: usize) -> bool
     requires server { server < length ledger.now.setup.servers }
     requires other { other < length ledger.now.setup.servers }

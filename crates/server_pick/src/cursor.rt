@@ -2,7 +2,7 @@ ghost use Rattle.std.specs.Prelude.{◌≡◌, ◌+◌, ◌-◌, ◌^◌, ◌<�
 
 use std::marker::Model;
 
-/// The server that balancing picked last. Among equals the first after it in file order comes next.
+/// The server that balancing picked last. Of equal servers the first one after it in file order is next.
 #[derive(Clone, Copy, Debug, PartialEq, Eq)]
 pub struct Cursor {
     server: usize,
@@ -19,7 +19,7 @@ impl Model for Cursor {
 }
 
 impl Cursor {
-    /// Before any pick the last of so many servers counts as picked, so that the first comes next.
+    /// Makes the cursor before any pick: the last server counts as picked, so the first one is next.
     pub fn new(servers: usize) -> Cursor
         ensures { result ≡ servers - 1 }
     {
@@ -28,15 +28,15 @@ impl Cursor {
         }
     }
 
-    /// The server that was picked last.
+    /// Returns the server that was picked last.
     pub fn server(&self) -> usize
         ensures { result ≡ self.now }
     {
         self.server
     }
 
-    /// How far a server stands after it in file order, where the first of so many servers follows
-    /// the last; its own is the farthest.
+    /// Returns the number of steps from the cursor to a server in file order, where the first
+    /// server follows the last; its own server is the farthest.
     pub(crate) fn steps_to(&self, server: usize, servers: usize) -> usize
         requires { server + servers < 2 ^ 64 }
         ensures { result ≡ (if nat_lt self.now server then server - self.now else (server + servers) - self.now) }
@@ -48,7 +48,7 @@ impl Cursor {
         }
     }
 
-    /// This server was picked.
+    /// Moves it to this server.
     pub(crate) fn move_to(&mut self, server: usize)
         ensures { self.new ≡ server }
     {

@@ -1,6 +1,6 @@
-//! Which server comes next: balancing by least load (`balance leastconn`), the placement of a
-//! request, and the server that takes from the queues. No memory, no handle; each call is `O(n)`
-//! in the servers.
+//! Which server is next: balancing by least load (`balance leastconn`), the placement of a request,
+//! and the server that takes from the queues. The crate allocates nothing and uses no handle; each
+//! call is `O(n)` in the servers.
 #![tactic(auto)]
 
 mod balance;

@@ -8,21 +8,21 @@ use crate::cursor::Cursor;
 use crate::servers::{is_free, is_usable, takes_pinned};
 use slot_ledger::Ledger;
 
-/// Where a request goes that is in no place yet.
+/// The placement of a request without a phase.
 #[derive(Clone, Copy, Debug, PartialEq, Eq)]
 pub enum Placement {
     /// A slot of this server.
     Slot(usize),
-    /// The own queue of this server, which has no slot free.
+    /// This server's own queue, where it has no free slot.
     OwnQueue(usize),
     /// The backend's queue: no usable server has room.
     BackendQueue,
-    /// No server could ever take it.
+    /// Nowhere: no server is usable.
     Nowhere,
 }
 
-/// Where a request with this pin goes, with a server that it avoids where another has room. Its
-/// pin decides where that server takes it (`use-server`), and balancing otherwise.
+/// Returns the placement of a request with this pin, and with a server that it avoids where another
+/// has room. Its pin decides where that server takes it (`use-server`), and balancing otherwise.
 pub fn place<H: Drop>(
     ledger: &Ledger<H>,
     cursor: &mut Cursor,
@@ -42,7 +42,7 @@ pub fn place<H: Drop>(
     }
 }
 
-/// The pin where its server takes the request.
+/// Returns the pin, where its server takes the request.
 fn working_pin<H: Drop>(ledger: &Ledger<H>, pin: Option<usize>) -> Option<usize>
     ensures { result ≡ working_pin (scene_of ledger.now) pin }
 {
@@ -52,7 +52,7 @@ fn working_pin<H: Drop>(ledger: &Ledger<H>, pin: Option<usize>) -> Option<usize>
     }
 }
 
-/// A slot of a server where one is free, and else its queue.
+/// Returns a slot of a server where one is free, otherwise its queue.
 fn put_on<H: Drop>(ledger: &Ledger<H>, server: usize) -> Placement
     ensures { result ≡ placed_on (scene_of ledger.now) server }
 {
@@ -63,7 +63,7 @@ fn put_on<H: Drop>(ledger: &Ledger<H>, server: usize) -> Placement
     }
 }
 
-/// Whether some server is usable.
+/// Says whether some server is usable.
 fn some_usable<H: Drop>(ledger: &Ledger<H>) -> bool
     ensures yes { result ≡ true → (server : ℕ) × IsTrue (is_usable (scene_of ledger.now) server) }
     ensures no { result ≡ false → (server : ℕ) → IsTrue (is_usable (scene_of ledger.now) server) → ⊥ }

@@ -5,7 +5,7 @@ use std::marker::Model;
 /// A set of servers, by number from 0 to 63.
 #[derive(Clone, Debug, Drop)]
 pub struct Set64 {
-    // The bit of each server's number tells whether it is there.
+    // The bit of each server's number says whether it is in the set.
     marks: u64,
 }
 
@@ -20,14 +20,14 @@ impl Model for Set64 {
 impl Set64 {
     ghost use Rattle.server_pick.specs.Sets.{has, IsMore};
 
-    /// No server.
+    /// Makes an empty set.
     pub fn new() -> Set64
         ensures { (server : ℕ) → IsTrue (has result server) → ⊥ }
     {
         Set64 { marks: 0 }
     }
 
-    /// This server alone.
+    /// Makes the set of this server alone.
     pub fn of(server: usize) -> Set64
         requires { server < 64 }
         ensures { (other : ℕ) → IsTrue (has result other) ↔ (other ≡ server) }
@@ -37,14 +37,14 @@ impl Set64 {
         set
     }
 
-    /// Whether it has no server.
+    /// Says whether it has no server.
     pub fn is_empty(&self) -> bool
         ensures { IsTrue result ↔ ((server : ℕ) → IsTrue (has self.now server) → ⊥) }
     {
         self.marks == 0
     }
 
-    /// Whether it has a server.
+    /// Says whether it has a server.
     #[tactic(auto, using(crate::proofs::Marks::none_above))]
     pub fn contains(&self, server: usize) -> bool
         ensures { result ≡ has self.now server }
@@ -53,7 +53,7 @@ impl Set64 {
         server < 64 && (marks >> server) & 1 == 1
     }
 
-    /// One server more where it is wanted.
+    /// Adds a server where it is wanted.
     pub(crate) fn insert_if(&mut self, server: usize, wanted: bool)
         requires { server < 64 }
         ensures { IsMore server wanted self.old self.new }
@@ -63,7 +63,7 @@ impl Set64 {
         }
     }
 
-    /// One server more.
+    /// Adds a server.
     pub fn insert(&mut self, server: usize)
         requires { server < 64 }
         ensures { (other : ℕ) → IsTrue (has self.new other) ↔ (IsTrue (has self.old other) ⊎ (other ≡ server)) }

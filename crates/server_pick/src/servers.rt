@@ -9,7 +9,7 @@ ghost use Rattle.slot_ledger.specs.Ledgers.{scene_of};
 use dispatch_log::{Intake, Queue, ServerSet};
 use slot_ledger::Ledger;
 
-/// The weight of a server; 0 where no server has the number.
+/// Returns the weight of a server; 0 where no server has the number.
 pub(crate) fn weight<H: Drop>(ledger: &Ledger<H>, server: usize) -> u64
     ensures weight { result ≡ weight_of (scene_of ledger.now) server }
     ensures limit { result ≤ 256 }
@@ -20,7 +20,7 @@ pub(crate) fn weight<H: Drop>(ledger: &Ledger<H>, server: usize) -> u64
     }
 }
 
-/// How many requests a server serves and how many are in its own queue.
+/// Returns the number of requests that a server serves and that are in its own queue.
 pub(crate) fn load<H: Drop>(ledger: &Ledger<H>, server: usize) -> u64
     ensures load { result ≡ load (scene_of ledger.now) server }
     ensures limit { result ≤ 8192 }
@@ -34,7 +34,7 @@ pub(crate) fn is_usable<H: Drop>(ledger: &Ledger<H>, server: usize) -> bool
     ledger.up(server) && takes_part(ledger, server)
 }
 
-/// Whether balancing gives a server any request while it is up.
+/// Says whether balancing gives a server any requests while it is up.
 fn takes_part<H: Drop>(ledger: &Ledger<H>, server: usize) -> bool
     ensures { result ≡ of_server (scene_of ledger.now) server (λ it. nat_lt 0 it.weight) }
 {
@@ -60,7 +60,7 @@ pub(crate) fn has_room<H: Drop>(ledger: &Ledger<H>, server: usize) -> bool
     has_places(ledger, server) && is_usable(ledger, server)
 }
 
-/// Whether a server serves and queues fewer requests than balancing may give it.
+/// Says whether a server serves and queues fewer requests than balancing may give it.
 fn has_places<H: Drop>(ledger: &Ledger<H>, server: usize) -> bool
     ensures places { result ≡ of_server (scene_of ledger.now) server (λ it. holds_beside (limit_of (scene_of ledger.now) server) it.maxqueue (load (scene_of ledger.now) server)) }
     ensures few { length ledger.now.setup.servers ≤ 64 }
@@ -71,7 +71,7 @@ fn has_places<H: Drop>(ledger: &Ledger<H>, server: usize) -> bool
     }
 }
 
-/// Whether a server of a limit serves one more request beside so many.
+/// Says whether a server with this limit serves one more request beside `count`.
 fn serves_beside(limit: Intake, count: u64) -> bool
     ensures { result ≡ serves_beside limit count }
 {
@@ -81,7 +81,7 @@ fn serves_beside(limit: Intake, count: u64) -> bool
     }
 }
 
-/// Whether balancing gives a server of a limit and a maxqueue one more beside so many.
+/// Says whether balancing gives a server with this limit and maxqueue one more request beside `count`.
 fn holds_beside(limit: Intake, maxqueue: u32, count: u64) -> bool
     ensures { result ≡ holds_beside limit maxqueue count }
 {
@@ -111,7 +111,7 @@ pub(crate) fn takes_pinned<H: Drop>(ledger: &Ledger<H>, server: usize) -> bool
         && (is_free(ledger, server) || queues_pinned(ledger, server))
 }
 
-/// Whether a server's queue takes a request that is bound to it.
+/// Says whether a server's queue takes a request that is pinned to it.
 fn queues_pinned<H: Drop>(ledger: &Ledger<H>, server: usize) -> bool
     ensures { result ≡ of_server (scene_of ledger.now) server (λ it. (it.maxqueue == 0) || nat_lt (queued (Server server) (scene_of ledger.now).rows) it.maxqueue) }
 {
@@ -124,7 +124,7 @@ fn queues_pinned<H: Drop>(ledger: &Ledger<H>, server: usize) -> bool
     }
 }
 
-/// What each server may take.
+/// Returns the setup of each server.
 fn settings<H: Drop>(ledger: &Ledger<H>) -> &[ServerSet]
     ensures servers { result.now ≡ ledger.now.setup.servers }
     ensures few { length ledger.now.setup.servers ≤ 64 }

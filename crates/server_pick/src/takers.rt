@@ -17,8 +17,8 @@ use dispatch_log::Queue;
 use due_key::Key;
 use slot_ledger::Ledger;
 
-/// The server that takes next: of weight 0 first, and else the pick of those that can take. `None`
-/// only where all is settled.
+/// Returns the server that takes next: one of weight 0 first, otherwise the pick of those that can
+/// take; `None` only where all is settled.
 pub fn next_taker<H: Drop>(ledger: &Ledger<H>, cursor: &mut Cursor) -> Option<usize>
     ensures next { MatchOption result (IsSettled (scene_of ledger.now)) (IsNextTaker (scene_of ledger.now) cursor.old) }
     ensures cursor { MatchOption result (cursor.new ≡ cursor.old) (λ server. cursor.new ≡ cursor_after_granting ledger.now.setup server cursor.old) }
@@ -33,8 +33,8 @@ pub fn next_taker<H: Drop>(ledger: &Ledger<H>, cursor: &mut Cursor) -> Option<us
     pick(ledger, cursor, &takers)
 }
 
-/// The queue whose head the next taker takes: its own, or where it is usable and the key is smaller
-/// the backend's. `O(1)`.
+/// Returns the queue whose head the next taker takes: its own, or the backend's where the server is
+/// usable and the key there is smaller. `O(1)`.
 pub fn next_queue<H: Drop>(ledger: &Ledger<H>, heads: &Heads, server: usize) -> Queue
     requires heads { AreHeads heads.now server (rows_in ledger.now.slots) }
     ensures { (cursor : ℕ) → IsNextTaker (scene_of ledger.now) cursor server → IsLawfulTake (scene_of ledger.now) cursor heads.now server result }
@@ -42,7 +42,7 @@ pub fn next_queue<H: Drop>(ledger: &Ledger<H>, heads: &Heads, server: usize) -> 
     queue_of(ledger, heads, server)
 }
 
-/// The servers that can take.
+/// Returns the servers that can take.
 fn takers<H: Drop>(ledger: &Ledger<H>) -> Set64
     ensures { (server : ℕ) → IsIn result server ↔ CanTake (scene_of ledger.now) server }
 {
@@ -53,14 +53,14 @@ fn takers<H: Drop>(ledger: &Ledger<H>) -> Set64
     set
 }
 
-/// Whether a server is free and has a request to take.
+/// Says whether a server is free and has a request to take.
 fn can_take<H: Drop>(ledger: &Ledger<H>, server: usize) -> bool
     ensures { IsTrue result ↔ CanTake (scene_of ledger.now) server }
 {
     is_free(ledger, server) && has_stay(ledger, server)
 }
 
-/// Whether a request waits in a queue that a slot of the server may go to.
+/// Says whether a request waits in a queue that a slot of the server may go to.
 fn has_stay<H: Drop>(ledger: &Ledger<H>, server: usize) -> bool
     ensures { result ≡ has_stay (scene_of ledger.now) server }
 {
@@ -68,7 +68,7 @@ fn has_stay<H: Drop>(ledger: &Ledger<H>, server: usize) -> bool
         || is_usable(ledger, server) && 0 < ledger.queued(Queue::Backend)
 }
 
-/// The first server of weight 0 in a set.
+/// Returns the first server of weight 0 in a set.
 fn first_weightless<H: Drop>(ledger: &Ledger<H>, among: &Set64) -> Option<usize>
     requires { (server : ℕ) → IsIn among.now server → server < length ledger.now.setup.servers }
     ensures { IsFirstWeightless (scene_of ledger.now) (IsIn among.now) result }
@@ -81,8 +81,8 @@ fn first_weightless<H: Drop>(ledger: &Ledger<H>, among: &Set64) -> Option<usize>
     None
 }
 
-/// The queue whose head the server takes: its own, or where it is usable and the key is smaller
-/// the backend's.
+/// Returns the queue whose head the server takes: its own, or the backend's where the server is
+/// usable and the key there is smaller.
 fn queue_of<H: Drop>(ledger: &Ledger<H>, heads: &Heads, server: usize) -> Queue
     ensures { result ≡ queue_of (scene_of ledger.now) heads.now server }
 {
@@ -93,7 +93,7 @@ fn queue_of<H: Drop>(ledger: &Ledger<H>, heads: &Heads, server: usize) -> Queue
     }
 }
 
-/// Whether the head of the backend's queue goes before the head of a server's.
+/// Says whether the head of the backend's queue goes before the head of a server's.
 fn goes_first(other: Option<Key>, own: Option<Key>) -> bool
     ensures { result ≡ goes_first other own }
 {

@@ -1,4 +1,4 @@
--- What a desk is made of.
+-- The parts of a desk.
 use Rattle.std.specs.Prelude.{◌≡◌, [], length, true}
 use Rattle.dispatch_log.specs.declared.setup.Setup.{Setup}
 use Rattle.dispatch_log.specs.Histories.{first_window}
@@ -8,7 +8,7 @@ use Rattle.outstanding.specs.Books.{terms_of}
 use Rattle.service_parts.specs.declared.parts.Parts.{Parts}
 use Rattle.reporting_core.specs.Reporting.{IsNew}
 
--- the parts of a dispatcher of this setup that has done nothing, and seats of one board that have done nothing
+-- the parts of a fresh dispatcher with this setup, and fresh seats of one board
 pub record AreNew (setup : Setup) (parts : Parts) : Type 0 where
   pub core : parts.core ≡ first_window setup []
   pub running : IsNew parts.running (length setup.servers)

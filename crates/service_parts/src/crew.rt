@@ -1,4 +1,4 @@
-//! By how many threads a proxy is served: as the command line says, or as the configuration and the machine let it.
+//! The threads that serve a proxy: by the command line, or by the configuration and the machine.
 
 ghost use Rattle.std.specs.Prelude.{◌≡◌, ◌≤◌};
 
@@ -7,16 +7,18 @@ use run_sizes::{LoopSizes, MOST_LOOPS, MOST_WAITING, MOST_WORKERS, Sizes};
 use std::thread;
 use std::thread::Threads;
 
-/// What a proxy is served by, and for how many clients.
+/// The threads of a proxy, and its number of clients.
 #[derive(Clone, Copy)]
 pub struct Crew {
     pub threads: LoopSizes,
-    /// What was asked for of workers, which nothing depends on.
+    /// The number of workers that was asked for, which nothing depends on.
     pub workers: usize,
     pub requests: u64,
 }
 
-/// Where nothing else is said: as many loops as the machine has processors for it, and as many workers as requests may be at servers at a time.
+/// Returns the threads of a proxy. Where the command line says nothing, there are as many loops as
+/// the machine has processors for them, and as many workers as requests may be at servers at a
+/// time.
 pub fn crew_of(rt: &impl Threads, config: &Config, sizes: Sizes) -> Crew
     ensures places { result.threads.places ≡ sizes.places }
     ensures requests { result.requests ≡ sizes.requests }
@@ -45,7 +47,8 @@ pub fn crew_of(rt: &impl Threads, config: &Config, sizes: Sizes) -> Crew
     }
 }
 
-// So many requests may be at servers at a time: the sum of their limits, or as many as live where one has none.
+// Returns how many requests may be at servers at a time: the sum of the servers' limits, or all
+// live requests where one has none.
 fn slots_of(config: &Config, places: usize) -> usize
     ensures { result ≤ places }
 {

@@ -1,4 +1,4 @@
-//! How many descriptors the process has.
+//! The number of the process's descriptors.
 
 ghost use Rattle.std.specs.Prelude.{◌≡◌, ◌++◌, OnOk, string_bytes};
 ghost use Rattle.service_parts.specs.Gauges.{comment_text, gauge_text, value_text};
@@ -7,20 +7,21 @@ use libc::net as c;
 use libc::types::{pollfd, rlimit};
 use std::alloc::AllocError;
 
-/// The system is asked of so many numbers at once.
+/// The number of descriptors in one question to the system.
 const BLOCK: usize = 256;
 
-/// After so many blocks in a row without an open descriptor no more is asked: the system gives the lowest free number, and a limit may be a thousand million.
+/// After this number of blocks in a row without an open descriptor the count ends: the system gives
+/// the lowest free number, and the limit may be a thousand million.
 const CLOSED: u32 = 256;
 
-/// How many descriptors are open, and how many may be.
+/// The number of open descriptors, and the most that may be.
 #[derive(Clone, Copy, Debug, PartialEq, Eq)]
 pub(crate) struct Descriptors {
     pub(crate) open: u64,
     pub(crate) most: u64,
 }
 
-/// Asks the system of the numbers that descriptors have: `O(n)` in the greatest of them. None: it doesn't say how many there may be.
+/// Counts the open descriptors: `O(n)` in the greatest one. `None` where the system doesn't tell the limit.
 pub(crate) fn count_descriptors() -> Option<Descriptors> {
     let mut limit = rlimit {
         rlim_cur: 0,
@@ -48,7 +49,7 @@ pub(crate) fn count_descriptors() -> Option<Descriptors> {
     Some(Descriptors { open, most })
 }
 
-// How many of a block's first so many numbers are those of open descriptors.
+// Returns how many of the block's first `count` numbers are open descriptors.
 fn open_in(first: u64, count: u64) -> u64 {
     let mut asked = [pollfd {
         fd: -1,
@@ -69,12 +70,12 @@ fn open_in(first: u64, count: u64) -> u64 {
     open.count() as u64
 }
 
-// A number that is no descriptor's, as a negative one is, isn't open.
+// Says whether a number is an open descriptor; a negative one isn't.
 fn is_open(question: &pollfd) -> bool {
     0 <= question.fd && question.revents & c::POLLNVAL == 0
 }
 
-/// Writes how many descriptors are open, and how many may be, under the names that Prometheus' own libraries give them.
+/// Writes the number of open descriptors and the limit, under the names that Prometheus's own libraries use.
 pub(crate) fn push_descriptors(text: &mut String, told: Descriptors) -> Result<(), AllocError> {
     push_gauge(
         text,

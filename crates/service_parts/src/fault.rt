@@ -3,25 +3,25 @@ use std::net::SocketAddrV4;
 use thiserror::Error;
 use window_lines::TellFault;
 
-/// What went wrong with a good configuration.
+/// What went wrong with a sound configuration.
 #[derive(Clone, Copy, Debug, PartialEq, Eq, Error)]
 pub enum ServeFault {
-    /// Memory was refused, or a thread.
+    /// Memory or a thread was refused.
     #[error("no memory")]
     NoMemory,
-    /// The file can't be read, what comes at its address can't be taken, or the clock can't be read.
+    /// The file can't be read, clients can't be accepted, or the clock can't be read.
     #[error("read fault")]
     Read,
-    /// The address can't be listened at, for a reason that has this number of the system's.
+    /// The proxy can't listen at the address, for this error of the system.
     #[error("read fault")]
     Listen {
         address: SocketAddrV4,
         code: Option<i32>,
     },
-    /// What is printed was refused.
+    /// Printing failed.
     #[error("write fault")]
     Write,
-    /// A seat of a place didn't come back, which no path is known to do.
+    /// A seat of a place didn't come back; no path is known to that.
     #[error("a seat was lost")]
     SeatsLost,
 }

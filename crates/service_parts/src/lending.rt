@@ -2,8 +2,8 @@ use grant_board::BoardName;
 use relay_workers::Proxy;
 use socket_gate::Site;
 
-/// What lends a proxy to threads, with what its gates share. Of a type parameter it is known by a bound alone that it may be shared, so that it is shown of `Site`
-/// once.
+/// Lends threads a proxy, with the data that its gates share. Whether a type parameter may be
+/// shared is known only from a bound, so this trait shows it once, for `Site`.
 pub trait Lends<N: BoardName> {
     fn lend(&self) -> &Site<'_, N>;
 

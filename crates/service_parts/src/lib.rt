@@ -1,5 +1,5 @@
-//! What a service is made of before it serves, and what goes on beside serving: the parts of its dispatcher, where clients come, its logs and numbers, and what
-//! is printed at the end.
+//! The parts of a service before it serves, and its threads beside serving: the parts of its
+//! dispatcher, its listener, its logs and numbers, and what is printed at the end.
 #![tactic(auto)]
 
 mod crew;
@@ -26,6 +26,6 @@ pub use telling::tell_all;
 pub use watching::{announce_admin, end_watching, start_watching};
 pub use writing::{Writing, close_logs, end_writing, start_writing};
 
-// A run's options hold these, and what lends a proxy these.
+// The options of a run contain these.
 pub use request_log::Logs;
 pub use socket_gate::{Front, Site};

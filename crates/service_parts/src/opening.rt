@@ -1,4 +1,4 @@
-//! Where clients come.
+//! The listener of a proxy.
 
 use crate::crew::Crew;
 use crate::fault::ServeFault;
@@ -11,33 +11,34 @@ use request_log::Logs;
 use std::net::{Ipv4Addr, Net, SocketAddrV4, TcpListener, TcpStream};
 use std::os::fd::AsRawFd;
 
-/// What is asked of a proxy beside its configuration.
+/// The options of a proxy beside its configuration.
 #[derive(Drop)]
 pub struct RunOptions {
-    /// How long a client may stay between two requests, in milliseconds. None: it has one.
+    /// The longest pause of a client between two requests, in milliseconds. `None`: a client's
+    /// connection has one request.
     pub keeping: Option<u64>,
-    /// How many unused connections of a server stay open at most. None: a server's connection is for one request.
+    /// The most unused connections of a server that stay open. `None`: a server's connection has one request.
     pub reusing: Option<u64>,
-    /// After so many milliseconds a window ends. None: once the log is full.
+    /// The length of a window in milliseconds. `None`: a window ends once the log is full.
     pub window: Option<u64>,
-    /// Whether servers are told whose requests they get.
+    /// Servers are told the client's address.
     pub forwarded_for: bool,
-    /// What it is steered by while it serves.
+    /// The means by which it is steered while it serves.
     pub controls: Option<Controls>,
-    /// Which logs are written.
+    /// The logs that are written.
     pub logs: Logs,
-    /// Where it is asked how it goes. What is asked for is counted only then.
+    /// The admin listener. Its numbers are counted only where there is one.
     pub admin: Option<Admin>,
 }
 
-/// Where clients come, and what is asked besides.
+/// The listener, and the options.
 #[derive(Drop)]
 pub struct Doors {
     pub listener: TcpListener,
     pub options: RunOptions,
 }
 
-/// So many clients may wait to be accepted, where the system allows it.
+/// The most connections that wait to be accepted, where the system allows that.
 const BACKLOG: i32 = 4096;
 
 /// Listens at the address of a configuration.
@@ -63,7 +64,7 @@ pub fn open<R: Net<Listener = TcpListener, Stream = TcpStream>>(
     Ok(listener)
 }
 
-/// Says on standard error that it listens, and where it can't be that a request waits.
+/// Prints to standard error that it listens, and where no request can ever wait also that.
 pub fn announce<R: Eprint>(
     rt: &R,
     listener: &TcpListener,

@@ -13,18 +13,18 @@ use proxy_config::Config;
 use std::alloc::{AllocError, Global};
 use std::sync::ledger::Blank;
 
-/// What a desk is made of, and the seat of its relays.
+/// The parts of a desk, and the seat of its relays.
 pub struct Parts {
     pub core: Core<Queues>,
     pub running: Running,
     pub board: Board,
     pub keeper: KeeperSeat,
     pub relay: RelaySeat,
-    /// What is accounted of its seats on.
+    /// The blank on which its seats are accounted for.
     pub ledger: Blank,
 }
 
-/// Those of a configuration, for so many live requests.
+/// Makes the parts for a configuration, with this number of live requests.
 pub fn parts_of(alloc: Global, config: &Config, places: usize) -> Result<Parts, AllocError>
     requires config { IsSoundConfig config.now }
     requires places { (0 < places) × (places ≤ 4096) }

@@ -1,4 +1,4 @@
-//! What is told of a configuration before it is served.
+//! What is known of a configuration before it is served.
 
 ghost use Rattle.std.specs.Prelude.{◌↔◌, IsTrue};
 ghost use Rattle.service_parts.specs.Queues.{NeverQueues};
@@ -8,10 +8,10 @@ use script::Names;
 use std::alloc::{AllocError, Global};
 use std::str;
 
-/// The entries of a window's log.
+/// The room of a window's log, in entries.
 pub(crate) const LOG: usize = 262_144;
 
-/// The names of its servers, in file order.
+/// Returns the names of its servers, in file order.
 pub(crate) fn names_of(alloc: Global, config: &Config) -> Result<Names, AllocError> {
     let servers = config.servers.as_slice();
     let mut names = Vec::new(alloc);
@@ -22,7 +22,7 @@ pub(crate) fn names_of(alloc: Global, config: &Config) -> Result<Names, AllocErr
     Ok(Names::new(names))
 }
 
-/// Whether no request can ever have to wait for a slot: no server has a limit.
+/// Says whether no request can ever have to wait for a slot: no server has a limit.
 pub(crate) fn never_queues(config: &Config) -> bool
     ensures { IsTrue result ↔ NeverQueues config.now }
 {

@@ -6,7 +6,8 @@ use std::mem;
 use std::sync::atomic::{AtomicBool, Ordering};
 use std::sync::{Mutex, Wait};
 
-/// The entries of a proxy's log that were copied and not taken yet: the proxy adds them while it serves, and who looks on takes them.
+/// The copied entries of a proxy's log that nobody has taken yet: the proxy adds them while it
+/// serves, and the observer takes them.
 #[derive(Drop)]
 pub struct Record {
     alloc: Global,
@@ -16,7 +17,7 @@ pub struct Record {
 }
 
 impl Record {
-    /// Of a proxy that decided nothing so far.
+    /// Makes an empty record.
     pub fn new(alloc: Global) -> Record {
         Record {
             alloc,
@@ -26,13 +27,13 @@ impl Record {
         }
     }
 
-    /// The entries that were added since it was last asked, in order.
+    /// Takes the entries that were added since the last call, in order.
     pub fn take<R: Wait>(&self, rt: &R) -> Vec<Entry> {
         let mut entries = self.entries.lock(rt);
         mem::replace(&mut *entries, Vec::new(self.alloc))
     }
 
-    /// Whether no more come than are there now.
+    /// Says whether no more entries will come.
     pub fn is_over(&self) -> bool {
         self.over.load(Ordering::SeqCst)
     }
@@ -46,12 +47,12 @@ impl Record {
         self.closed.load(Ordering::SeqCst)
     }
 
-    /// Notes that no more come.
+    /// Notes that no more entries will come.
     pub fn end(&self) {
         self.over.store(true, Ordering::SeqCst);
     }
 
-    /// Adds all of these, or none where memory is refused; answers how many it added.
+    /// Adds all of these entries, or none where memory is refused; returns how many it added.
     pub fn add<R: Wait>(&self, rt: &R, later: &[Entry]) -> usize
         ensures { (result ≡ length later.now) ⊎ (result ≡ 0) }
     {

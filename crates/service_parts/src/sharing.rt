@@ -20,7 +20,7 @@ use std::sync::Arc;
 use std::time::{Clock, Instant};
 use window_printer::WindowPrinter;
 
-/// What goes on beside serving, which waits for none of it.
+/// The parts beside serving; no loop waits for them.
 #[derive(Drop)]
 pub struct Beside {
     pub windows: WindowPrinter,
@@ -32,11 +32,11 @@ pub struct Beside {
     pub forwarded_for: bool,
     pub log: Option<RequestLog>,
     pub admin: Option<Admin>,
-    /// Moments are milliseconds since then.
+    /// Moments are milliseconds since this one.
     pub start: Instant,
 }
 
-/// That of a configuration, for so many loops and places, before any of it goes on.
+/// Makes them for a configuration, with this number of loops and places.
 pub fn beside_of<R: Clock + AllocGlobal>(
     rt: &R,
     config: &Config,
@@ -86,7 +86,7 @@ pub fn beside_of<R: Clock + AllocGlobal>(
     })
 }
 
-// What is counted of a proxy to which nothing happened.
+// Makes the counters of a fresh proxy.
 fn numbers_of(alloc: Global, config: &Config, places: usize) -> Result<ProxyNumbers, AllocError> {
     let mut limits = Vec::with_capacity(alloc, config.servers.len())?;
     for server in config.servers.as_slice() {
@@ -99,7 +99,7 @@ fn numbers_of(alloc: Global, config: &Config, places: usize) -> Result<ProxyNumb
     ProxyNumbers::new(alloc, limits.as_slice(), proportions)
 }
 
-// Where the lines of windows go together with those of the access log.
+// Returns the sink that the lines of windows share with those of the access log.
 fn sink_of(logs: &Logs) -> Result<Option<Arc<Sink>>, AllocError> {
     match &logs.access {
         Some(access) if access.has_windows => Ok(Some(Arc::try_clone(&access.sink)?)),
@@ -107,7 +107,7 @@ fn sink_of(logs: &Logs) -> Result<Option<Arc<Sink>>, AllocError> {
     }
 }
 
-/// What the gates share, from now on.
+/// Makes the data that the gates share.
 pub fn front_of<'a>(
     alloc: Global,
     config: &'a Config,

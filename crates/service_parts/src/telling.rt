@@ -30,7 +30,8 @@ pub fn tell_all<R: Print + Wait, N: BoardName + Ledger>(
     }
 }
 
-// Where lines of requests go to standard output too, one writer has all of it, so that no line is torn. False: there was no room, or it was refused.
+// Where the access log goes to standard output too, one writer writes all of it, so that no line is
+// torn. False where there was no room, or printing failed.
 fn has_printed<R: Print + Wait>(rt: &R, sink: Option<&Arc<Sink>>, text: &str) -> bool {
     match sink {
         Some(sink) => sink.add(rt, text, lines_of(text)),

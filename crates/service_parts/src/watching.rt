@@ -1,4 +1,4 @@
-//! The thread that answers how a proxy goes.
+//! The thread that answers at the admin address.
 
 use crate::descriptors::{count_descriptors, push_descriptors};
 use crate::writing::Writing;
@@ -61,14 +61,14 @@ impl<'a, R: Clock + Wait> Told for Looking<'a, R> {
     }
 }
 
-/// Says on standard error where it is asked how it goes, where it is.
+/// Prints the admin address to standard error, where there is one.
 pub fn announce_admin<R: Eprint>(rt: &R, front: &Front<'_>) {
     if let Some(address) = front.admin.and_then(|admin| admin.address()) {
         let _ = eprintln!(rt; "admin at http://{address}/");
     }
 }
 
-/// Has a thread of the scope answer, where that is wanted.
+/// Starts a thread of the scope that answers, where that is wanted.
 pub fn start_watching<'s, E, R: Clock + Threads + Wait + Sync>(
     scope: &Scope<'s, E>,
     rt: &'s R,
@@ -84,14 +84,14 @@ pub fn start_watching<'s, E, R: Clock + Threads + Wait + Sync>(
     }
 }
 
-// Where there is no memory for it, nobody is answered, and the proxy serves on.
+// Answers all questions. Where there is no memory for it, none are answered, and the proxy serves on.
 fn answer_all<R: Clock + Wait>(rt: &R, front: &Front<'_>, admin: &Admin, log: &RequestLog) {
     let looking = Looking { rt, front, log };
     let mut pages = Pages::new(front.alloc, looking);
     let _ = attend(rt, admin, &mut pages);
 }
 
-/// Nobody is answered any more.
+/// Ends the answers.
 pub fn end_watching<R: Threads + Wait>(rt: &R, front: &Front<'_>, watching: Writing) {
     if let Some(admin) = front.admin {
         admin.end();

@@ -9,23 +9,23 @@ use std::sync::ledger::Ledger;
 use std::thread::{JoinHandle, Scope, Threads};
 use std::time::Clock;
 
-/// What became of the start of a thread beside serving.
+/// The result of starting a thread beside serving.
 pub enum Writing {
     /// It isn't wanted.
     Nothing,
     Runs(JoinHandle<()>),
-    /// No thread is to be had.
+    /// The thread was refused.
     Failed,
 }
 
 impl Writing {
-    /// Whether it was wanted and isn't there.
+    /// Says whether it was wanted and couldn't be started.
     pub fn has_failed(&self) -> bool {
         matches!(self, Writing::Failed)
     }
 }
 
-/// Has a thread of the scope write the logs, where they are wanted.
+/// Starts a thread of the scope that writes the logs, where they are wanted.
 pub fn start_writing<
     's,
     E,
@@ -52,7 +52,7 @@ pub fn start_writing<
     }
 }
 
-/// No more happens: the thread writes what is left, and ends.
+/// Ends the thread, after it has written what is left.
 pub fn end_writing<R: Threads + Wait>(rt: &R, front: &Front<'_>, writing: Writing) {
     if let Some(log) = front.log {
         log.end();
@@ -63,7 +63,7 @@ pub fn end_writing<R: Threads + Wait>(rt: &R, front: &Front<'_>, writing: Writin
     }
 }
 
-/// Waits for the files for a while. What isn't written then is said on standard error.
+/// Waits for the files for a while. Prints to standard error what isn't written then.
 pub fn close_logs<R: Eprint + Wait + Clock>(rt: &R, log: Option<&RequestLog>) {
     let Some(log) = log else {
         return;

@@ -1,4 +1,4 @@
-//! A server that sends back what it gets, while it gets it.
+//! Tests of a server that sends back what it gets, while it gets it.
 
 use crate::peers::Step;
 use crate::runs::serve_text;
@@ -12,7 +12,7 @@ use std::thread;
 use std::thread::Threads;
 use std::time::Clock;
 
-/// More than all sockets on the way have room for: 24 MiB.
+/// More bytes than all sockets on the way have room for: 24 MiB.
 const BYTES: usize = 25_165_824;
 
 const PIECE: usize = 65_536;
@@ -27,7 +27,7 @@ const STEPS: &[Step] = &[
     Step::Echoes(0, BYTES),
 ];
 
-// Sends the request, and all of its body.
+// Sends the request, with all of its body.
 fn pour(alloc: Global, mut client: TcpStream) -> Option<()> {
     let piece = vec![in alloc; b'a'; PIECE].ok()?;
     client.write_all(SAYS).ok()?;
@@ -37,7 +37,7 @@ fn pour(alloc: Global, mut client: TcpStream) -> Option<()> {
     Some(())
 }
 
-// How many bytes come, to the end.
+// Returns how many bytes come, to the end.
 fn drain(alloc: Global, mut client: TcpStream) -> Option<usize> {
     let mut piece = vec![in alloc; 0u8; PIECE].ok()?;
     let mut came = 0usize;

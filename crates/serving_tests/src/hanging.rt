@@ -9,7 +9,7 @@ use std::thread::Threads;
 use std::time::{Clock, Duration};
 use std::{io, thread};
 
-/// The one below, but that a look-up of a name takes ten minutes.
+/// A runtime like the one below, except that a look-up of a name takes ten minutes.
 #[derive(Clone, Copy)]
 pub(crate) struct Hanging<R> {
     rt: R,

@@ -1,4 +1,5 @@
-//! Tests of what `run` does: a crate of their own, so that what they test isn't proved once more with them.
+//! Tests of `run`. They are a crate of their own, so that the crates under test aren't proved a
+//! second time with them.
 #![tactic(auto)]
 
 #[cfg(test)]

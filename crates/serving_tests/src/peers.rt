@@ -1,4 +1,4 @@
-//! Clients before a proxy and a server behind it, of which one does one thing after the other.
+//! Clients before a proxy and a server behind it, which make one step after the other.
 
 use std::alloc::Global;
 use std::io::{ErrorKind, Read, Write};
@@ -6,50 +6,51 @@ use std::net::{Net, Shutdown, SocketAddr, TcpListener, TcpStream};
 use std::thread;
 use std::time::{Clock, Duration};
 
-/// So many milliseconds are waited for what has to come.
+/// The longest wait for something that has to come, in milliseconds.
 const PATIENCE: u64 = 20_000;
 
-/// So many for what is there, but for the time that it takes to get here.
+/// The longest wait for something that is already there, in milliseconds.
 const ALREADY: u64 = 100;
 
 const MOST_PIECES: usize = 1 << 20;
 
-/// What a client or the server does. Both are numbered in the order in which they came.
+/// A step of a client or of the server. Both clients and the server's connections are numbered in
+/// the order in which they came.
 #[derive(Clone, Copy, Debug)]
 pub(crate) enum Step {
-    /// A client comes and says this.
+    /// A client connects and sends this.
     Comes(&'static [u8]),
-    /// It says more.
+    /// It sends more.
     Says(usize, &'static [u8]),
-    /// It says this in pieces of two bytes.
+    /// It sends this in pieces of two bytes.
     SaysInPairs(usize, &'static [u8]),
-    /// What it gets next is this.
+    /// The next bytes that it gets are these.
     Gets(usize, &'static [u8]),
-    /// And then the end.
+    /// The same, and then the end.
     Ends(usize, &'static [u8]),
-    /// The same, and it is there by now.
+    /// The same, and it has come already.
     EndsAlready(usize, &'static [u8]),
-    /// Nothing came for it since.
+    /// Nothing has come for it since.
     IsSilent(usize),
-    /// It says that it sends no more.
+    /// It sends no more, and says so.
     Finishes(usize),
-    /// It goes: by a reset, where something came that it didn't read.
+    /// It closes its connection: by a reset, where bytes came that it hasn't read.
     Goes(usize),
-    /// The server takes a connection, of which a request's head comes that begins so.
+    /// The server accepts a connection, with a request's head that begins so.
     Takes(&'static [u8]),
-    /// What comes next of it is this.
+    /// The next bytes from it are these.
     Hears(usize, &'static [u8]),
-    /// The server answers so.
+    /// The server answers with this.
     Answers(usize, &'static [u8]),
-    /// It sends back what it gets, so many bytes.
+    /// It sends back this number of bytes that it gets.
     Echoes(usize, usize),
-    /// It ends the connection.
+    /// It closes the connection.
     Leaves(usize),
-    /// Some time goes by, in milliseconds.
+    /// This number of milliseconds pass.
     Passes(u64),
 }
 
-/// All of them, as far as they are there.
+/// All clients and server's connections that are there.
 #[derive(Drop)]
 pub(crate) struct Peers<'a> {
     alloc: Global,
@@ -60,7 +61,7 @@ pub(crate) struct Peers<'a> {
 }
 
 impl<'a> Peers<'a> {
-    /// Nobody is there yet.
+    /// Makes an empty set of peers.
     pub(crate) fn new(alloc: Global, proxy: SocketAddr, listener: &'a TcpListener) -> Peers<'a> {
         Peers {
             alloc,
@@ -71,7 +72,7 @@ impl<'a> Peers<'a> {
         }
     }
 
-    /// Does a step. None: it didn't come out so.
+    /// Makes a step. `None` where it failed.
     pub(crate) fn step<R: Net<Stream = TcpStream> + Clock>(
         &mut self,
         rt: &R,
@@ -107,7 +108,7 @@ impl<'a> Peers<'a> {
         }
     }
 
-    // A client comes and says this.
+    // A client connects and sends this.
     fn come<R: Net<Stream = TcpStream>>(&mut self, rt: &R, text: &[u8]) -> Option<()> {
         let mut client = patient(TcpStream::connect(rt, self.proxy).ok()?)?;
         client.write_all(text).ok()?;
@@ -124,7 +125,7 @@ impl<'a> Peers<'a> {
         Some(())
     }
 
-    // Takes a connection, and reads a head of it that begins so.
+    // Accepts a connection, and reads a head that begins so.
     fn take<R: Clock>(&mut self, rt: &R, text: &[u8]) -> Option<()> {
         let mut server = patient(accepted(rt, self.listener)?)?;
         let head = head_of(self.alloc, &mut server)?;
@@ -133,12 +134,12 @@ impl<'a> Peers<'a> {
     }
 }
 
-// The peer of this number.
+// Returns the peer with this number.
 fn of(peers: &mut Vec<Option<TcpStream>>, number: usize) -> Option<&mut TcpStream> {
     peers.get_mut(number)?.as_mut()
 }
 
-// A connection whose reads and writes fail where they take too long.
+// Makes the reads and writes of a connection fail where they take too long.
 fn patient(stream: TcpStream) -> Option<TcpStream> {
     stream.set_nodelay(true).ok()?;
     let patience = Some(Duration::from_millis(PATIENCE));
@@ -147,7 +148,7 @@ fn patient(stream: TcpStream) -> Option<TcpStream> {
     Some(stream)
 }
 
-// The next connection at a listener that doesn't wait, within some time.
+// Returns the next connection of a non-blocking listener, within some time.
 fn accepted<R: Clock>(rt: &R, listener: &TcpListener) -> Option<TcpStream> {
     for _ in 0..PATIENCE {
         if let Ok((stream, _)) = listener.accept() {
@@ -158,7 +159,7 @@ fn accepted<R: Clock>(rt: &R, listener: &TcpListener) -> Option<TcpStream> {
     None
 }
 
-// A head, to its empty line.
+// Reads a head, to its empty line.
 fn head_of(alloc: Global, stream: &mut TcpStream) -> Option<Vec<u8>> {
     let mut head = Vec::new(alloc);
     let mut byte = [0u8; 1];
@@ -203,7 +204,7 @@ fn ends(alloc: Global, stream: &mut TcpStream, expected: &[u8]) -> Option<()> {
     (got.as_slice() == expected).then_some(())
 }
 
-// Sends back what comes, until it was so much.
+// Sends back what comes, until this number of bytes were sent.
 fn echo(alloc: Global, stream: &mut TcpStream, count: usize) -> Option<()> {
     let mut buffer = vec![in alloc; 0u8; 65536].ok()?;
     let mut left = count;

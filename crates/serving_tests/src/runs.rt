@@ -19,25 +19,25 @@ const ANSWER: &[u8] = b"HTTP/1.1 200 OK\r\nContent-Length: 2\r\nConnection: clos
 #[derive(Drop)]
 struct Row {
     settings: &'static str,
-    // Where the server is.
+    // The server's host.
     host: &'static str,
     clients: u32,
-    // What each client says, and what it gets.
+    // The bytes that each client sends, and those that it gets.
     says: &'static [u8],
     gets: &'static [u8],
-    // The server answers this so often.
+    // The server sends this answer this number of times.
     answer: &'static [u8],
     answers: u32,
     order: Order,
     places: u32,
 }
 
-// When a server answers.
+// The order in which a server answers.
 #[derive(Clone, Copy)]
 enum Order {
-    // Once as many clients as it answers are there, the last one first.
+    // Once as many clients are there as it answers, the last one first.
     Together,
-    // Each client before the next comes.
+    // Each client before the next one comes.
     InTurn,
 }
 
@@ -45,11 +45,11 @@ const NUMBERS: &str = "127.0.0.1";
 
 const WHOLE: &[u8] = b"HTTP/1.1 200 OK\r\nContent-Length: 2\r\n\r\nhi";
 
-// Then it waits until the proxy ends the connection.
+// Then it waits until the proxy closes the connection.
 fn answer(mut client: TcpStream, text: &[u8]) -> bool {
     let mut head = [0u8; 1024];
     let is_answered = client.read(&mut head).is_ok() && client.write_all(text).is_ok();
-    // Amid a message the end is a reset.
+    // Amid a message the close is a reset.
     let _ = client.read(&mut head);
     is_answered
 }
@@ -99,7 +99,7 @@ fn come<R: Abort + Net<Stream = TcpStream>>(
     clients
 }
 
-// How long a client may stay, how many unused connections a server may have, and how many loops there are.
+// How long a client may stay, the most unused connections of a server, and the number of loops.
 #[derive(Clone, Copy)]
 pub(crate) struct Keeping {
     pub(crate) clients: Option<u64>,
@@ -107,14 +107,14 @@ pub(crate) struct Keeping {
     pub(crate) loops: u32,
 }
 
-// Each connection is for one request.
+// Each connection has one request.
 pub(crate) const ONCE: Keeping = Keeping {
     clients: None,
     servers: None,
     loops: 2,
 };
 
-// Serves as a text says.
+// Serves as a configuration text says.
 pub(crate) fn serve_text<
     R: Net<Listener = TcpListener, Stream = TcpStream>
         + Clock
@@ -131,7 +131,7 @@ pub(crate) fn serve_text<
     serve_keeping(rt, text, listener, (clients, places), ONCE)
 }
 
-// Serves so many clients at so many places, whose connections are kept so long.
+// Serves this number of clients at this number of places, with these rules for connections.
 pub(crate) fn serve_keeping<
     R: Net<Listener = TcpListener, Stream = TcpStream>
         + Clock
@@ -171,7 +171,7 @@ pub(crate) fn serve_keeping<
     }
 }
 
-// Whether both ended well.
+// Says whether both ended well.
 fn serve_between<
     R: Net<Listener = TcpListener, Stream = TcpStream>
         + Clock
@@ -241,7 +241,7 @@ fn port_of(rt: &impl Abort, listener: &TcpListener) -> u16 {
     listener.local_addr().expect(rt, "an address").port()
 }
 
-// The client gets this, and then the end.
+// Checks that the client gets this, and then the end.
 fn gets(rt: &impl Abort, alloc: Global, client: &mut TcpStream, expected: &[u8]) {
     let mut got = Vec::new(alloc);
     client.read_to_end(&mut got).expect(rt, "an end");

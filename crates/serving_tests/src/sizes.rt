@@ -1,6 +1,6 @@
 use run_sizes::Sizes;
 
-/// A name, so many workers, loops, places and clients, and whether there can be so many.
+/// A name, the numbers of workers, loops, places and clients, and whether they are within the limits.
 type Row = (&'static str, Option<u32>, Option<u32>, u32, u32, bool);
 
 static ROWS: [Row; 10] = [

@@ -1,4 +1,4 @@
-//! Connections that stay open: a client that asks again, and a server that is asked again.
+//! Tests of connections that stay open: a client that asks again, and a server that is asked again.
 
 use crate::peers::Step;
 use crate::runs::Keeping;
@@ -20,14 +20,14 @@ const HI: &[u8] = b"HTTP/1.1 200 OK\r\nContent-Length: 2\r\n\r\nhi";
 
 const HI_TOLD: &[u8] = b"HTTP/1.1 200 OK\r\nContent-Length: 2\r\nConnection: close\r\n\r\nhi";
 
-// A request with a body that looks like another.
+// A request with a body that looks like another request.
 const WITH_BODY: &[u8] = b"GET / HTTP/1.1\r\nHost: h\r\nContent-Length: 15\r\n\r\nGET /evil HTTP/";
 
-// Two answers, of which one was asked for.
+// Two answers, of which only one was asked for.
 const TWICE: &[u8] =
     b"HTTP/1.1 200 OK\r\nContent-Length: 2\r\n\r\nhiHTTP/1.1 200 OK\r\nContent-Length: 2\r\n\r\nno";
 
-// One loop, whose servers have two unused connections at most.
+// One loop, with at most two unused connections of each server.
 const SERVERS: Keeping = Keeping {
     clients: None,
     servers: Some(2),

@@ -1,4 +1,4 @@
-//! What goes on between clients, a proxy and a server, one thing after the other.
+//! Stories of clients, a proxy and a server, one step after the other.
 
 use crate::hanging::Hanging;
 use crate::peers::{Peers, Step};
@@ -27,7 +27,7 @@ const HI: &[u8] = b"HTTP/1.1 200 OK\r\nContent-Length: 2\r\n\r\nhi";
 
 const HI_TOLD: &[u8] = b"HTTP/1.1 200 OK\r\nContent-Length: 2\r\nConnection: close\r\n\r\nhi";
 
-// An answer of 100 bytes, of which one is there.
+// An answer of 100 bytes, of which one has come.
 const STREAM: &[u8] = b"HTTP/1.1 200 OK\r\nContent-Length: 100\r\n\r\na";
 
 const STREAM_TOLD: &[u8] = b"HTTP/1.1 200 OK\r\nContent-Length: 100\r\nConnection: close\r\n\r\na";
@@ -51,7 +51,8 @@ pub(crate) struct Story {
     pub(crate) steps: &'static [Step],
 }
 
-// Does one step after the other. None where each came out; else the number of the one that didn't, and the clients that are missing then come and go.
+// Makes one step after the other. Returns `None` where each succeeded; otherwise the number of the
+// one that failed, and the missing clients then connect and leave.
 pub(crate) fn tell<R: Net<Stream = TcpStream> + Clock>(
     rt: &R,
     alloc: Global,
@@ -108,7 +109,7 @@ fn play<
     play_keeping(rt, story, ONCE);
 }
 
-// The same where connections are kept.
+// The same where connections are kept open.
 pub(crate) fn play_keeping<
     R: Net<Listener = TcpListener, Stream = TcpStream>
         + Clock

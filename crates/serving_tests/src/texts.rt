@@ -1,4 +1,4 @@
-//! What is printed of faults of `run`.
+//! Tests of the texts of `run`'s faults.
 
 use proxy_config::{ConfigFault, FaultCause};
 use proxy_run::{RunFault, ServeFault};
@@ -32,7 +32,7 @@ static OF_RUNS: [(RunFault, &str); 3] = [
     (RunFault::Serve(ServeFault::Read), "read fault"),
 ];
 
-// Each has its text.
+// Checks the text of each.
 fn say<T: Display>(rt: &impl Abort, alloc: Global, rows: &[(T, &str)]) {
     for (it, text) in rows {
         let said = it.to_string(alloc).expect(rt, "memory");

@@ -10,14 +10,14 @@ use Rattle.slot_ledger.specs.declared.places.Slot.{Slot}
 use Rattle.slot_ledger.specs.Counts.{Counted, AreCounts}
 use Rattle.slot_ledger.specs.Slots.{rows_in}
 
--- what a ledger was made for, which servers are up, what each may serve at present, and the live requests by place
+-- a ledger's setup, which servers are up, the present limit of each, and the live requests by place
 pub record Kept (H : Type 0) : Type 0 where
   pub setup : Setup
   pub ups : List Bool
   pub limits : List Allowance
   pub slots : List (Option (Slot H))
 
--- what a decision looks at
+-- the part of a ledger that a decision depends on
 abbrev pub scene_of : {H : Type 0} → Kept H → Scene
 scene_of kept = record { servers = kept.setup.servers; limits = kept.limits; ups = kept.ups; rows = rows_in kept.slots }
 
@@ -29,11 +29,11 @@ with_slots kept slots = record kept { slots = slots }
 abbrev pub with_up : {H : Type 0} → Kept H → ℕ → Bool → Kept H
 with_up kept server up = record kept { ups = slice_set kept.ups server up }
 
--- the same ledger with a server's limit set, and what it serves noted
+-- the same ledger with a server's limit set, and with what it serves noted
 abbrev pub with_limit : {H : Type 0} → Kept H → ℕ → Intake → Kept H
 with_limit kept server limit = record kept { limits = slice_set kept.limits server (record { limit = limit; served = served server (rows_in kept.slots) }) }
 
--- a ledger is of a sound setup, has its places, and counts its rows
+-- a ledger is of a sound setup, has the setup's places, and its counts agree with its rows
 pub record IsLedger {H : Type 0} (setup : Setup) (slots : List (Option (Slot H))) (counts : Counted) : Type 0 where
   pub sound : IsSound setup
   pub places : length slots ≡ setup.places
@@ -41,7 +41,7 @@ pub record IsLedger {H : Type 0} (setup : Setup) (slots : List (Option (Slot H))
   pub served : length counts.served ≡ length setup.servers
   pub own : length counts.own ≡ length setup.servers
 
--- and tells of each server whether it is up, and what it may serve
+-- and it has for each server whether it is up, and its present limit
 pub record IsLedgerWith {H : Type 0} (setup : Setup) (ups : List Bool) (limits : List Allowance) (slots : List (Option (Slot H)))
     (counts : Counted) : Type 0 where
   pub ledger : IsLedger setup slots counts

@@ -1,11 +1,11 @@
--- How a ledger keeps its places.
+-- The places of a ledger.
 use Rattle.std.specs.Prelude.{◌≡◌, ℕ, ◌+◌, ◌≤◌, List, Option, None, Some, length, count_by, is_some, slice_get, Contains}
 use Rattle.slot_ledger.specs.declared.places.Slot.{Slot}
 use Rattle.slot_ledger.specs.Slots.{StandsIn, HasTicketAt}
 use Rattle.slot_ledger.specs.Tickets.{Indexed}
 
--- the free places are the places without a request, each once; the index has the ticket of
--- each request with its place, and no ticket has two
+-- the free places are the places without a request, each once; the index has the ticket of each
+-- request with its place, and no two requests have the same ticket
 pub record IsKept {H : Type 0} (slots : List (Option (Slot H))) (vacant : List ℕ) (capacity : ℕ) (index : Indexed) : Type 0 where
   pub free : (at place : ℕ) → slice_get vacant at ≡ Some place → slice_get slots place ≡ Some None
   pub once : (at other place : ℕ) → slice_get vacant at ≡ Some place → slice_get vacant other ≡ Some place → at ≡ other

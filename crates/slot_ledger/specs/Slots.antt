@@ -23,7 +23,7 @@ module _ {H : Type 0} where
   abbrev pub HasNode : List (Option (Slot H)) → ℕ → Type 0
   HasNode slots place = (slot : Slot H) × (node : H) × StandsIn slots place slot × (slot.node ≡ Some node)
 
-  -- some request stands at a place whose failures are far from all that can be counted
+  -- the request at a place has failed less often than can be counted
   abbrev pub HasCountable : List (Option (Slot H)) → ℕ → Type 0
   HasCountable slots place = (slot : Slot H) × StandsIn slots place slot × (slot.row.failures + 1 < 2 ^ 32)
 
@@ -47,18 +47,18 @@ module _ {H : Type 0} where
   abbrev pub with_phase : Phase → List (Option (Slot H)) → ℕ → List (Option (Slot H))
   with_phase phase = with_slot (λ slot. record { row = record slot.row { phase = phase }; node = slot.node })
 
-  -- one connection more failed for the request at a place
+  -- one more connection failed for the request at a place
   abbrev pub with_failure : List (Option (Slot H)) → ℕ → List (Option (Slot H))
   with_failure = with_slot (λ slot. record { row = record slot.row { failures = slot.row.failures + 1 }; node = slot.node })
 
-  -- no server is the own one of the request at a place
+  -- the request at a place has no pin
   abbrev pub unpinned : List (Option (Slot H)) → ℕ → List (Option (Slot H))
   unpinned = with_slot (λ slot. record { row = record slot.row { pin = None }; node = slot.node })
 
-  -- the request at a place waits, and its node is out
+  -- the request at a place waits, and its node is handed out
   abbrev pub waiting : Queue → ℕ → List (Option (Slot H)) → ℕ → List (Option (Slot H))
   waiting queue since = with_slot (λ slot. record { row = record slot.row { phase = Waiting queue since }; node = None })
 
-  -- the request at a place is in no place, and has its node
+  -- the request at a place has no phase, and has its node
   abbrev pub loosened : H → List (Option (Slot H)) → ℕ → List (Option (Slot H))
   loosened node = with_slot (λ slot. record { row = record slot.row { phase = Loose }; node = Some node })

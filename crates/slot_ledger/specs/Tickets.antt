@@ -1,10 +1,10 @@
--- The index of tickets, as a list of entries of which some have lost their place.
+-- The index of tickets, as a list of entries of which some have lost their places.
 use Rattle.std.specs.Prelude.{◌≡◌, ◌≢◌, ◌⊎◌, ℕ, ◌+◌, ◌-◌, ◌<◌, ◌≤◌, ◌++◌, ◌∷◌, []}
 use Rattle.std.specs.Prelude.{Bool, List, Option, Some, All, option_map, is_some, length, take, drop, slice_get}
 use Rattle.std.specs.List.{filter_map}
 use Rattle.slot_ledger.specs.declared.tickets.TicketPlace.{TicketPlace}
 
--- tickets with their places, by rising ticket, and for how many there is room
+-- tickets with their places, by rising ticket, and the most that there is room for
 pub record Indexed : Type 0 where
   pub pairs : List (ℕ × ℕ)
   pub room : ℕ
@@ -13,7 +13,7 @@ pub record Indexed : Type 0 where
 abbrev pub IsAbsent : ℕ → List (ℕ × ℕ) → Type 0
 IsAbsent ticket pairs = All (λ pair. pair.0 ≢ ticket) pairs
 
--- the pair of the ticket goes, and no other
+-- the pair of the ticket is removed, and no other
 pub record Removes (ticket : ℕ) (old new : List (ℕ × ℕ)) : Type 0 where
   pub front : List (ℕ × ℕ)
   pub back : List (ℕ × ℕ)
@@ -22,10 +22,11 @@ pub record Removes (ticket : ℕ) (old new : List (ℕ × ℕ)) : Type 0 where
   pub after : new ≡ front ++ back
   pub gone : IsAbsent ticket new
 
--- the pairs of the entries that have a place
+-- the ticket and the place of an entry that has one
 abbrev pub pair_of : TicketPlace → Option (ℕ × ℕ)
 pair_of entry = option_map (λ place. (entry.ticket, place)) entry.place
 
+-- the tickets and places of those entries that have one
 abbrev pub pairs_in : List TicketPlace → List (ℕ × ℕ)
 pairs_in entries = filter_map pair_of entries
 
@@ -40,31 +41,36 @@ abbrev pub IsRising : List TicketPlace → Type 0
 IsRising [] = Unit {0}
 IsRising (entry ∷ entries) = IsBelowAll entry entries × IsRising entries
 
--- the entries that count: those from `kept` up to `next` don't
+-- the entries that count stand in two stretches: the first so many, and those from the next place on; what lies between
+-- is left over
 abbrev pub stretches : ℕ → ℕ → List TicketPlace → List TicketPlace
 stretches kept next entries = take kept entries ++ drop next entries
 
+-- the second stretch begins no earlier than the first one ends, and no later than the list does
 pub record IsWithin (kept next : ℕ) (entries : List TicketPlace) : Type 0 where
   pub ordered : kept ≤ next
   pub within : next ≤ length entries
 
--- they rise, and the last entry is among them
+-- two stretches of a list: from the first through the second one each ticket is above those before it, and the list's last
+-- entry counts
 pub record AreStretches (kept next : ℕ) (entries : List TicketPlace) : Type 0 where
   pub within : IsWithin kept next entries
   pub rising : IsRising (stretches kept next entries)
   pub last : 0 < length entries → next < length entries
 
--- the entry at `next` is passed, and counts from then on only if it has a place
+-- a sweep goes one entry on: the second stretch begins one place later, the first one may have grown by the entry that was
+-- passed, the tickets still rise, and no pair that counts has come or gone
 pub record SweepsOneOn (kept next more : ℕ) (old new : List TicketPlace) : Type 0 where
   pub within : IsWithin more (next + 1) new
   pub rising : IsRising (stretches more (next + 1) new)
   pub pairs : pairs_in (stretches more (next + 1) new) ≡ pairs_in (stretches kept next old)
   pub len : length new ≡ length old
 
--- the entry of a ticket is at a place of the list, and counts
+-- the entry at a place of the list is that of a ticket
 abbrev pub HasTicketAmong : ℕ → List TicketPlace → ℕ → Type 0
 HasTicketAmong ticket entries at = (entry : TicketPlace) × (slice_get entries at ≡ Some entry) × (entry.ticket ≡ ticket)
 
+-- and it counts: its place lies in one of the two stretches
 abbrev pub IsInStretches : ℕ → ℕ → ℕ → List TicketPlace → ℕ → Type 0
 IsInStretches ticket kept next entries at = HasTicketAmong ticket entries at × ((at < kept) ⊎ (next ≤ at))
 

@@ -5,7 +5,7 @@ use dispatch_log::{Phase, Queue};
 use std::alloc::{AllocError, Global};
 use std::marker::Model;
 
-/// How many requests each server serves, and how many wait in each queue.
+/// The number of requests that each server serves, and that wait in each queue.
 #[derive(Debug, Drop)]
 pub(crate) struct Counts {
     served: Vec<usize>,
@@ -24,7 +24,7 @@ impl Model for Counts {
 impl Counts {
     ghost use Rattle.slot_ledger.specs.Counts.{IsPhaseOf, IsOneMore, IsPassed, Includes, AreAtMost, served_at, queued_at};
 
-    /// No request is counted.
+    /// Makes the counts without a request.
     pub(crate) fn new(alloc: Global, servers: usize) -> Result<Counts, AllocError>
         ensures { IfOk result (λ counts. counts ≡ record { served = replicate servers 0; own = replicate servers 0; backend = 0 }) }
     {
@@ -50,7 +50,7 @@ impl Counts {
         }
     }
 
-    /// A request goes from one phase into another.
+    /// Moves a request from one phase into another.
     pub(crate) fn pass(&mut self, before: Phase, after: Phase)
         requires counted { Includes before self.old }
         requires within { IsPhaseOf (length self.old.served) after }

@@ -50,7 +50,8 @@ impl<H> Model for Ledger<H> {
 impl<H: Drop> Ledger<H> {
     ghost use Rattle.slot_ledger.specs.declared.places.Slot.{Slot};
 
-    /// A ledger without a request, all its servers up and with the limits of their setup. All its memory is taken here. `O(n)` in the places.
+    /// Makes a ledger without a request, all its servers up and with the limits of their setup. All
+    /// its memory is allocated here. `O(n)` in the places.
     pub fn new(alloc: Global, setup: Setup) -> Result<Ledger<H>, AllocError>
         requires { IsSound setup }
         ensures { IfOk result (λ ledger. ledger ≡ record { setup = setup; ups = replicate (length setup.servers) true; limits = opening_limits setup.servers; slots = replicate setup.places None }) }
@@ -67,7 +68,7 @@ impl<H: Drop> Ledger<H> {
         })
     }
 
-    /// What it was made for.
+    /// Returns its setup.
     pub fn setup(&self) -> &Setup
         ensures setup { result.now ≡ self.now.setup }
         ensures sound { IsSound self.now.setup }
@@ -78,14 +79,14 @@ impl<H: Drop> Ledger<H> {
         &self.setup
     }
 
-    /// Whether a server is up. `O(1)`.
+    /// Says whether a server is up. `O(1)`.
     pub fn up(&self, server: usize) -> bool
         ensures { result ≡ is_up (scene_of self.now) server }
     {
         self.ups.get(server).copied().unwrap_or(false)
     }
 
-    /// A server is up, or down, from now on. `O(1)`.
+    /// Sets whether a server is up. `O(1)`.
     pub fn set_up(&mut self, server: usize, up: bool)
         requires { server < length self.old.setup.servers }
         ensures { self.new ≡ with_up self.old server up }
@@ -93,7 +94,7 @@ impl<H: Drop> Ledger<H> {
         self.ups[server] = up;
     }
 
-    /// How many requests a server takes at present. `O(1)`.
+    /// Returns a server's present limit. `O(1)`.
     pub fn limit(&self, server: usize) -> Intake
         ensures { result ≡ limit_of (scene_of self.now) server }
     {
@@ -103,15 +104,14 @@ impl<H: Drop> Ledger<H> {
         }
     }
 
-    /// What each server may serve at present, in file order.
+    /// Returns the present limit of each server, in file order.
     pub fn limits(&self) -> &[Allowance]
         ensures { result.now ≡ self.now.limits }
     {
         self.limits.as_slice()
     }
 
-    /// A server takes so many requests from now on, or none, and what it serves is noted.
-    /// No request is stopped. `O(1)`.
+    /// Sets a server's limit, or closes it, and notes what it serves. No request is stopped. `O(1)`.
     pub fn set_limit(&mut self, server: usize, limit: Intake)
         requires { server < length self.old.setup.servers }
         ensures { self.new ≡ with_limit self.old server limit }
@@ -120,21 +120,21 @@ impl<H: Drop> Ledger<H> {
         self.limits[server] = Allowance { limit, served };
     }
 
-    /// How many places it has.
+    /// Returns the number of places.
     pub fn places(&self) -> usize
         ensures { result ≡ length self.now.slots }
     {
         self.places.places()
     }
 
-    /// How many requests live. `O(1)`.
+    /// Returns the number of live requests. `O(1)`.
     pub fn len(&self) -> usize
         ensures { result ≡ count_by is_some self.now.slots }
     {
         self.places.len()
     }
 
-    /// How many requests a server serves. `O(1)`.
+    /// Returns the number of requests that a server serves. `O(1)`.
     pub fn served(&self, server: usize) -> usize
         ensures served { result ≡ served server (rows_in self.now.slots) }
         ensures fits { result ≤ 4096 }
@@ -142,7 +142,7 @@ impl<H: Drop> Ledger<H> {
         self.counts.served(server)
     }
 
-    /// How many requests wait in a queue. `O(1)`.
+    /// Returns the number of requests that wait in a queue. `O(1)`.
     pub fn queued(&self, queue: Queue) -> usize
         ensures queued { result ≡ queued queue (rows_in self.now.slots) }
         ensures fits { result ≤ 4096 }
@@ -150,8 +150,8 @@ impl<H: Drop> Ledger<H> {
         self.counts.queued(queue)
     }
 
-    /// Puts a row at a free place, which is the answer, without a node; `loosen` gives it one. Its
-    /// ticket is above all others. `O(1)`, and `O(n)` where a higher ticket has ended.
+    /// Puts a row at a free place, without a node, and returns the place; `loosen` gives it a node.
+    /// Its ticket is above all others. `O(1)`, and `O(n)` where a higher ticket has ended.
     pub fn admit(&mut self, row: Row) -> usize
         requires room { count_by is_some self.old.slots < length self.old.slots }
         requires highest { AreBelow row.key.ticket self.old.slots }
@@ -163,14 +163,14 @@ impl<H: Drop> Ledger<H> {
         self.places.admit(row)
     }
 
-    /// The place of a ticket's row. `O(log n)`.
+    /// Returns the place of a ticket's row. `O(log n)`.
     pub fn find(&self, ticket: u64) -> Option<usize>
         ensures { MatchOption result (HasNoTicket ticket self.now.slots) (λ place. HasTicketAt ticket self.now.slots place) }
     {
         self.places.find(ticket)
     }
 
-    /// The row at a place.
+    /// Returns the row at a place.
     pub fn row(&self, place: usize) -> Row
         requires { HasRow self.now.slots place }
         ensures { (slot : Slot H) × (slice_get self.now.slots place ≡ Some (Some slot)) × (slot.row ≡ result) }
@@ -178,7 +178,7 @@ impl<H: Drop> Ledger<H> {
         self.places.row(place)
     }
 
-    /// The row at a place, where one is.
+    /// Returns the row at a place, if there is one.
     pub fn cell(&self, place: usize) -> Option<Row>
         requires { place < length self.now.slots }
         ensures { slice_get (rows_in self.now.slots) place ≡ Some result }
@@ -186,7 +186,7 @@ impl<H: Drop> Ledger<H> {
         self.places.cell(place)
     }
 
-    /// The row has a slot of a server from now on.
+    /// Gives the row a slot of a server.
     pub fn serve(&mut self, place: usize, server: usize)
         requires row { HasRow self.old.slots place }
         requires within { server < length self.old.setup.servers }
@@ -195,7 +195,7 @@ impl<H: Drop> Ledger<H> {
         self.set_phase(place, Phase::Serving(server));
     }
 
-    /// The row loses its slot.
+    /// Frees the row's slot.
     pub fn free(&mut self, place: usize)
         requires { HasRow self.old.slots place }
         ensures { self.new ≡ with_slots self.old (with_phase Phase.Loose self.old.slots place) }
@@ -203,7 +203,7 @@ impl<H: Drop> Ledger<H> {
         self.set_phase(place, Phase::Loose);
     }
 
-    /// The row is told that it isn't served.
+    /// Tells the row that it isn't served.
     pub fn tell(&mut self, place: usize, cause: Cause)
         requires { HasRow self.old.slots place }
         ensures { self.new ≡ with_slots self.old (with_phase (Phase.Told cause) self.old.slots place) }
@@ -222,8 +222,8 @@ impl<H: Drop> Ledger<H> {
         self.places.set_phase(place, to);
     }
 
-    /// The row, which waits in a server's queue, waits in the backend's from this moment on. Its
-    /// node stays where it is.
+    /// Moves the row, which waits in a server's queue, into the backend's at this moment. Its node
+    /// stays where it is.
     pub fn shift(&mut self, place: usize, since: Moment)
         requires { HasRow self.old.slots place }
         ensures { self.new ≡ with_slots self.old (with_phase (Phase.Waiting Queue.Backend since) self.old.slots place) }
@@ -231,7 +231,7 @@ impl<H: Drop> Ledger<H> {
         self.set_phase(place, Phase::Waiting(Queue::Backend, since));
     }
 
-    /// One connection more failed for the row.
+    /// Counts one more failed connection of the row.
     pub fn fail(&mut self, place: usize)
         requires { HasCountable self.old.slots place }
         ensures { self.new ≡ with_slots self.old (with_failure self.old.slots place) }
@@ -239,7 +239,7 @@ impl<H: Drop> Ledger<H> {
         self.places.fail(place);
     }
 
-    /// The row is bound to no server any more.
+    /// Removes the row's pin.
     pub fn unpin(&mut self, place: usize)
         requires { HasRow self.old.slots place }
         ensures { self.new ≡ with_slots self.old (unpinned self.old.slots place) }
@@ -247,7 +247,7 @@ impl<H: Drop> Ledger<H> {
         self.places.unpin(place);
     }
 
-    /// The row waits in a queue from this moment on; its node is handed out.
+    /// Lets the row wait in a queue from this moment on, and returns its node.
     pub fn wait(&mut self, place: usize, queue: Queue, since: Moment) -> H
         requires row { HasNode self.old.slots place }
         requires within { IsQueueOf (length self.old.setup.servers) queue }
@@ -259,7 +259,7 @@ impl<H: Drop> Ledger<H> {
         self.places.wait(place, queue, since)
     }
 
-    /// The row waits no more; its node is taken back.
+    /// Ends the row's wait, and takes its node back.
     pub fn loosen(&mut self, place: usize, node: H)
         requires { HasRow self.old.slots place }
         ensures { self.new ≡ with_slots self.old (loosened node self.old.slots place) }
@@ -269,7 +269,7 @@ impl<H: Drop> Ledger<H> {
         self.places.loosen(place, node);
     }
 
-    /// The row is gone, and its place is free. `O(log n)`.
+    /// Removes the row, whose place is free then. `O(log n)`.
     pub fn end(&mut self, place: usize)
         requires { HasRow self.old.slots place }
         ensures { self.new ≡ with_slots self.old (slice_set self.old.slots place None) }
@@ -280,7 +280,7 @@ impl<H: Drop> Ledger<H> {
     }
 }
 
-/// All servers of a setup up, and what each may serve at first.
+/// Returns which servers are up at first, which is all, and the limit of each.
 fn opening_servers(alloc: Global, setup: &Setup) -> Result<(Vec<bool>, Vec<Allowance>), AllocError>
     ensures ups { IfOk result (λ it. it.0.items ≡ replicate (length setup.now.servers) true) }
     ensures limits { IfOk result (λ it. it.1.items ≡ opening_limits setup.now.servers) }

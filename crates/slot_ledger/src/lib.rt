@@ -1,5 +1,5 @@
-//! The live requests by place: a row for each, an index of their tickets, the free places, and how
-//! many stand where. All memory is taken when the ledger is made.
+//! The live requests by place: a row for each, an index of their tickets, the free places, and the
+//! number of requests in each phase. All memory is allocated when the ledger is made.
 #![tactic(auto)]
 
 mod counts;

@@ -11,7 +11,7 @@ use std::marker::Model;
 #[derive(Drop)]
 pub struct Slot<H> {
     pub row: Row,
-    /// What it takes to wait in a queue, while it doesn't wait in one.
+    /// The node with which it will wait in a queue, while it doesn't wait.
     pub node: Option<H>,
 }
 
@@ -40,7 +40,7 @@ impl<H: Drop> Places<H> {
     ghost use Rattle.slot_ledger.specs.declared.places.Slot.{Slot};
     ghost use Rattle.slot_ledger.specs.Slots.{rows_in, HasRow, HasCountable, HasNode, HasTicketAt, HasNoTicket, AreBelow, with_phase, with_failure, unpinned, waiting, loosened};
 
-    /// So many places, all free. `O(n)`.
+    /// Makes this number of free places. `O(n)`.
     pub(crate) fn new(alloc: Global, places: usize) -> Result<Places<H>, AllocError>
         ensures { IfOk result (λ made. made ≡ replicate places None) }
     {
@@ -57,22 +57,22 @@ impl<H: Drop> Places<H> {
         })
     }
 
-    /// How many places it has.
+    /// Returns the number of places.
     pub(crate) fn places(&self) -> usize
         ensures { result ≡ length self.now }
     {
         self.slots.len()
     }
 
-    /// How many requests live. `O(1)`.
+    /// Returns the number of live requests. `O(1)`.
     pub(crate) fn len(&self) -> usize
         ensures { result ≡ count_by is_some self.now }
     {
         self.places() - self.vacant.len()
     }
 
-    /// Puts a row at a free place, which is the answer. Its ticket is above all others. `O(1)`, and
-    /// `O(n)` where a higher ticket has ended.
+    /// Puts a row at a free place, and returns the place. Its ticket is above all others. `O(1)`,
+    /// and `O(n)` where a higher ticket has ended.
     pub(crate) fn admit(&mut self, row: Row) -> usize
         requires room { count_by is_some self.old < length self.old }
         requires highest { AreBelow row.key.ticket self.old }
@@ -87,14 +87,14 @@ impl<H: Drop> Places<H> {
         place
     }
 
-    /// The place of a ticket's row. `O(log n)`.
+    /// Returns the place of a ticket's row. `O(log n)`.
     pub(crate) fn find(&self, ticket: u64) -> Option<usize>
         ensures { MatchOption result (HasNoTicket ticket self.now) (λ place. HasTicketAt ticket self.now place) }
     {
         self.index.get(ticket)
     }
 
-    /// The row at a place.
+    /// Returns the row at a place.
     pub(crate) fn row(&self, place: usize) -> Row
         requires { HasRow self.now place }
         ensures { (slot : Slot H) × (slice_get self.now place ≡ Some (Some slot)) × (slot.row ≡ result) }
@@ -105,7 +105,7 @@ impl<H: Drop> Places<H> {
         }
     }
 
-    /// The row at a place, where one is.
+    /// Returns the row at a place, if there is one.
     pub(crate) fn cell(&self, place: usize) -> Option<Row>
         requires { place < length self.now }
         ensures { slice_get (rows_in self.now) place ≡ Some result }
@@ -116,7 +116,7 @@ impl<H: Drop> Places<H> {
         }
     }
 
-    /// The row is in another phase from now on.
+    /// Sets the row's phase.
     pub(crate) fn set_phase(&mut self, place: usize, phase: Phase)
         requires { HasRow self.old place }
         ensures { self.new ≡ with_phase phase self.old place }
@@ -127,7 +127,7 @@ impl<H: Drop> Places<H> {
         slot.row.phase = phase;
     }
 
-    /// One connection more failed for the row.
+    /// Counts one more failed connection of the row.
     pub(crate) fn fail(&mut self, place: usize)
         requires { HasCountable self.old place }
         ensures { self.new ≡ with_failure self.old place }
@@ -138,7 +138,7 @@ impl<H: Drop> Places<H> {
         slot.row.failures += 1;
     }
 
-    /// The row is bound to no server any more.
+    /// Removes the row's pin.
     pub(crate) fn unpin(&mut self, place: usize)
         requires { HasRow self.old place }
         ensures { self.new ≡ unpinned self.old place }
@@ -149,7 +149,7 @@ impl<H: Drop> Places<H> {
         slot.row.pin = None;
     }
 
-    /// The row waits in a queue from this moment on; its node is handed out.
+    /// Lets the row wait in a queue from this moment on, and returns its node.
     pub(crate) fn wait(&mut self, place: usize, queue: Queue, since: Moment) -> H
         requires { HasNode self.old place }
         ensures node { (slot : Slot H) × (slice_get self.old place ≡ Some (Some slot)) × (slot.node ≡ Some result) }
@@ -167,7 +167,7 @@ impl<H: Drop> Places<H> {
         }
     }
 
-    /// The row waits no more; its node is taken back.
+    /// Ends the row's wait, and takes its node back.
     pub(crate) fn loosen(&mut self, place: usize, node: H)
         requires { HasRow self.old place }
         ensures { self.new ≡ loosened node self.old place }
@@ -179,7 +179,7 @@ impl<H: Drop> Places<H> {
         slot.node = Some(node);
     }
 
-    /// The row is gone, and its place is free. `O(log n)`.
+    /// Removes the row, whose place is free then. `O(log n)`.
     pub(crate) fn end(&mut self, place: usize)
         requires { HasRow self.old place }
         ensures { self.new ≡ slice_set self.old place None }

@@ -14,13 +14,14 @@ struct TicketPlace {
 /// The places of tickets. Each call is `O(log n)` while each new ticket is above all before it.
 ///
 /// A removed ticket stays as an entry without a place until a sweep passes it, and each new ticket
-/// takes the sweep four entries on. With `p` tickets at most, a sweep that begins with `f` entries is
-/// over after `f / 3` new tickets, rounded up, and leaves at most `p - 1` entries and one for each of
-/// these. So none begins with more than `3p / 2`, and there are never more than `2p`.
+/// moves the sweep on by four entries. With at most `p` tickets, a sweep that begins with `f`
+/// entries is over after `f / 3` new tickets, rounded up, and leaves at most `p - 1` entries and
+/// one for each of these. So none begins with more than `3p / 2` entries, and there are never more
+/// than `2p`.
 #[derive(Drop)]
 pub(crate) struct Tickets {
-    // By rising ticket: those before `kept`, which the sweep has passed, and those from `next` on. What
-    // lies between is left over.
+    // By rising ticket: the entries before `kept`, which the sweep has passed, and those from
+    // `next` on. The entries between them no longer count.
     entries: Vec<TicketPlace>,
     kept: usize,
     next: usize,
@@ -38,7 +39,7 @@ impl Model for Tickets {
 }
 
 impl Tickets {
-    /// Room for so many tickets. `O(1)`.
+    /// Makes room for this number of tickets. `O(1)`.
     pub(crate) fn with_room(alloc: Global, places: usize) -> Result<Tickets, AllocError>
         ensures empty { IfOk result (λ index. index.pairs ≡ []) }
         ensures room { IfOk result (λ index. places ≤ index.room) }
@@ -50,7 +51,7 @@ impl Tickets {
         })
     }
 
-    /// The place of a ticket. `O(log n)`.
+    /// Returns the place of a ticket. `O(log n)`.
     pub(crate) fn get(&self, ticket: u64) -> Option<usize>
         ensures { MatchOption result (IsAbsent ticket self.now.pairs) (λ place. Contains self.now.pairs (ticket, place)) }
     {
@@ -58,7 +59,7 @@ impl Tickets {
         self.entries[at].place
     }
 
-    /// Takes a ticket in, above all others. `O(1)`, and `O(n)` where a higher one was removed.
+    /// Adds a ticket above all others. `O(1)`, and `O(n)` where a higher one was removed.
     pub(crate) fn push(&mut self, ticket: u64, place: usize)
         requires room { length self.old.pairs < self.old.room }
         requires highest { All (λ pair. pair.0 < ticket) self.old.pairs }
@@ -80,7 +81,7 @@ impl Tickets {
         });
     }
 
-    /// Takes a ticket out. `O(log n)`.
+    /// Removes a ticket. `O(log n)`.
     pub(crate) fn remove(&mut self, ticket: u64)
         requires { (place : ℕ) × Contains self.old.pairs (ticket, place) }
         ensures removed { Removes ticket self.old.pairs self.new.pairs }
@@ -94,7 +95,7 @@ impl Tickets {
         }
     }
 
-    // Passes one entry, and begins anew after the last one.
+    // Passes one entry, and begins again after the last one.
     fn sweep(&mut self)
         ensures { self.new ≡ self.old }
     {
@@ -125,7 +126,7 @@ fn pass(entries: &mut [TicketPlace], kept: usize, next: usize) -> usize
     kept + 1
 }
 
-// Whether the ticket can go in at the end as it is.
+// Says whether the ticket can be appended as it is.
 fn takes(entries: &Vec<TicketPlace>, ticket: u64) -> bool
     ensures room { result ≡ true → vec_len entries.now < vec_capacity entries.now }
     ensures highest { result ≡ true → IsAboveLast ticket entries.now.items }
@@ -133,7 +134,7 @@ fn takes(entries: &Vec<TicketPlace>, ticket: u64) -> bool
     entries.len() < entries.capacity() && entries.last().is_none_or(|last| last.ticket < ticket)
 }
 
-// Leaves the entries that have a place. `O(n)`.
+// Keeps the entries that have a place alone. `O(n)`.
 fn compact(entries: &mut Vec<TicketPlace>, kept: usize, next: usize)
     requires { IsWithin kept next entries.old.items }
     ensures items { entries.new.items ≡ filter has_place (stretches kept next entries.old.items) }
@@ -143,7 +144,7 @@ fn compact(entries: &mut Vec<TicketPlace>, kept: usize, next: usize)
     entries.retain(|entry| entry.place.is_some());
 }
 
-// Leaves out the entries from one place up to another.
+// Removes the entries from one position up to another.
 fn cut(entries: &mut Vec<TicketPlace>, from: usize, to: usize)
     requires { IsWithin from to entries.old.items }
     ensures items { entries.new.items ≡ stretches from to entries.old.items }
@@ -152,7 +153,7 @@ fn cut(entries: &mut Vec<TicketPlace>, from: usize, to: usize)
     entries.drain(from..to);
 }
 
-// Where the entry of a ticket is.
+// Returns the position of a ticket's entry.
 fn position(entries: &[TicketPlace], kept: usize, next: usize, ticket: u64) -> Option<usize>
     requires { AreStretches kept next entries.now }
     ensures { MatchOption result (IsAbsent ticket (pairs_in (stretches kept next entries.now))) (λ at. IsInStretches ticket kept next entries.now at) }
@@ -180,7 +181,8 @@ fn search(entries: &[TicketPlace], ticket: u64) -> Option<usize>
         .ok()
 }
 
-// The same at once where no ticket is missing from the first to it, as where requests end in the order in which they came.
+// The same at once where no ticket is missing from the first to it, as when requests end in the
+// order in which they came.
 fn guess(entries: &[TicketPlace], ticket: u64) -> Option<usize>
     ensures { IfSome result (λ at. HasTicketAmong ticket entries.now at) }
 {

@@ -3,17 +3,17 @@ ghost use Rattle.std.specs.Bool.{OnTrue, OnFalse};
 
 use std::sync::atomic::{AtomicBool, AtomicU64, Ordering};
 
-/// How many clients may come, and how many of them were taken. All threads share it.
+/// The number of clients that may come, and of those that were accepted. All threads share it.
 #[derive(Drop)]
 pub struct Clients {
     taken: AtomicU64,
-    /// 0: without an end.
+    /// 0 is without limit.
     most: u64,
     given_up: AtomicBool,
 }
 
 impl Clients {
-    /// At most so many; 0: without an end.
+    /// Makes the counter for this number of clients; 0 is without limit.
     pub fn new(most: u64) -> Clients
         ensures { result.most ≡ most }
     {
@@ -24,33 +24,33 @@ impl Clients {
         }
     }
 
-    /// Takes one more, where one more may come.
+    /// Counts one more client, where one more may come. Says whether it did.
     pub fn take(&self) -> bool
         ensures { OnFalse result (self.now.most ≢ 0) }
     {
         self.most == 0 || self.taken.fetch_add(1, Ordering::SeqCst) < self.most
     }
 
-    /// How many may come; 0: without an end.
+    /// Returns how many clients may come; 0 is without limit.
     pub fn most(&self) -> u64
         ensures { result ≡ self.now.most }
     {
         self.most
     }
 
-    /// Whether no more may come: as many were taken as are counted.
+    /// Says whether no more clients may come.
     pub fn are_all_taken(&self) -> bool
         ensures { OnTrue result (self.now.most ≢ 0) }
     {
         self.most != 0 && self.most <= self.taken.load(Ordering::SeqCst)
     }
 
-    /// Notes that a thread waits for clients no more, though more may come.
+    /// Notes that a thread accepts no more clients, though more may come.
     pub fn give_up(&self) {
         self.given_up.store(true, Ordering::SeqCst);
     }
 
-    /// Whether a thread did so.
+    /// Says whether a thread has noted that.
     pub fn are_given_up(&self) -> bool {
         self.given_up.load(Ordering::SeqCst)
     }

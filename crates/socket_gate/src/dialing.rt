@@ -5,8 +5,8 @@ use std::net::{Ipv4Addr, Net, TcpListener, TcpStream, ToSocketAddrs};
 use std::str;
 use std::time::{Clock, Duration, Instant};
 
-/// A connection to an address within a time. A name is looked up by the system, without a limit of its own, and its addresses are tried one after the
-/// other.
+/// Connects to an address within a time. The system looks a name up, without a limit of its own,
+/// and its addresses are tried one after the other.
 pub(crate) fn dial<R: Net<Listener = TcpListener, Stream = TcpStream> + Clock>(
     rt: &R,
     address: &Address,

@@ -13,38 +13,40 @@ use window_printer::WindowPrinter;
 
 const MOST_FAILURES: usize = 1000;
 
-/// What the gates of all threads share.
+/// The data that the gates of all threads share.
 #[derive(Drop)]
 pub struct Front<'a> {
     pub alloc: Global,
     pub config: &'a Config,
-    /// Where clients come.
+    /// The listener for clients.
     pub listener: TcpListener,
     pub clients: Clients,
-    /// Moments are milliseconds since then.
+    /// Moments are milliseconds since this one.
     pub start: Instant,
-    /// Where servers are.
+    /// The addresses of the servers.
     pub addresses: &'a Addresses,
-    /// How long a client may stay between two requests, in milliseconds. None: it has one.
+    /// The longest pause of a client between two requests, in milliseconds. `None`: a client's
+    /// connection has one request.
     pub keeping: Option<u64>,
-    /// How many unused connections of a server stay open at most. None: a server's connection is for one request.
+    /// The most unused connections of a server that stay open. `None`: a server's connection has one request.
     pub reusing: Option<u64>,
-    /// Whether servers are told whose requests they get.
+    /// Servers are told the client's address.
     pub forwarded_for: bool,
-    /// After so many milliseconds a window ends. None: once the log is full.
+    /// The length of a window in milliseconds. `None`: a window ends once the log is full.
     pub window: Option<u64>,
-    /// Where windows go that ended.
+    /// The printer of windows that ended.
     pub windows: &'a WindowPrinter,
-    /// What it is steered by while it serves, where it is.
+    /// The controls, where it is steered while it serves.
     pub controls: Option<&'a Controls>,
-    /// What exchanges are told to that ended, where that is wanted.
+    /// The sink for records of ended exchanges, where that is wanted.
     pub log: Option<&'a RequestLog>,
-    /// Where it is asked how it goes, where it is.
+    /// The admin listener, where there is one.
     pub admin: Option<&'a Admin>,
 }
 
 impl<'a> Front<'a> {
-    /// The next client, where one more may come. After a failure it is tried again a millisecond later, and after a thousand in a row no more.
+    /// Accepts the next client, where one more may come. After a failure it tries again a
+    /// millisecond later, and gives up after a thousand failures in a row.
     pub(crate) fn next<R: Clock>(&self, rt: &R) -> Option<TcpStream> {
         if !self.clients.take() {
             return None;
@@ -60,8 +62,9 @@ impl<'a> Front<'a> {
     }
 }
 
-/// A connection whose reads and writes fail where they take longer than this, in milliseconds, and whose bytes don't wait for more. Where the system refuses
-/// either, it stays as it is.
+/// Makes the reads and writes of a connection fail where they take longer than this number of
+/// milliseconds, and sends small writes at once (`TCP_NODELAY`). Where the system refuses either,
+/// the connection stays as it is.
 pub fn within(stream: TcpStream, limit: Option<u64>) -> TcpStream {
     let _ = stream.set_nodelay(true);
     if let Some(limit) = duration(limit) {

@@ -20,7 +20,7 @@ use std::sync::Wait;
 use std::time::{Clock, Duration};
 use std::{mem, thread};
 
-/// So many places there are at most.
+/// The most places.
 const MOST_PLACES: usize = 4096;
 
 /// A connect that failed.
@@ -36,18 +36,18 @@ struct Failure {
 pub struct SocketGate<'a, R> {
     rt: &'a R,
     front: &'a Front<'a>,
-    /// The moment that was last answered.
+    /// The last moment that it returned.
     last: Moment,
     /// The last connect that failed.
     failure: Option<Failure>,
-    /// The checks that run, by server.
+    /// The running checks, by server.
     probes: Vec<Option<Probe>>,
-    /// The places of which it was told, and not asked since.
+    /// The places that it was told of since the last call of `take_woken`.
     woken: PlaceSet,
 }
 
 impl<'a, R: Net<Listener = TcpListener, Stream = TcpStream> + Clock> SocketGate<'a, R> {
-    /// It takes memory for a check of each server.
+    /// Makes a gate. It allocates for a check of each server.
     pub fn new(
         alloc: Global,
         rt: &'a R,
@@ -68,7 +68,7 @@ impl<'a, R: Net<Listener = TcpListener, Stream = TcpStream> + Clock> SocketGate<
         })
     }
 
-    /// The places of which it was told since it was last asked.
+    /// Takes the places that it was told of since the last call.
     pub fn take_woken(&mut self) -> PlaceSet
         ensures taken { result ≡ self.old.woken }
         ensures none { (place : ℕ) → Has self.new.woken place → ⊥ }
@@ -76,7 +76,8 @@ impl<'a, R: Net<Listener = TcpListener, Stream = TcpStream> + Clock> SocketGate<
         mem::replace(&mut self.woken, PlaceSet::new())
     }
 
-    /// Notes that a connect failed which was made elsewhere: before the same request is tried again at the same server, some time passes.
+    /// Notes a failed connect of another thread: some time passes before the same request tries the
+    /// same server again.
     pub fn note_failure(&mut self, ticket: u64, server: usize) {
         self.failure = Some(Failure {
             ticket,
@@ -85,7 +86,7 @@ impl<'a, R: Net<Listener = TcpListener, Stream = TcpStream> + Clock> SocketGate<
         });
     }
 
-    // The present moment. It is never before one that was answered, also where the clock can't be read.
+    // Returns the present moment. It is never before an earlier one, even where the clock can't be read.
     fn now(&mut self) -> Moment
         ensures last { result ≡ self.new.last }
         ensures later { self.old.last ≤ self.new.last }
@@ -99,7 +100,7 @@ impl<'a, R: Net<Listener = TcpListener, Stream = TcpStream> + Clock> SocketGate<
         self.last
     }
 
-    // Before a request is tried again at the server that just failed it, some time passes.
+    // Waits some time before a request tries the server again that has just failed it.
     fn hold_back(&mut self, ticket: u64, server: usize) {
         let Some(failure) = self.failure else {
             return;
@@ -113,7 +114,7 @@ impl<'a, R: Net<Listener = TcpListener, Stream = TcpStream> + Clock> SocketGate<
 }
 
 impl<'a, R: Net<Listener = TcpListener, Stream = TcpStream> + Clock + Wait> SocketGate<'a, R> {
-    // The check of a server that runs, or else one that begins.
+    // Takes the running check of a server, or begins one.
     fn take_probe(&mut self, server: usize, now: Moment) -> Result<Probe, CheckFailure> {
         if let Some(place) = self.probes.get_mut(server) {
             if let Some(probe) = place.take() {
@@ -131,7 +132,7 @@ impl<'a, R: Net<Listener = TcpListener, Stream = TcpStream> + Clock + Wait> Sock
         }
     }
 
-    // Who writes of events is told how it failed. False.
+    // Reports a failed check to the event log. Returns false.
     fn fails(&self, server: usize, failure: CheckFailure) -> bool
         ensures { result ≡ false }
     {
@@ -141,7 +142,8 @@ impl<'a, R: Net<Listener = TcpListener, Stream = TcpStream> + Clock + Wait> Sock
         false
     }
 
-    // A server's address by the last look-up of its name, which is looked up once more for the next check.
+    // Returns a server's address by the last look-up of its name, and asks for another look-up, for
+    // the next check.
     fn address_of(&self, server: usize) -> Option<SocketAddr> {
         let addresses = self.front.addresses;
         let address = addresses.of(self.rt, self.front.config, server);
@@ -150,7 +152,7 @@ impl<'a, R: Net<Listener = TcpListener, Stream = TcpStream> + Clock + Wait> Sock
     }
 }
 
-// The moment after so much time.
+// Returns the moment after this time.
 fn moment_of(passed: Duration) -> Option<Moment> {
     Moment::new(u64::try_from(passed.as_millis()).ok()?)
 }

@@ -1,7 +1,9 @@
-//! The gate of a proxy on real sockets: where clients come from, connections to servers, checks, and the clock; and pauses of a millisecond.
+//! The gate of a proxy on real sockets: it accepts clients, connects to servers, checks them and
+//! reads the clock; and it has pauses of a millisecond.
 //!
-//! No clause says what a socket gives or takes. What is proved here is that nothing goes wrong whatever it does, and what depends on no socket: how long is
-//! waited, what counts as gone, when a check is over.
+//! No clause says what a socket gives or takes. The proofs here say that nothing goes wrong
+//! whatever a socket does, and decide what depends on no socket: the lengths of waits, what counts
+//! as gone, when a check is over.
 #![tactic(auto)]
 
 mod clients;

@@ -5,7 +5,7 @@ use relay_workers::Pause;
 use std::thread;
 use std::time::{Clock, Duration};
 
-/// Pauses of so many milliseconds each, so many after each beginning.
+/// Pauses of this number of milliseconds, this many after each beginning.
 #[derive(Drop)]
 pub struct Pauses<'a, R> {
     rt: &'a R,
@@ -15,7 +15,7 @@ pub struct Pauses<'a, R> {
 }
 
 impl<'a, R: Clock> Pauses<'a, R> {
-    /// None is made before the first beginning.
+    /// Makes the pauses. None is made before the first beginning.
     pub fn new(rt: &'a R, millis: u64, most: u64) -> Pauses<'a, R>
         ensures { result.most ≡ most }
     {

@@ -13,17 +13,17 @@ use std::io::{self, ErrorKind};
 use std::net::{Net, SocketAddr};
 use std::os::fd::AsRawFd;
 
-/// A check that runs.
+/// A running check.
 #[derive(Drop)]
 pub(crate) struct Probe {
     stream: TcpStream,
     since: Moment,
-    /// So many milliseconds it may take. None: without an end.
+    /// The most milliseconds that it may take; `None` is without limit.
     patience: Option<u64>,
 }
 
 impl Probe {
-    /// Begins one, without waiting. It may fail at once.
+    /// Begins a check, without waiting. It may fail at once.
     pub(crate) fn begin<R: Net>(
         rt: &R,
         address: SocketAddr,
@@ -42,7 +42,7 @@ impl Probe {
         }
     }
 
-    /// How it ended. None: it isn't over.
+    /// Returns how it ended; `None` where it isn't over.
     pub(crate) fn ended(&self, now: Moment) -> Option<Result<(), CheckFailure>>
         ensures { IfNone result (IfSome self.now.patience (λ millis. left self.now.since millis now ≢ 0)) }
     {
@@ -59,7 +59,7 @@ impl Probe {
         }
     }
 
-    // What the system says of a connection that failed.
+    // Returns why a connection failed, by the system's error.
     fn failure(&self) -> CheckFailure {
         match self.stream.take_error() {
             Ok(Some(error)) => failure_of(&error),

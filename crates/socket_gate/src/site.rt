@@ -2,7 +2,7 @@ use crate::front::Front;
 use grant_board::BoardName;
 use relay_workers::Proxy;
 
-/// A proxy, and what its gates share.
+/// A proxy, and the data that its gates share.
 #[derive(Drop)]
 pub struct Site<'a, N: BoardName> {
     pub proxy: &'a Proxy<N>,

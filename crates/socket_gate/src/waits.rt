@@ -1,4 +1,4 @@
-//! How long is waited for what, in milliseconds.
+//! The longest waits, in milliseconds.
 
 ghost use Rattle.std.specs.Prelude.{◌≡◌, ◌≤◌, ◌+◌, ◌↔◌, IsTrue};
 ghost use Rattle.socket_gate.specs.Waits.{turnaround, patience, left};
@@ -9,12 +9,12 @@ use std::time::Duration;
 
 const SECOND: u64 = 1000;
 
-/// The time for a configured number of milliseconds.
+/// Returns the time of a configured number of milliseconds.
 pub(crate) fn duration(millis: Option<u64>) -> Option<Duration> {
     millis.map(Duration::from_millis)
 }
 
-/// How long a request waits before it is tried again at the server that failed it, where a connect may take so long.
+/// Returns how long a request waits before it tries the server again that failed it, by `timeout connect`.
 pub(crate) fn turnaround(connect: Option<u64>) -> u64
     ensures { result ≡ turnaround connect }
 {
@@ -24,7 +24,7 @@ pub(crate) fn turnaround(connect: Option<u64>) -> u64
     }
 }
 
-/// How long a check may take, where a connect may take so long. None: without an end.
+/// Returns how long a check may take, by `timeout connect` and its `inter`; `None` is without limit.
 pub(crate) fn patience(connect: Option<u64>, checks: Option<Checks>) -> Option<u64>
     ensures { result ≡ patience connect checks }
 {
@@ -36,14 +36,14 @@ pub(crate) fn patience(connect: Option<u64>, checks: Option<Checks>) -> Option<u
     }
 }
 
-/// What is left of so many milliseconds since a moment.
+/// Returns what is left of this number of milliseconds since a moment.
 pub(crate) fn left(since: Moment, millis: u64, now: Moment) -> u64
     ensures { result ≡ left since millis now }
 {
     millis.saturating_sub(now.get().saturating_sub(since.get()))
 }
 
-/// Whether so many milliseconds passed since a moment.
+/// Says whether this number of milliseconds have passed since a moment.
 pub(crate) fn is_over(since: Moment, millis: u64, now: Moment) -> bool
     ensures { IsTrue result ↔ (left since millis now ≡ 0) }
 {

@@ -1,4 +1,4 @@
--- What a log tells of each request in numbers, entry by entry.
+-- The numbers of each request, as a log tells them entry by entry.
 use Rattle.std.specs.Prelude.{◌≡◌, ℕ, ◌+◌, ◌-◌, ◌^◌, min, ℤ, ◌-ℤ◌, pos, ◌==◌, ◌&&◌, Bool, List, ◌∷◌, ◌++◌, [], Option, None, Some, length, filter, drop, nat_lt, if◌then◌else◌}
 use Rattle.std.specs.Ordering.{int_eq, nat_cmp}
 use Rattle.std.specs.BTreeMap.{is_at}
@@ -21,17 +21,17 @@ pub record Window : Type 0 where
   pub number : ℕ
   pub given : List Given
 
--- what is known after some entries: their last moment, the present window, and the numbers of requests by their tickets
+-- the knowledge after some entries: their last moment, the present window, and the numbers of requests by ticket
 pub record Following : Type 0 where
   pub moment : ℕ
   pub window : Window
   pub numbers : List (ℕ × Numbers)
 
--- the numbers of a request, of which something is known
+-- the numbers of a request, where some are known
 abbrev pub known : Following → ℕ → Option Numbers
 known following ticket = lookup (is_at (nat_cmp ticket)) following.numbers
 
--- whether a grant went to a request that came later than this one, from this queue and of its class
+-- a grant went to a request that came later than this one, from this queue and of its class
 abbrev pub overtakes : Queue → Came → Given → Bool
 overtakes queue came given =
     same_queue queue given.queue && (int_eq came.arrival.class given.class && nat_lt came.arrival.ticket given.ticket)
@@ -40,18 +40,19 @@ overtakes queue came given =
 abbrev pub grants_since : Window → Stay → List Given
 grants_since window stay = if stay.window == window.number then drop stay.since window.given else window.given
 
--- how many from the same queue were given a slot during a stay, and how many of them were of the same class and came later
+-- the number of slots that requests of the same queue got during a stay, and of those among them
+-- that were of the same class and came later
 abbrev pub ahead : Window → Stay → ℕ
 ahead window stay = length (filter (λ given. same_queue stay.queue given.queue) (grants_since window stay))
 
 abbrev pub overtakers : Window → Came → Stay → ℕ
 overtakers window came stay = length (filter (overtakes stay.queue came) (grants_since window stay))
 
--- a count that stays at its greatest value
+-- a counter that saturates at its greatest value
 abbrev pub one_more : ℕ → ℕ
 one_more count = min (count + 1) (2 ^ 32 - 1)
 
--- a request that came, of which nothing else is known
+-- a request that arrived, of which nothing else is known
 abbrev pub new_numbers : Came → Numbers
 new_numbers came = record { came = came; failures = 0; slots = 0; stay = None; slot = None; cause = None }
 
@@ -74,7 +75,7 @@ given_slot moment window server stay before = record before {
 abbrev pub put_into : Window → Queue → Numbers → Numbers
 put_into window queue before = record before { stay = Some (record { queue = queue; window = window.number; since = length window.given }) }
 
--- the request that an entry other than an arrival tells something of
+-- the request of an entry that isn't an arrival, if it names one
 abbrev pub named_in : Entry → Option ℕ
 named_in (Fail moment ticket) = Some ticket
 named_in (Direct ticket server) = Some ticket
@@ -84,7 +85,7 @@ named_in (Moved ticket server) = Some ticket
 named_in (Left ticket cause) = Some ticket
 named_in entry = None
 
--- what is known of that request after the entry at this moment
+-- the numbers of that request after the entry at this moment
 abbrev pub numbers_after : ℕ → Window → Numbers → Entry → Numbers
 numbers_after moment window before (Fail at ticket) = record before { failures = one_more before.failures }
 numbers_after moment window before (Direct ticket server) = given_slot moment window server None before
@@ -94,40 +95,40 @@ numbers_after moment window before (Moved ticket server) = put_into window Backe
 numbers_after moment window before (Left ticket cause) = record before { stay = None; cause = Some cause }
 numbers_after moment window before entry = before
 
--- the arrival that an entry is
+-- the arrival of an entry, if it is one
 abbrev pub came_by : Entry → Option Came
 came_by (Arrive at arrival) = Some (record { moment = at; arrival = arrival })
 came_by entry = None
 
--- what is known of any request after an entry that is no arrival: of one whose arrival isn't known, nothing
+-- the numbers of any request after an entry that isn't an arrival; none where its arrival isn't known
 abbrev pub told_after : ℕ → ℕ → Window → Option Numbers → Entry → Option Numbers
 told_after ticket moment window before entry =
     option_map_or (λ named. if named == ticket then option_map (λ it. numbers_after moment window it entry) before else before) (named_in entry) before
 
--- what is known of any request after an entry
+-- the numbers of any request after an entry
 abbrev pub known_after : ℕ → ℕ → Window → Option Numbers → Entry → Option Numbers
 known_after ticket moment window before entry =
     option_map_or (λ (came : Came). if came.arrival.ticket == ticket then Some (new_numbers came) else before) (came_by entry)
     (told_after ticket moment window before entry)
 
--- the grant that an entry is, to a request that waited and whose arrival is known
+-- the grant of an entry, if it is one to a request that waited and whose arrival is known
 abbrev pub given_by : (ℕ → Option Numbers) → Entry → List Given
 given_by numbers (Granted ticket queue server) =
     option_map_or (λ it. record { queue = queue; class = it.came.arrival.class; ticket = ticket } ∷ []) (numbers ticket) []
 given_by numbers entry = []
 
--- what is known after one entry more
+-- the knowledge after one more entry
 pub record Follows (old : Following) (entry : Entry) (new : Following) : Type 0 where
   pub moment : new.moment ≡ later entry old.moment
   pub window : new.window ≡ record old.window { given = old.window.given ++ given_by (known old) entry }
   pub numbers : (ticket : ℕ) → known new ticket ≡ known_after ticket (later entry old.moment) old.window (known old ticket) entry
 
--- what is known is what a log tells: its last moment, and of each request of which anything is known its arrival
+-- the knowledge agrees with a log: its last moment, and the arrival of each request with numbers
 pub record IsOf (log : List Entry) (following : Following) : Type 0 where
   pub moment : following.moment ≡ moment_of log
   pub came : (ticket : ℕ) (numbers : Numbers) → known following ticket ≡ Some numbers → came_in log ticket ≡ Some numbers.came
 
--- how long a request waited for its last slot, from its arrival, and how late it got it
+-- the time that a request waited for its last slot, from its arrival, and the lateness of that slot
 abbrev pub waited : Numbers → Option ℕ
 waited numbers = option_map (λ slot. slot.moment - numbers.came.moment) numbers.slot
 

@@ -13,7 +13,7 @@ use std::alloc::{AllocError, Global};
 use std::collections::BTreeMap;
 use std::marker::Model;
 
-/// What is known of a log that is read entry by entry: each request's numbers, until they are taken.
+/// The knowledge of a log that is read entry by entry: each request's numbers, until they are taken.
 #[derive(Drop)]
 pub struct Follower {
     moment: Moment,
@@ -35,7 +35,7 @@ impl Model for Follower {
 }
 
 impl Follower {
-    /// Before the first entry. Windows count from 1.
+    /// Makes the knowledge before the first entry. Windows are counted from 1.
     pub fn new(alloc: Global) -> Follower
         ensures window { result.window ≡ record { number = 1; given = [] } }
         ensures log { IsOf [] result }
@@ -48,8 +48,9 @@ impl Follower {
         }
     }
 
-    /// Takes the next entry in. `O(log n)` in the requests of which something is known; at a grant also in the grants since its request joined its queue. Where memory
-    /// is refused, what is known of some request may lack this entry.
+    /// Takes the next entry. `O(log n)` in the requests with numbers; at a grant also in the grants
+    /// since its request joined its queue. Where memory is refused, the numbers of some request may
+    /// lack this entry.
     pub fn follow(&mut self, entry: Entry) -> Result<(), AllocError>
         ensures follows { OnOk result (Follows self.old entry self.new) }
         ensures log { OnOk result ((log : List Entry) → IsOf log self.old → IsOf (log ++ entry ∷ []) self.new) }
@@ -70,7 +71,7 @@ impl Follower {
         Ok(())
     }
 
-    /// The next window begins.
+    /// Begins the next window.
     pub fn roll(&mut self)
         ensures window { self.new.window ≡ record { number = min (self.old.window.number + 1) (2 ^ 64 - 1); given = [] } }
         ensures same { (self.new.moment ≡ self.old.moment) × (self.new.numbers ≡ self.old.numbers) }
@@ -79,28 +80,28 @@ impl Follower {
         self.window = self.window.saturating_add(1);
     }
 
-    /// The number of the present window.
+    /// Returns the number of the present window.
     pub fn window(&self) -> u64
         ensures { result ≡ self.now.window.number }
     {
         self.window
     }
 
-    /// The moment of the last event.
+    /// Returns the moment of the last event.
     pub fn moment(&self) -> Moment
         ensures { result ≡ self.now.moment }
     {
         self.moment
     }
 
-    /// What is known of a request.
+    /// Returns the numbers of a request.
     pub fn numbers(&self, ticket: u64) -> Option<Numbers>
         ensures { result ≡ known self.now ticket }
     {
         self.numbers.get(&ticket).copied()
     }
 
-    /// What is known of a request, which is forgotten.
+    /// Takes the numbers of a request, which is forgotten.
     pub fn take(&mut self, ticket: u64) -> Option<Numbers>
         ensures taken { result ≡ known self.old ticket }
         ensures others { (other : ℕ) → known self.new other ≡ (if ticket == other then None else known self.old other) }
@@ -118,19 +119,19 @@ impl Follower {
         self.numbers.remove(&ticket)
     }
 
-    /// Of how many requests something is known.
+    /// Returns the number of requests with numbers.
     pub fn len(&self) -> usize {
         self.numbers.len()
     }
 
-    /// Forgets the request that came first, of those of which something is known.
+    /// Forgets the request that came first, of those with numbers.
     pub fn forget_first(&mut self)
         ensures same { (self.new.moment ≡ self.old.moment) × (self.new.window ≡ self.old.window) }
     {
         let _ = self.numbers.pop_first();
     }
 
-    /// Entries were lost: nothing is known of any request that came before.
+    /// Forgets all requests that came before, since entries were lost.
     pub fn forget(&mut self)
         ensures { (ticket : ℕ) → known self.new ticket ≡ None }
     {
@@ -138,7 +139,7 @@ impl Follower {
         self.numbers.clear();
     }
 
-    // The grant that an entry is.
+    // Returns the grant of an entry, if it is one.
     fn given_by(&self, entry: &Entry) -> Option<Given>
         ensures { option_to_list result ≡ given_by (known self.now) entry.now }
     {
@@ -153,7 +154,7 @@ impl Follower {
         })
     }
 
-    // Notes what an entry tells of its request.
+    // Notes an entry in the numbers of its request.
     fn note(&mut self, moment: Moment, entry: Entry) -> Result<(), AllocError>
         ensures numbers { OnOk result ((ticket : ℕ) → known self.new ticket ≡ known_after ticket moment self.old.window (known self.old ticket) entry) }
         ensures same { (self.new.moment ≡ self.old.moment) × (self.new.window ≡ self.old.window) }
@@ -181,7 +182,7 @@ impl Follower {
         Ok(())
     }
 
-    // What is known of a request after an entry that names it.
+    // Returns the numbers of a request after an entry that names it.
     fn after(&self, moment: Moment, before: Numbers, entry: &Entry) -> Numbers
         ensures { result ≡ numbers_after moment self.now.window before entry.now }
     {
@@ -240,7 +241,7 @@ impl Follower {
         }
     }
 
-    // The grants of this window since a stay began.
+    // Returns the grants of this window since a stay began.
     fn grants_since(&self, stay: Stay) -> &[Given]
         ensures { result.now ≡ grants_since self.now.window stay }
     {
@@ -293,7 +294,7 @@ fn overtakes(queue: Queue, came: Came, given: &Given) -> bool
     queue == given.queue && came.arrival.class == given.class && came.arrival.ticket < given.ticket
 }
 
-// The arrival that an entry is.
+// Returns the arrival of an entry, if it is one.
 fn came_by(entry: &Entry) -> Option<Came>
     ensures { result ≡ came_by entry.now }
 {
@@ -317,7 +318,7 @@ fn named_in(entry: &Entry) -> Option<u64>
     }
 }
 
-// The moment of an event, and of any other entry that of the event before it.
+// Returns the moment of an event, and for any other entry that of the event before it.
 fn later(entry: &Entry, last: Moment) -> Moment
     ensures { result ≡ later entry.now last }
 {

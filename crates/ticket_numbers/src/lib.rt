@@ -1,4 +1,5 @@
-//! What a log tells of each request in numbers: when it came, how long it waited, how late it got its slot, and how many went before it though they came later.
+//! The numbers of each request that a log tells: when it came, how long it waited, how late it got
+//! its slot, and how many requests went before it though they came later.
 #![tactic(auto)]
 
 mod follower;

@@ -21,7 +21,7 @@ pub struct Stay {
     pub queue: Queue,
     /// The number of the window in which it began.
     pub window: u64,
-    /// How many grants there were in that window before it began.
+    /// The number of grants in that window before it began.
     pub since: usize,
 }
 
@@ -32,23 +32,23 @@ pub struct Slot {
     pub server: usize,
     /// The number of the window in which it was given.
     pub window: u64,
-    /// The stay that it ended. None: the request didn't wait for it.
+    /// The stay that it ended; `None` where the request didn't wait for it.
     pub stay: Option<Stay>,
-    /// How many slots requests from the same queue were given during the stay, as far as that lies in the window of the slot.
+    /// The number of slots that requests of the same queue got during the stay, within the window of the slot.
     pub ahead: usize,
-    /// Those of them that were of the same class and came later.
+    /// The number of those among them that were of the same class and came later.
     pub overtakers: usize,
 }
 
-/// What a log tells of a request.
+/// The numbers of a request.
 #[derive(Clone, Copy, Debug, PartialEq, Eq)]
 pub struct Numbers {
     pub came: Came,
-    /// How many of its connections failed.
+    /// The number of its connections that failed.
     pub failures: u32,
-    /// How many slots it was given: more than one only by redispatch.
+    /// The number of slots that it was given: more than one only by redispatch.
     pub slots: u32,
-    /// Where it waits.
+    /// Its present stay, where it waits.
     pub stay: Option<Stay>,
     /// The last slot that it was given.
     pub slot: Option<Slot>,
@@ -57,7 +57,7 @@ pub struct Numbers {
 }
 
 impl Numbers {
-    /// How long it waited for its last slot since it came, in milliseconds.
+    /// Returns how long it waited for its last slot since it came, in milliseconds.
     pub fn waited(&self) -> Option<u64>
         ensures { result ≡ following.waited self.now }
     {
@@ -65,7 +65,7 @@ impl Numbers {
         Some(slot.moment.get().saturating_sub(self.came.moment.get()))
     }
 
-    /// How late it got its last slot, in milliseconds; less than 0 where that was before it was due.
+    /// Returns how late it got its last slot, in milliseconds; negative where that was before its due date.
     pub fn lateness(&self) -> Option<i64>
         ensures { result ≡ following.lateness self.now }
     {
@@ -75,7 +75,7 @@ impl Numbers {
 }
 
 impl Slot {
-    /// Whether the stay before it began in an earlier window.
+    /// Says whether the stay before it began in an earlier window.
     pub fn is_over_an_end(&self) -> bool
         ensures { IsTrue result ↔ IsSomeAnd self.now.stay (λ stay. stay.window ≢ self.now.window) }
     {

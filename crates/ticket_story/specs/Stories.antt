@@ -8,11 +8,11 @@ use Rattle.ticket_story.specs.declared.lines.TheConstants.{MOST_LINES}
 abbrev pub lines_text : List (List ℕ) → List ℕ
 lines_text lines = flat_map (λ line. line ++ codes "\n") lines
 
--- the line in place of those that are too many
+-- the line that stands for the lines beyond the limit
 abbrev pub count_text : ℕ → List ℕ
 count_text more = codes "and " ++ decimal more ++ codes " more lines"
 
--- a text has a story more at its end: a few lines
+-- a text has one more story at its end: a few lines
 pub record AddsStory (old new : List ℕ) : Type 0 where
   pub lines : List (List ℕ)
   pub few : length lines ≤ MOST_LINES

@@ -6,7 +6,7 @@ use due_key::Due;
 use log_stretches::{Came, Course, Lane, Stretch};
 use std::alloc::AllocError;
 
-/// Adds what a request did in one of its stretches.
+/// Adds the line of one of a request's stretches.
 pub(crate) fn push_chapter(
     story: &mut Story,
     telling: &Telling,
@@ -74,7 +74,7 @@ fn add_stay_end(
     story.add(line)
 }
 
-// Why the queue of a server moves: the moves of an event stand right behind it.
+// Returns why the queue of a server is moved: the moves of an event stand right after it.
 fn emptying_cause(entries: &[Entry], position: usize) -> &'static str {
     let before = entries.get(..position).unwrap_or(&[]);
     let event = before

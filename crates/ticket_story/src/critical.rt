@@ -4,7 +4,7 @@ use log_stretches::Course;
 use std::alloc::AllocError;
 use trace_lines::ReportLine;
 
-/// Adds for each report in whose critical set a request stands what that proves, or that there is none.
+/// Adds for each report whose critical set contains the request what that proves, or that there is none.
 pub(crate) fn push_critical(
     story: &mut Story,
     telling: &Telling,

@@ -1,4 +1,5 @@
-//! The story of one request of a log in words: when it came, where it waited and for whom, when it was served and how late.
+//! The story of one request of a log in words: when it came, where it waited and for which others,
+//! when it was served and how late.
 #![tactic(auto)]
 
 mod chapter;

@@ -21,7 +21,7 @@ impl Story {
         }
     }
 
-    /// A line to be written on.
+    /// Begins a line.
     pub(crate) fn line(&self) -> String {
         String::new(self.alloc)
     }
@@ -31,7 +31,7 @@ impl Story {
         Ok(())
     }
 
-    /// Writes the lines at the end; of too many the first ones, and in the last line how many the others are.
+    /// Appends the lines; of too many the first ones, and in the last line the number of the others.
     pub(crate) fn push_to(&self, text: &mut String) -> Result<(), AllocError>
         ensures { OnOk result (AddsStory (string_bytes text.old) (string_bytes text.new)) }
     {

@@ -5,10 +5,11 @@ use log_stretches::{Came, Course, Lane, Stretch};
 use std::alloc::AllocError;
 use std::cmp::Ordering;
 
-/// The most requests of one stay that are told of.
+/// The most requests that are named for one stay.
 const MOST_TOLD: usize = 8;
 
-/// Adds who was granted a slot while a request waited, and why; of many the first ones, and how many the others are.
+/// Adds the requests that were granted a slot while this one waited, and why; of many the first
+/// ones, and the number of the others.
 pub(crate) fn push_overtakings(
     story: &mut Story,
     telling: &Telling,
@@ -38,8 +39,8 @@ pub(crate) fn push_overtakings(
     Ok(())
 }
 
-// Whether an entry grants a slot that who waits in a queue looks for: any from the backend's queue, and the own server's from
-// that server's.
+// Says whether an entry grants a slot that a request in this queue waits for: any slot for the
+// backend's queue, and the own server's for a server's queue.
 fn takes_slot(entry: &Entry, stretch: &Stretch) -> bool {
     let Entry::Granted(ticket, queue, server) = *entry else {
         return false;
@@ -81,7 +82,7 @@ fn add_overtaking(
     story.add(line)
 }
 
-// Why one request goes before another: what of their keys differs first.
+// Writes why one request goes before another: the first difference of their keys.
 fn write_reason(line: &mut String, first: &Arrival, second: &Arrival) -> Result<(), AllocError> {
     match first.key().cmp(&second.key()) {
         Ordering::Less => write_lesser(line, first, second),

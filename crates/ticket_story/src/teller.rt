@@ -12,18 +12,19 @@ use script::Names;
 use std::alloc::{AllocError, Global};
 use trace_lines::ReportLine;
 
-/// What a story is told of.
+/// The subject of a story.
 #[derive(Clone, Copy)]
 pub struct Telling<'a> {
     /// The names of the servers.
     pub names: &'a Names,
-    /// The entries of a log, those of all its windows one after the other.
+    /// The entries of a log, all its windows one after the other.
     pub entries: &'a [Entry],
     pub reports: &'a [ReportLine],
 }
 
-/// Writes the story of a ticket at the end, in at most [`crate::MOST_LINES`] lines; false where the log has no such arrival, and then
-/// nothing is written. After an `Err` a part may stand there. `O(n log n)` in the entries.
+/// Appends the story of a ticket, in at most [`crate::MOST_LINES`] lines. False where the log has
+/// no such arrival, and then nothing is written. After an `Err` a part may stand there. `O(n log
+/// n)` in the entries.
 pub fn push_story(
     alloc: Global,
     text: &mut String,
@@ -74,7 +75,7 @@ fn write_arrival(line: &mut String, moment: Moment, arrival: Arrival) -> Result<
 }
 
 impl<'a> Telling<'a> {
-    /// The name of a queue: `*` is the backend's.
+    /// Returns the name of a queue: `*` is the backend's.
     pub(crate) fn queue(&self, queue: Queue) -> &str {
         match queue {
             Queue::Backend => "*",

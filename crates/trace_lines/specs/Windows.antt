@@ -1,11 +1,11 @@
--- What is told of the reports of a log's first window.
+-- What a trace tells of the reports on a log's first window.
 use Rattle.std.specs.Prelude.{ℕ, ℤ, List, map}
 use Rattle.dispatch_log.specs.declared.queue.Queue.{Queue}
 use Rattle.late_cert.specs.declared.report.Report.{Report}
 use Rattle.readable_log.specs.declared.grant.Stay.{Stay}
 use Rattle.trace_lines.specs.declared.report.ReportLine.{ReportLine}
 
--- what is told of a report; of its critical stays the tickets, in order
+-- the contents of a report's line; of its critical stays the tickets, in order
 pub record Told : Type 0 where
   pub before : ℕ
   pub queue : Queue
@@ -20,7 +20,7 @@ pub record Told : Type 0 where
 abbrev pub ticket_of : Stay → ℕ
 ticket_of stay = stay.ticket
 
--- before the first window no entry stands
+-- the contents for a report on the first window, before which no entry stands
 abbrev pub told_of : Report → Told
 told_of report =
     record {

@@ -9,7 +9,7 @@ use dispatch_log::Entry;
 use proxy_words::Words;
 use verdict::Cause;
 
-/// The decision that a line tells of, by its first word and the words behind it.
+/// Reads the decision of a line, by its first word and the words after it.
 pub(crate) fn decision_of(
     servers: &mut Servers,
     name: &[u8],
@@ -34,7 +34,7 @@ pub(crate) fn decision_of(
     }
 }
 
-// `T`, behind `end`.
+// Reads `T`, after `end`.
 fn ended(words: Words) -> Result<Entry, LineError>
     ensures { IfOk result (λ entry. moment_in entry ≡ None) }
 {
@@ -42,7 +42,7 @@ fn ended(words: Words) -> Result<Entry, LineError>
     Ok(Entry::Ended(ticket))
 }
 
-// `T S`, behind `direct`, `move` or `free`.
+// Reads `T S`, after `direct`, `move` or `free`.
 fn slot_decision(servers: &mut Servers, name: &[u8], words: Words) -> Result<Entry, LineError>
     ensures { IfOk result (λ entry. moment_in entry ≡ None) }
 {
@@ -59,7 +59,7 @@ fn slot_decision(servers: &mut Servers, name: &[u8], words: Words) -> Result<Ent
     }
 }
 
-// `T Q`, behind `join`.
+// Reads `T Q`, after `join`.
 fn joining(servers: &mut Servers, words: Words) -> Result<Entry, LineError>
     ensures { IfOk result (λ entry. moment_in entry ≡ None) }
 {
@@ -68,7 +68,7 @@ fn joining(servers: &mut Servers, words: Words) -> Result<Entry, LineError>
     Ok(Entry::Joined(ticket, queue))
 }
 
-// `T Q S`, behind `grant`.
+// Reads `T Q S`, after `grant`.
 fn grant(servers: &mut Servers, words: Words) -> Result<Entry, LineError>
     ensures { IfOk result (λ entry. moment_in entry ≡ None) }
 {
@@ -78,7 +78,7 @@ fn grant(servers: &mut Servers, words: Words) -> Result<Entry, LineError>
     Ok(Entry::Granted(ticket, queue, server))
 }
 
-// `T S K`, behind `retry`.
+// Reads `T S K`, after `retry`.
 fn retry(servers: &mut Servers, words: Words) -> Result<Entry, LineError>
     ensures { IfOk result (λ entry. moment_in entry ≡ None) }
 {
@@ -88,7 +88,7 @@ fn retry(servers: &mut Servers, words: Words) -> Result<Entry, LineError>
     Ok(Entry::Retried(ticket, server, failures))
 }
 
-// `T CAUSE`, behind `left`.
+// Reads `T CAUSE`, after `left`.
 fn told(words: Words) -> Result<Entry, LineError>
     ensures { IfOk result (λ entry. moment_in entry ≡ None) }
 {
@@ -111,7 +111,7 @@ fn cause_of(word: &[u8]) -> Result<Cause, LineError> {
     }
 }
 
-// `S up` or `S down`, behind `health`.
+// Reads `S up` or `S down`, after `health`.
 fn health_of(servers: &mut Servers, words: Words) -> Result<Entry, LineError>
     ensures { IfOk result (λ entry. moment_in entry ≡ None) }
 {

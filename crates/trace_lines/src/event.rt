@@ -9,7 +9,7 @@ use due_key::{Class, Due, Moment, Offset};
 use proxy_words::{Words, long_number, number, signed_long_number};
 use script::intake_of;
 
-/// The event that a line tells of, by its moment and the words behind it.
+/// Reads the event of a line, by its moment and the words after it.
 pub(crate) fn event_of(
     servers: &mut Servers,
     at: Moment,
@@ -31,7 +31,7 @@ pub(crate) fn event_of(
     }
 }
 
-// `T`, behind `M done`, `M fail` or `M abort`.
+// Reads `T`, after `M done`, `M fail` or `M abort`.
 fn event_of_ticket(moment: Moment, name: &[u8], words: Words) -> Result<Entry, LineError>
     ensures { IfOk result (λ entry. moment_in entry ≡ Some moment) }
 {
@@ -47,7 +47,7 @@ fn event_of_ticket(moment: Moment, name: &[u8], words: Words) -> Result<Entry, L
     }
 }
 
-// `T C D` or `T C D NAME`, behind `M arrive`.
+// Reads `T C D` or `T C D NAME`, after `M arrive`.
 fn arrival(servers: &mut Servers, moment: Moment, mut words: Words) -> Result<Entry, LineError>
     ensures { IfOk result (λ entry. moment_in entry ≡ Some moment) }
 {
@@ -67,7 +67,7 @@ fn arrival(servers: &mut Servers, moment: Moment, mut words: Words) -> Result<En
     Ok(Entry::Arrive(moment, arrival))
 }
 
-// `NAME`, or nothing.
+// Reads `NAME`, or nothing.
 fn pin_of(servers: &mut Servers, mut words: Words) -> Result<Option<u8>, LineError> {
     match (words.next(), words.next()) {
         (None, _) => Ok(None),
@@ -79,7 +79,7 @@ fn pin_of(servers: &mut Servers, mut words: Words) -> Result<Option<u8>, LineErr
     }
 }
 
-// Nothing, behind `M tick`.
+// Reads nothing, after `M tick`.
 fn tick(moment: Moment, words: Words) -> Result<Entry, LineError>
     ensures { IfOk result (λ entry. moment_in entry ≡ Some moment) }
 {
@@ -87,7 +87,7 @@ fn tick(moment: Moment, words: Words) -> Result<Entry, LineError>
     Ok(Entry::Tick(moment))
 }
 
-// `S up` or `S down`, behind `M check`.
+// Reads `S up` or `S down`, after `M check`.
 fn check(servers: &mut Servers, moment: Moment, words: Words) -> Result<Entry, LineError>
     ensures { IfOk result (λ entry. moment_in entry ≡ Some moment) }
 {
@@ -96,7 +96,7 @@ fn check(servers: &mut Servers, moment: Moment, words: Words) -> Result<Entry, L
     Ok(Entry::Check(moment, server, answered))
 }
 
-// `S N` or `S closed`, behind `M limit`.
+// Reads `S N` or `S closed`, after `M limit`.
 fn limit(servers: &mut Servers, moment: Moment, words: Words) -> Result<Entry, LineError>
     ensures { IfOk result (λ entry. moment_in entry ≡ Some moment) }
 {
@@ -113,7 +113,7 @@ fn intake(word: &[u8]) -> Result<Intake, LineError> {
     intake_of(word).ok_or(LineError::Faulty(TraceCause::Form))
 }
 
-/// A number of at most nine digits.
+/// Reads a number of at most nine digits.
 pub(crate) fn small_number(word: &[u8]) -> Result<u32, LineError> {
     number(word).ok_or(LineError::Faulty(TraceCause::Form))
 }
@@ -122,7 +122,7 @@ pub(crate) fn moment_of(word: &[u8]) -> Result<Moment, LineError> {
     Moment::new(ticket(word)?).ok_or(LineError::Faulty(TraceCause::Form))
 }
 
-/// A class within the range of classes.
+/// Reads a class within the range of classes.
 pub(crate) fn class_of(word: &[u8]) -> Result<Class, LineError> {
     let number = signed_number(word)?;
     let class = Class::clamp(number);
@@ -133,7 +133,7 @@ pub(crate) fn class_of(word: &[u8]) -> Result<Class, LineError> {
     }
 }
 
-/// A due date, which is no earlier than the least offset.
+/// Reads a due date, which is no earlier than the least offset.
 pub(crate) fn due_of(word: &[u8]) -> Result<Due, LineError> {
     let number = signed_number(word)?;
     let offset = Offset::clamp(number.min(0));
@@ -152,7 +152,7 @@ pub(crate) fn signed_number(word: &[u8]) -> Result<i64, LineError> {
     signed_long_number(word).ok_or(LineError::Faulty(TraceCause::Form))
 }
 
-/// `up` or `down`.
+/// Reads `up` or `down`.
 pub(crate) fn health(word: &[u8]) -> Result<bool, LineError> {
     match word {
         b"up" => Ok(true),

@@ -1,9 +1,9 @@
 use thiserror::Error;
 
-/// What is wrong with a line of a trace.
+/// The cause of a fault in a trace.
 #[derive(Clone, Copy, Debug, PartialEq, Eq, Error)]
 pub enum TraceCause {
-    /// No line of a trace reads so.
+    /// The line has no form of a trace's lines.
     #[error("no line of a trace")]
     Form,
     /// A moment is earlier than that of the event before it.
@@ -12,10 +12,10 @@ pub enum TraceCause {
     /// A decision or a report stands before the first event.
     #[error("no event stands before it")]
     Place,
-    /// It names one server more than there can be.
+    /// The line names one server more than there can be.
     #[error("a 65th server")]
     Servers,
-    /// The trace as a whole has too many bytes.
+    /// The trace has too many bytes.
     #[error("more than 67108864 bytes")]
     Length,
 }
@@ -23,10 +23,10 @@ pub enum TraceCause {
 /// Why a trace wasn't read.
 #[derive(Clone, Copy, Debug, PartialEq, Eq, Error)]
 pub enum TraceError {
-    /// A growth found no memory.
+    /// The system refused memory.
     #[error("no memory")]
     NoMemory,
-    /// The first faulty line, from 1, and what is wrong with it; line 0 where the trace is too long.
+    /// The first faulty line, from 1, and the cause; line 0 where the trace is too long.
     #[error("trace line {line}: {cause}")]
     Fault { line: usize, cause: TraceCause },
 }
@@ -45,7 +45,7 @@ pub(crate) enum LineError {
 }
 
 impl LineError {
-    /// The same of the line with this number.
+    /// Returns the same error for the line with this number.
     pub(crate) fn on(self, line: usize) -> TraceError {
         match self {
             LineError::NoMemory => TraceError::NoMemory,

@@ -1,14 +1,14 @@
-//! The words of a line, just so many.
+//! A fixed number of words of a line.
 
 use crate::fault::{LineError, TraceCause};
 use proxy_words::Words;
 
-/// The next word of a line, which has one more.
+/// Returns the next word of a line, which must have one.
 pub(crate) fn next<'a>(words: &mut Words<'a>) -> Result<&'a [u8], LineError> {
     words.next().ok_or(LineError::Faulty(TraceCause::Form))
 }
 
-/// No word is left.
+/// Checks that no word is left.
 pub(crate) fn end(mut words: Words) -> Result<(), LineError> {
     match words.next() {
         None => Ok(()),
@@ -16,7 +16,7 @@ pub(crate) fn end(mut words: Words) -> Result<(), LineError> {
     }
 }
 
-/// The one word left.
+/// Returns the only word that is left.
 pub(crate) fn one<'a>(mut words: Words<'a>) -> Result<&'a [u8], LineError> {
     match (words.next(), words.next()) {
         (Some(first), None) => Ok(first),
@@ -24,7 +24,7 @@ pub(crate) fn one<'a>(mut words: Words<'a>) -> Result<&'a [u8], LineError> {
     }
 }
 
-/// The two words left.
+/// Returns the two words that are left.
 pub(crate) fn two<'a>(mut words: Words<'a>) -> Result<(&'a [u8], &'a [u8]), LineError> {
     match (words.next(), words.next(), words.next()) {
         (Some(first), Some(second), None) => Ok((first, second)),
@@ -32,7 +32,7 @@ pub(crate) fn two<'a>(mut words: Words<'a>) -> Result<(&'a [u8], &'a [u8]), Line
     }
 }
 
-/// The three words left.
+/// Returns the three words that are left.
 pub(crate) fn three<'a>(mut words: Words<'a>) -> Result<(&'a [u8], &'a [u8], &'a [u8]), LineError> {
     let Some(first) = words.next() else {
         return Err(LineError::Faulty(TraceCause::Form));

@@ -4,8 +4,9 @@ ghost use Rattle.trace_lines.specs.Kinds.{begins_window, has_roll, is_of_header,
 
 use proxy_words::{Lines, Words};
 
-/// Whether a text is a trace rather than a script, by its first line that only one of them can have; where none is such a
-/// line the two say the same. One pass at most, and mostly a look at the first event.
+/// Says whether a text is a trace and not a script, by its first line that belongs to one kind
+/// alone; a text without such a line means the same as both. At most one pass, and mostly a look at
+/// the first event.
 pub fn is_trace(text: &[u8]) -> bool
     ensures { result ≡ is_trace text.now }
 {
@@ -18,8 +19,8 @@ pub fn is_trace(text: &[u8]) -> bool
     false
 }
 
-/// Whether a line of a script begins with the word that begins a window: its dispatcher then keeps the entries of the last
-/// window alone. One pass.
+/// Says whether a line of a script begins with the word that begins a window: its dispatcher then
+/// keeps the entries of the last window alone. One pass.
 pub fn has_roll(script: &[u8]) -> bool
     ensures { result ≡ has_roll script.now }
 {
@@ -41,7 +42,7 @@ fn begins_window(line: &[u8]) -> bool
     }
 }
 
-// Whether a line is one of a trace alone, or of a script alone.
+// Says whether a line belongs to a trace alone, or to a script alone.
 fn tells(line: &[u8]) -> Option<bool>
     ensures { result ≡ tells (words line.now) }
 {
@@ -56,7 +57,7 @@ fn tells(line: &[u8]) -> Option<bool>
     of_event(words)
 }
 
-// By what stands behind a moment.
+// Decides by the words after a moment.
 fn of_event(mut words: Words) -> Option<bool>
     ensures { result ≡ of_event words.entry }
 {
@@ -68,7 +69,8 @@ fn of_event(mut words: Words) -> Option<bool>
     }
 }
 
-// `C O` is of a script and `T C D NAME` of a trace; both have `C O NAME`, which also reads as `T C D`.
+// `C O` belongs to a script and `T C D NAME` to a trace; both have lines of three words, which read
+// as `C O NAME` or as `T C D`.
 fn of_arrival(mut words: Words) -> Option<bool>
     ensures { result ≡ of_arrival words.entry }
 {

@@ -1,4 +1,4 @@
-//! A trace read back: from its lines to the entries and the reports that they tell of.
+//! The reading of traces: from their lines to the entries and the reports.
 #![tactic(auto)]
 
 mod decision;

@@ -12,10 +12,10 @@ use crate::trace::Trace;
 use proxy_words::{Lines, Words};
 use std::alloc::Global;
 
-/// The greatest length of a trace.
+/// The most bytes of a trace.
 pub const MOST_BYTES: usize = 67_108_864;
 
-/// What was read of a trace so far.
+/// The part of a trace that was read so far.
 #[derive(Drop)]
 struct Reader {
     alloc: Global,
@@ -23,14 +23,15 @@ struct Reader {
     entries: Timed,
     rolls: Vec<usize>,
     reports: Vec<ReportLine>,
-    // How many entries stand before the present window, and before the one that ended last.
+    // The number of entries before the present window, and before the one that ended last.
     start: usize,
     ended: usize,
 }
 
-/// Reads the lines of a trace, where servers of these names are known already. Lines without words and lines whose first byte
-/// is `#` are skipped. The first faulty line is named, with its cause; a trace of more than [`MOST_BYTES`] bytes is at fault
-/// as a whole, as line 0. One pass over the bytes, and over the names for each name.
+/// Reads the lines of a trace, where servers with these names are known already. Lines without
+/// words and lines whose first byte is `#` are skipped. The first faulty line is named, with its
+/// cause; a trace of more than [`MOST_BYTES`] bytes is faulty as a whole, as line 0. One pass over
+/// the bytes, and over the names for each name.
 pub fn read_trace(alloc: Global, names: Vec<String>, text: &[u8]) -> Result<Trace, TraceError>
     ensures { IfOk result (λ trace. IsTimed trace.entries.items) }
 {
@@ -117,7 +118,7 @@ impl Reader {
         }
     }
 
-    // The reports of a window stand behind the roll that ends it, or at the end.
+    // The reports on a window stand after the roll that ends it, or at the end.
     fn take_report(&mut self, words: Words) -> Result<(), LineError> {
         if self.entries.len() == 0 {
             return Err(LineError::Faulty(TraceCause::Place));

@@ -7,18 +7,18 @@ use due_key::{Class, Due};
 use proxy_words::Words;
 use std::alloc::Global;
 
-/// What the line of a report says of the requests of one class that were granted slots from one queue in a window.
+/// The line of a report, on the requests of one class that were granted slots from one queue in a window.
 #[derive(Debug, Drop)]
 pub struct ReportLine {
-    /// How many entries stand before the window.
+    /// The number of entries before the window.
     pub before: usize,
     pub queue: Queue,
     pub class: Class,
-    /// How many requests were granted slots.
+    /// The number of requests that were granted slots.
     pub granted: usize,
     /// The greatest lateness in milliseconds.
     pub worst: i64,
-    /// The due date of the request that is so late.
+    /// The due date of the request with that lateness.
     pub due: Due,
     /// The position of the cut in the window, from 1; 0 where there is none.
     pub after: usize,
@@ -28,7 +28,7 @@ pub struct ReportLine {
     pub critical: Vec<u64>,
 }
 
-/// The report that a line tells of, by the words behind `queue`.
+/// Reads the report of a line, by the words after `queue`.
 pub(crate) fn report_of(
     alloc: Global,
     servers: &mut Servers,
@@ -56,7 +56,7 @@ pub(crate) fn report_of(
     })
 }
 
-// `critical T1 T2 ..`, to the end of the line.
+// Reads `critical T1 T2 ..`, to the end of the line.
 fn critical_of(alloc: Global, mut words: Words) -> Result<Vec<u64>, LineError> {
     if next(&mut words)? != b"critical".as_slice() {
         return Err(LineError::Faulty(TraceCause::Form));
@@ -70,7 +70,7 @@ fn critical_of(alloc: Global, mut words: Words) -> Result<Vec<u64>, LineError> {
     Ok(tickets)
 }
 
-// The word that follows this one.
+// Returns the word after this one, which must come next.
 fn behind<'a>(words: &mut Words<'a>, name: &[u8]) -> Result<&'a [u8], LineError> {
     if next(words)? == name {
         next(words)
@@ -79,7 +79,7 @@ fn behind<'a>(words: &mut Words<'a>, name: &[u8]) -> Result<&'a [u8], LineError>
     }
 }
 
-// The number behind this word.
+// Reads the number after this word.
 fn position(words: &mut Words, name: &[u8]) -> Result<usize, LineError> {
     let number = small_number(behind(words, name)?)?;
     Ok(number as usize)

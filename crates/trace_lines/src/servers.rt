@@ -5,10 +5,10 @@ use script::Names;
 use std::alloc::Global;
 use std::str;
 
-/// The greatest number of servers.
+/// The most servers.
 const MOST_SERVERS: usize = 64;
 
-/// The names of the servers, which get their numbers as they come.
+/// The names of the servers, which get their numbers in the order in which they come.
 #[derive(Drop)]
 pub(crate) struct Servers {
     alloc: Global,
@@ -25,7 +25,7 @@ impl Servers {
         Names::new(list)
     }
 
-    /// The number of the server that a word names. One pass over the names.
+    /// Returns the number of the server that a word names. One pass over the names.
     pub(crate) fn number(&mut self, word: &[u8]) -> Result<usize, LineError> {
         if let Some(server) = self.list.iter().position(|name| name.as_bytes() == word) {
             return Ok(server);
@@ -39,7 +39,7 @@ impl Servers {
         self.add(word)
     }
 
-    /// The queue that a word names: `*` is the backend's.
+    /// Returns the queue that a word names: `*` is the backend's.
     pub(crate) fn queue(&mut self, word: &[u8]) -> Result<Queue, LineError> {
         if word == b"*".as_slice() {
             return Ok(Queue::Backend);

@@ -55,7 +55,7 @@ impl Timed {
         list
     }
 
-    /// Adds an event at this moment, unless that is before the last one's.
+    /// Adds an event at this moment, unless the moment is before the last event's.
     pub(crate) fn note_event(&mut self, moment: Moment, entry: Entry) -> Result<(), LineError>
         requires { moment_in entry ≡ Some moment }
         ensures ok { OnOk result (self.new ≡ self.old ++ entry ∷ []) }

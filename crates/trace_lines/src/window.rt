@@ -9,8 +9,9 @@ use readable_log::Stay;
 use script::Names;
 use std::alloc::{AllocError, Global};
 
-/// What the lines of a log tell whose first window is its only one, without a line being written or read. Arrivals keep their
-/// places, which no line tells. `O(n)` in the entries and the stays of critical sets.
+/// Makes the contents of a trace of a log whose first window is its only one, without writing or
+/// reading a line. Arrivals keep their places, which no line tells. `O(n)` in the entries and the
+/// stays of critical sets.
 pub fn trace_of_window(
     alloc: Global,
     names: Names,

@@ -1,4 +1,4 @@
-//! What `draw` and `explain` look at: a script, which is replayed first, or a trace.
+//! The input of `draw` and `explain`: a script, which is replayed first, or a trace.
 
 ghost use Rattle.std.specs.Prelude.{◌≡◌};
 ghost use Rattle.trace_views.specs.Statuses.{status_of};
@@ -16,10 +16,10 @@ use trace_lines::{
     MOST_BYTES, Trace, TraceCause, TraceError, has_roll, is_trace, read_trace, trace_of_window,
 };
 
-/// How many bytes are read at once.
+/// The number of bytes of one read.
 const PIECE: usize = 65_536;
 
-/// Why there is nothing to look at.
+/// Why there is nothing to show.
 #[derive(Clone, Copy, Debug, PartialEq, Eq, Error)]
 pub enum InputFault {
     #[error("no memory")]
@@ -35,7 +35,8 @@ pub enum InputFault {
 }
 
 impl InputFault {
-    /// The status of a program that had nothing to look at: 1 where memory, a read or a write failed; 5 where the script or the trace is faulty.
+    /// Returns the exit status of a program without anything to show: 1 where memory is refused, or
+    /// a read or a write failed; 5 where the script or the trace is faulty.
     pub fn status(self) -> u8
         ensures { result ≡ status_of self }
     {
@@ -46,7 +47,7 @@ impl InputFault {
     }
 }
 
-/// Reads a script or a trace to its end, and answers what happened.
+/// Reads a script or a trace to its end, and returns the contents of the trace.
 pub(crate) fn read_input<R: Read>(alloc: Global, reader: &mut R) -> Result<Trace, InputFault> {
     let bytes = read_bytes(alloc, reader)?;
     told_by(alloc, &bytes)
@@ -62,19 +63,19 @@ fn told_by(alloc: Global, bytes: &[u8]) -> Result<Trace, InputFault> {
     }
 }
 
-// The windows of a script, by its trace.
+// Returns the contents of a script's trace, with all its windows.
 fn windows_of(alloc: Global, script: &[u8]) -> Result<Trace, InputFault> {
     let trace = replayed(alloc, script)?;
     read_named(alloc, script, &trace)
 }
 
-// A trace whose servers have the names of the script.
+// Reads a trace whose servers have the names of the script.
 fn read_named(alloc: Global, script: &[u8], trace: &[u8]) -> Result<Trace, InputFault> {
     let names = names_in(alloc, script)?;
     read_lines(alloc, names, trace)
 }
 
-// The one window of a script, as its dispatcher has it.
+// Returns the contents of a script with one window, from its dispatcher.
 fn window_of(alloc: Global, script: &[u8]) -> Result<Trace, InputFault> {
     match replay_events(alloc, script) {
         Ok(Replayed { core, names, .. }) => told_of(alloc, &core, names),
@@ -96,7 +97,7 @@ fn told_of(
     }
 }
 
-// One byte more than a trace may have is enough to tell that there are too many.
+// Reads all bytes. One byte more than a trace may have is enough to tell that there are too many.
 fn read_bytes<R: Read>(alloc: Global, reader: &mut R) -> Result<Vec<u8>, InputFault> {
     let mut all = Vec::new(alloc);
     let mut piece = [0u8; PIECE];
@@ -122,7 +123,7 @@ fn read_lines(alloc: Global, names: Vec<String>, bytes: &[u8]) -> Result<Trace, 
     }
 }
 
-// The names of the servers that the header lines of a script declare.
+// Returns the names of the servers that the header lines of a script declare.
 fn names_in(alloc: Global, bytes: &[u8]) -> Result<Vec<String>, InputFault> {
     let header = match script::read(alloc, bytes) {
         Ok((header, _)) => header,
@@ -146,7 +147,7 @@ fn texts_of(alloc: Global, names: &Names) -> Option<Vec<String>> {
     Some(texts)
 }
 
-// The trace of a script.
+// Returns the trace of a script.
 fn replayed(alloc: Global, bytes: &[u8]) -> Result<Vec<u8>, InputFault> {
     let mut rest = bytes;
     let mut trace = Vec::new(alloc);
@@ -159,12 +160,12 @@ fn replayed(alloc: Global, bytes: &[u8]) -> Result<Vec<u8>, InputFault> {
 fn fault_of(fault: Fault) -> InputFault {
     match fault {
         Fault::Script { line } => InputFault::Script { line },
-        // a list of bytes gives all that it has, and takes all that there is memory for
+        // A reader over bytes in memory never fails, and a writer into memory fails only for want of memory.
         Fault::NoMemory | Fault::Read | Fault::Write => InputFault::NoMemory,
     }
 }
 
-/// The queue of this name, if the trace knows it: `*` is the backend's.
+/// Returns the queue with this name, if the trace knows it: `*` is the backend's.
 pub(crate) fn queue_of(names: &Names, name: &str) -> Option<Queue> {
     if name == "*" {
         return Some(Queue::Backend);

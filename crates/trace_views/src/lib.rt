@@ -1,4 +1,5 @@
-//! What `draw` and `explain` do: from a script, which is replayed first, or a trace to its picture or to the story of one ticket.
+//! The commands `draw` and `explain`: from a script, which is replayed first, or a trace to its
+//! picture or to the story of one ticket.
 #![tactic(auto)]
 
 mod input;

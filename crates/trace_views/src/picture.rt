@@ -22,7 +22,8 @@ pub enum DrawFault {
     NoClass,
 }
 
-/// Reads a script or a trace, and writes its picture: of all, or of the requests of one class alone that wait in the queue of this name.
+/// Reads a script or a trace, and writes its picture: of everything, or of the requests of one
+/// class that wait in the queue with this name.
 pub fn draw<R: Read, W: Write>(
     alloc: Global,
     reader: &mut R,
@@ -40,7 +41,7 @@ pub fn draw<R: Read, W: Write>(
     write_picture(alloc, &trace, only, writer)
 }
 
-// The queue and the class of these words, if a request of the class waits in the queue.
+// Returns the queue and the class of these words, if a request of the class waits in the queue.
 fn subject_of(alloc: Global, trace: &Trace, only: &Only) -> Result<(Queue, Class), DrawFault> {
     let Some(queue) = queue_of(&trace.names, only.queue.as_str()) else {
         return Err(DrawFault::NoQueue);

@@ -1,4 +1,4 @@
-//! Of which queues and classes a picture can be.
+//! The queues and classes of which there can be a picture.
 
 use crate::input::{InputFault, read_input};
 use dispatch_log::Queue;
@@ -12,7 +12,8 @@ use trace_lines::Trace;
 /// The most queues and classes that are named.
 const MOST_NAMED: usize = 64;
 
-/// Names the queues and classes of a script or a trace in which requests wait, each as `--of` takes it; nothing where there are none.
+/// Returns the names of the queues and classes of a script or a trace in which requests wait, each
+/// in the form of `--of`; an empty text where there are none.
 pub fn waits_in<R: Read>(alloc: Global, reader: &mut R) -> Result<String, InputFault> {
     let trace = read_input(alloc, reader)?;
     match waits_of(alloc, &trace) {
@@ -41,7 +42,7 @@ fn waits_of(alloc: Global, trace: &Trace) -> Result<String, AllocError> {
     Ok(text)
 }
 
-/// Whether a request of this class waits in this queue.
+/// Says whether a request of this class waits in this queue.
 pub(crate) fn is_waited_in(
     alloc: Global,
     trace: &Trace,
@@ -58,7 +59,7 @@ pub(crate) fn is_waited_in(
     )
 }
 
-// The queue of a stay, by its number, and the request's class.
+// Returns the queue of a stay, by its number, and the request's class.
 fn wait_of(course: &Course, stretch: &Stretch) -> Option<(usize, i64)> {
     let Lane::Queue(queue) = stretch.lane else {
         return None;
@@ -67,7 +68,7 @@ fn wait_of(course: &Course, stretch: &Stretch) -> Option<(usize, i64)> {
     Some((number_of(queue), came.arrival.class.get()))
 }
 
-// The backend's queue is the first, and the servers' follow in their order.
+// The backend's queue is the first one, and the servers' follow in their order.
 fn number_of(queue: Queue) -> usize {
     match queue {
         Queue::Backend => 0,

@@ -5,13 +5,13 @@ use std::fmt;
 /// Why a request leaves the dispatcher without being served.
 #[derive(Clone, Copy, Debug, PartialEq, Eq)]
 pub enum Cause {
-    /// The client went away while the request waited.
+    /// The client left while the request waited.
     Aborted,
-    /// The request waited for `timeout queue`.
+    /// The request waited for the whole of `timeout queue`.
     Timeout,
     /// More tries failed than `retries` allows.
     Retries,
-    /// No server could ever take the request.
+    /// No server is usable.
     NoServer,
 }
 

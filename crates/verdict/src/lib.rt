@@ -1,25 +1,26 @@
-//! The words between the dispatcher and those who carry its decisions out: what a request is
-//! told, and how an exchange with a server ended. No memory, no handle.
+//! The vocabulary between the dispatcher and the code that carries out its decisions: what a
+//! request is told, and how an exchange with a server ended. The crate allocates nothing and uses
+//! no handle.
 #![tactic(auto)]
 
 mod cause;
 
 pub use cause::Cause;
 
-/// What the dispatcher decides of a request that waits no more.
+/// The dispatcher's decision on a request that waits no more.
 #[derive(Clone, Copy, Debug, PartialEq, Eq)]
 pub enum Verdict {
-    /// A slot of this server is the request's. Servers are numbered from 0 in file order.
+    /// The request has a slot of this server. Servers are numbered from 0 in file order.
     Serve(usize),
-    /// The request is dropped, for this cause.
+    /// The request isn't served, for this cause.
     Told(Cause),
 }
 
 /// How an exchange with a server ended.
 #[derive(Clone, Copy, Debug, PartialEq, Eq)]
 pub enum Ending {
-    /// The answer was relayed, or can't be tried again.
+    /// The answer was handed on, or the exchange can't be tried again.
     Done,
-    /// The connection failed before a byte of the request was sent, so that another try is safe.
+    /// The connection failed before a byte of the request was sent, so another try is safe.
     Failed,
 }

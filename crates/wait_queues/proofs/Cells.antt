@@ -195,7 +195,7 @@ module _ (n v : List ℕ) (room : ℕ) (places : List ℕ) (is : IsLinked n v ro
             ∙ is.others place least (λ among. out (Contains-append_left places (p ∷ []) place among));
       }
 
--- so many cells that all lead to themselves hold no places
+-- cells that all lead to themselves hold no places
 pub made : (n v : List ℕ) (room count : ℕ) → count ≡ room + 1 → length n ≡ count → length v ≡ count
     → ((cell : ℕ) → cell < count → get_or n cell 0 ≡ cell) → ((cell : ℕ) → cell < count → get_or v cell 0 ≡ cell) → IsLinked n v room []
 made n v room count all cells back_cells leads leads_back = record {

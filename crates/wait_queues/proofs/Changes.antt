@@ -21,11 +21,13 @@ use Rattle.pend_queue.proofs.Without.{IsAscending-without, IsPermutation-without
 use Rattle.slot_ledger.specs.Counts.{IsQueueOf}
 use Rattle.server_pick.specs.declared.heads.Heads.{Heads}
 use Rattle.wait_queues.specs.declared.waiters.Waiter.{Waiter}
-use Rattle.wait_queues.specs.InQueues.{weight_of, line_weight, AreLinedUp, AreWaiting}
+use Rattle.wait_queues.specs.InQueues.{AreLinedUp, AreWaiting}
 use Rattle.wait_queues.specs.Lines.{Line, Lined, line_at, first_key, with_line, with_moved, gathered}
 use Rattle.wait_queues.specs.Order.{Order, with_places}
 use Rattle.wait_queues.specs.Order.{without as without_place}
 use Rattle.wait_queues.specs.Waitlists.{Waitlist, Waiters, WaitsAt, HasNoKey, IsFirstIn, IsHeadOf, AreFirst, moved_waiter, with_waiter_anew}
+use Rattle.wait_queues.proofs.Held.{line_weight, held}
+use Rattle.wait_queues.proofs.Weights.{weight_of}
 use Rattle.wait_queues.proofs.Lineup.{IsWhole, gathered_whole, server_whole, gathered_up, joined_up, left_up, aside_up, first_in, none_in, waits_line}
 use Rattle.wait_queues.proofs.Lineup.{line_waits}
 use Rattle.list_facts.proofs.Replicated.{index-replicate, none_in_empty}
@@ -215,7 +217,7 @@ none_wait lined ws order servers places queues cells joined =
     subst (λ (l : Lined). AreWaiting l ws order) (sym queues)
     (subst (λ (x : Waiters). AreWaiting start x order) (sym cells) (subst (AreWaiting start (replicate places None)) (sym joined) (record {
       lined_up = record {
-        weighs = by_queue;
+        holds = λ queue within. held start (replicate places None) queue (by_queue queue within);
         ascending = rising;
         moved = tt;
         apart = tt;

@@ -4,6 +4,8 @@ pub mod Cells
 pub mod Lining
 pub mod Queueing
 pub mod Weights
+pub mod Pairs
+pub mod Held
 pub mod Lineup
 pub mod Orders
 pub mod Changes

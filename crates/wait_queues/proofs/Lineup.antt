@@ -1,12 +1,9 @@
 -- The queues while one request begins or stops to wait.
-use Rattle.std.proofs.Common.{◌≡◌, ◌≢◌, ℕ, ◌+◌, ◌<◌, ◌≤◌, ◌==◌, ◌&&◌, Bool, true, false, cond, [], ◌∷◌}
-use Rattle.std.proofs.Common.{◌++◌, Option, None, Some, slice_get, length, Contains, refl, ap, sym, ◌∙◌, subst, arith, inl, inr, Ordering}
-use Rattle.std.proofs.Common.{Less, Equal, Greater, IsPermutation}
+use Rattle.std.proofs.Common.{◌≡◌, ◌≢◌, ℕ, ◌+◌, ◌<◌, ◌≤◌, Bool, true, false, cond, [], ◌∷◌}
+use Rattle.std.proofs.Common.{◌++◌, Option, None, Some, slice_get, length, Contains, refl, ap, sym, ◌∙◌, subst, arith, inl, inr}
+use Rattle.std.proofs.Common.{Greater, IsPermutation}
 use Rattle.std.specs.List.{sum_by}
-use Rattle.std.specs.Ordering.{is_eq}
 use Rattle.std.proofs.Math.ListN.{set, length-set}
-use Rattle.std.proofs.lemmas.Bool.Decides.{Decides-eqb}
-use Rattle.std.proofs.lemmas.Cmp.{tied_itself}
 use Rattle.std.proofs.lemmas.List.Sorted.{sum_by-IsPermutation}
 use Rattle.std.proofs.lemmas.List.Sums.{sum_by-cons, sum_by-append}
 use Rattle.std.proofs.lemmas.Option.{same_Some}
@@ -25,36 +22,13 @@ use Rattle.pend_queue.proofs.Merged.{IsAscending-merged, IsPermutation-merged}
 use Rattle.slot_ledger.specs.Counts.{IsQueueOf}
 use Rattle.dispatch_log.proofs.Choices.{queue_same, queue_own}
 use Rattle.wait_queues.specs.declared.waiters.Waiter.{Waiter}
-use Rattle.wait_queues.specs.InQueues.{weight_at, weight_of, line_weight, AreLinedUp}
+use Rattle.wait_queues.specs.InQueues.{AreLinedUp}
 use Rattle.wait_queues.specs.Lines.{Line, Lined, line_at, with_line, with_moved, gathered}
 use Rattle.wait_queues.specs.Waitlists.{Waiters, WaitsAt, HasNoKey, NoneWaitsIn, IsFirstIn}
 use Rattle.wait_queues.proofs.Lining.{one_or_other, line_own, line_other, lines_kept, room_kept}
 use Rattle.list_facts.proofs.Sums.{sum_has, sum_found, sum_ones}
-use Rattle.wait_queues.proofs.Weights.{weight_set, weight_has, weight_found, weight_most}
-
--- a weight for one pair alone
-pub one_pair : Key → ℕ → Key × ℕ → ℕ
-one_pair key place pair = cond {A = ℕ} (is_eq (key_cmp pair.0 key) && (pair.1 == place)) 1 0
-
-pub its_weight : (key : Key) (place : ℕ) → one_pair key place (key, place) ≡ 1
-unfolding one_pair
-its_weight key place =
-    ap (λ (o : Ordering). cond {A = ℕ} (is_eq o && (place == place)) 1 0) (tied_itself key_cmp_total key)
-    ∙ ap (λ (b : Bool). cond {A = ℕ} b 1 0) ((Decides-eqb place place).1 refl)
-
--- no other pair has a weight
-pub that_pair : (key : Key) (place : ℕ) (pair : Key × ℕ) → 0 < one_pair key place pair → (pair.0 ≡ key) × (pair.1 ≡ place)
-unfolding one_pair
-that_pair key place pair heavy = by_order (key_cmp pair.0 key) refl heavy
-  where
-    by_place : (b : Bool) → (pair.1 == place) ≡ b → 0 < cond {A = ℕ} b 1 0 → pair.1 ≡ place
-    by_place true e h = (Decides-eqb pair.1 place).0 e
-    by_place false e h = absurd (omega (arith, h))
-
-    by_order : (o : Ordering) → key_cmp pair.0 key ≡ o → 0 < cond {A = ℕ} (is_eq o && (pair.1 == place)) 1 0 → (pair.0 ≡ key) × (pair.1 ≡ place)
-    by_order Equal e h = (key_cmp_exact pair.0 key e, by_place (pair.1 == place) refl h)
-    by_order Less e h = absurd (omega (arith, h))
-    by_order Greater e h = absurd (omega (arith, h))
+use Rattle.wait_queues.proofs.Held.{one_pair, its_weight, that_pair, line_weight, weighs, held}
+use Rattle.wait_queues.proofs.Weights.{weight_at, weight_of, weight_set, weight_has, weight_found, weight_most}
 
 -- a queue weighs at least what its line does, and just that where nothing was moved into it
 line_le : (weight : Key × ℕ → ℕ) (lined : Lined) (queue : Queue) → sum_by weight (line_at lined queue) ≤ line_weight weight lined queue
@@ -89,7 +63,7 @@ line_waits lined ws queue key place is within among =
     let one = its_weight key place in
     let some = sum_has (one_pair key place) (line_at lined queue) (key, place) among in
     let all = line_le (one_pair key place) lined queue in
-    let weighs = is.weighs queue within (one_pair key place) in
+    let all_weighs = weighs lined ws is queue within (one_pair key place) in
     found_there ws queue key place (omega arith)
 
 pub moved_waits : (lined : Lined) (ws : Waiters) (key : Key) (place : ℕ) → AreLinedUp lined ws → Contains lined.moved (key, place)
@@ -97,8 +71,8 @@ pub moved_waits : (lined : Lined) (ws : Waiters) (key : Key) (place : ℕ) → A
 moved_waits lined ws key place is among =
     let one = its_weight key place in
     let some = sum_has (one_pair key place) lined.moved (key, place) among in
-    let weighs : sum_by (one_pair key place) lined.backend + sum_by (one_pair key place) lined.moved ≡ weight_of (one_pair key place) Backend 0 ws =
-    is.weighs Backend tt (one_pair key place) in
+    let all_weighs : sum_by (one_pair key place) lined.backend + sum_by (one_pair key place) lined.moved ≡ weight_of (one_pair key place) Backend 0 ws =
+    weighs lined ws is Backend tt (one_pair key place) in
     found_there ws Backend key place (omega arith)
 
 -- who waits is in its queue
@@ -110,7 +84,7 @@ waits_line lined ws place w is whole waits =
     let has = weight_has f w.queue 0 ws place (Some w) waits in
     let here : weight_at f w.queue (0 + place) (Some w) ≡ f (w.key, place) = ap (λ (b : Bool). cond {A = ℕ} b (f (w.key, 0 + place)) 0) (queue_own w.queue)
     ∙ (let e : 0 + place ≡ place = omega arith in ap (λ n. f (w.key, n)) e) in
-    let weighs = is.weighs w.queue (is.within place w waits) f in
+    let all_weighs = weighs lined ws is w.queue (is.within place w waits) f in
     let line = whole f in
     let it = sum_found f (line_at lined w.queue) (omega arith) in
     let same = that_pair w.key place it.0 it.2 in
@@ -120,7 +94,7 @@ waits_line lined ws place w is whole waits =
 -- what was moved is merged
 pub gathered_up : (lined : Lined) (ws : Waiters) → AreLinedUp lined ws → AreLinedUp (gathered lined) ws
 gathered_up lined ws is = record {
-  weighs = by_queue;
+  holds = λ queue within. held (gathered lined) ws queue (by_queue queue within);
   ascending = ascending;
   moved = tt;
   apart = tt;
@@ -131,12 +105,12 @@ gathered_up lined ws is = record {
   where
     by_queue : (queue : Queue) → IsQueueOf (length lined.own) queue → (weight : Key × ℕ → ℕ)
         → line_weight weight (gathered lined) queue ≡ weight_of weight queue 0 ws
-    by_queue (Server s) within weight = is.weighs (Server s) within weight
+    by_queue (Server s) within weight = weighs lined ws is (Server s) within weight
     by_queue Backend within weight =
         let both = sum_by-IsPermutation weight (lined.backend ++ lined.moved) (merged key_cmp lined.backend lined.moved)
         (IsPermutation-merged key_cmp_total lined.backend lined.moved is.moved is.apart) in
         let parts = sum_by-append weight lined.backend lined.moved in
-        let before : sum_by weight lined.backend + sum_by weight lined.moved ≡ weight_of weight Backend 0 ws = is.weighs Backend within weight in
+        let before : sum_by weight lined.backend + sum_by weight lined.moved ≡ weight_of weight Backend 0 ws = weighs lined ws is Backend within weight in
         let none : sum_by weight [] ≡ 0 = refl in
         omega arith
 
@@ -147,8 +121,8 @@ gathered_up lined ws is = record {
 -- there is room for that
 pub gather_room : (lined : Lined) (ws : Waiters) → AreLinedUp lined ws → length lined.backend + length lined.moved ≤ lined.room
 gather_room lined ws is =
-    let weighs : sum_by (λ pair. 1) lined.backend + sum_by (λ pair. 1) lined.moved ≡ weight_of (λ pair. 1) Backend 0 ws =
-    is.weighs Backend tt (λ pair. 1) in
+    let all_weighs : sum_by (λ pair. 1) lined.backend + sum_by (λ pair. 1) lined.moved ≡ weight_of (λ pair. 1) Backend 0 ws =
+    weighs lined ws is Backend tt (λ pair. 1) in
     let most = weight_most Backend 0 ws in
     let one = sum_ones lined.backend in
     let two = sum_ones lined.moved in
@@ -235,7 +209,7 @@ pub join_room : (lined : Lined) (ws : Waiters) (queue : Queue) (p : ℕ) → Are
     → slice_get ws p ≡ Some None → (key : Key) → length (line_at lined queue) < lined.room
 join_room lined ws queue p is within vacant key =
     let w : Waiter = record { key = key; queue = queue; joined = 0 } in
-    let weighs = is.weighs queue within (λ pair. 1) in
+    let all_weighs = weighs lined ws is queue within (λ pair. 1) in
     let some = line_le (λ pair. 1) lined queue in
     let ones = sum_ones (line_at lined queue) in
     let most = weight_most queue 0 (set ws p (Some w)) in
@@ -250,8 +224,8 @@ pub aside_room : (lined : Lined) (ws : Waiters) (p : ℕ) → AreLinedUp lined w
     → length lined.moved < lined.room
 aside_room lined ws p is vacant key =
     let w : Waiter = record { key = key; queue = Backend; joined = 0 } in
-    let weighs : sum_by (λ pair. 1) lined.backend + sum_by (λ pair. 1) lined.moved ≡ weight_of (λ pair. 1) Backend 0 ws =
-    is.weighs Backend tt (λ pair. 1) in
+    let all_weighs : sum_by (λ pair. 1) lined.backend + sum_by (λ pair. 1) lined.moved ≡ weight_of (λ pair. 1) Backend 0 ws =
+    weighs lined ws is Backend tt (λ pair. 1) in
     let ones = sum_ones lined.moved in
     let most = weight_most Backend 0 (set ws p (Some w)) in
     let more = weight_set (λ pair. 1) Backend 0 ws p None (Some w) vacant in
@@ -264,7 +238,8 @@ pub joined_up : (lined : Lined) (ws : Waiters) (p : ℕ) (w : Waiter) → AreLin
     → slice_get ws p ≡ Some None → HasNoKey ws w.key
     → AreLinedUp (with_line lined w.queue (inserted key_cmp (w.key, p) (line_at lined w.queue))) (set ws p (Some w))
 joined_up lined ws p w is none within vacant fresh = record {
-  weighs = λ q its weight. by_queue q (subst (λ n. IsQueueOf n q) (lines_kept lined w.queue line) its) weight;
+  holds = λ q its.
+      held (with_line lined w.queue line) (set ws p (Some w)) q (by_queue q (subst (λ n. IsQueueOf n q) (lines_kept lined w.queue line) its));
   ascending =
       lines_ascend lined w.queue line within is.ascending (IsAscending-inserted key_cmp_total (w.key, p) (line_at lined w.queue) (is.ascending w.queue));
   moved = subst (IsAscending key_cmp) (sym (moved_kept lined w.queue line)) is.moved;
@@ -290,13 +265,13 @@ joined_up lined ws p w is none within vacant fresh = record {
           (IsPermutation-inserted key_cmp (w.key, p) (line_at lined w.queue) (absent_line lined ws w.queue w.key is within fresh)) in
           let cons = sum_by-cons weight (w.key, p) (line_at lined w.queue) in
           let change = line_changed weight lined w.queue new within in
-          let before = is.weighs w.queue within weight in
+          let before = weighs lined ws is w.queue within weight in
           let write = weight_set weight w.queue 0 ws p None (Some w) vacant in
           let own = weight_own weight p w in
           subst (λ (r : Queue). line_weight weight (with_line lined w.queue new) r ≡ weight_of weight r 0 (set ws p (Some w))) (sym e) (omega arith)
       | inr e ↦
           let same = line_unchanged weight lined w.queue q (inserted key_cmp (w.key, p) (line_at lined w.queue)) e in
-          let before = is.weighs q its weight in
+          let before = weighs lined ws is q its weight in
           let write = weight_set weight q 0 ws p None (Some w) vacant in
           let light = weight_other weight q (0 + p) w (λ s. e (sym s)) in
           omega arith
@@ -307,7 +282,7 @@ pub left_up : (lined : Lined) (ws : Waiters) (p : ℕ) (w : Waiter) (rest : Line
     → IsPermutation (line_at lined w.queue) ((w.key, p) ∷ rest) → IsAscending key_cmp rest
     → HaveNoCommonKey key_cmp (with_line lined w.queue rest).backend lined.moved → AreLinedUp (with_line lined w.queue rest) (set ws p None)
 left_up lined ws p w rest is waits parts rises apart = record {
-  weighs = λ q its weight. by_queue q (subst (λ n. IsQueueOf n q) (lines_kept lined w.queue rest) its) weight;
+  holds = λ q its. held (with_line lined w.queue rest) (set ws p None) q (by_queue q (subst (λ n. IsQueueOf n q) (lines_kept lined w.queue rest) its));
   ascending = lines_ascend lined w.queue rest (is.within p w waits) is.ascending rises;
   moved = subst (IsAscending key_cmp) (sym (moved_kept lined w.queue rest)) is.moved;
   apart = subst (HaveNoCommonKey key_cmp (with_line lined w.queue rest).backend) (sym (moved_kept lined w.queue rest)) apart;
@@ -324,13 +299,13 @@ left_up lined ws p w rest is waits parts rises apart = record {
           let less = sum_by-IsPermutation weight (line_at lined w.queue) ((w.key, p) ∷ rest) parts in
           let cons = sum_by-cons weight (w.key, p) rest in
           let change = line_changed weight lined w.queue rest (is.within p w waits) in
-          let before = is.weighs w.queue (is.within p w waits) weight in
+          let before = weighs lined ws is w.queue (is.within p w waits) weight in
           let write = weight_set weight w.queue 0 ws p (Some w) None waits in
           let own = weight_own weight p w in
           subst (λ (r : Queue). line_weight weight (with_line lined w.queue rest) r ≡ weight_of weight r 0 (set ws p None)) (sym e) (omega arith)
       | inr e ↦
           let same = line_unchanged weight lined w.queue q rest e in
-          let before = is.weighs q its weight in
+          let before = weighs lined ws is q its weight in
           let write = weight_set weight q 0 ws p (Some w) None waits in
           let light = weight_other weight q (0 + p) w (λ s. e (sym s)) in
           omega arith
@@ -341,7 +316,7 @@ pub aside_up : (lined : Lined) (ws : Waiters) (p : ℕ) (w : Waiter) → AreLine
     → HasNoKey ws w.key
     → AreLinedUp (with_moved lined (inserted key_cmp (w.key, p) lined.moved)) (set ws p (Some w))
 aside_up lined ws p w is backend vacant fresh = record {
-  weighs = by_queue;
+  holds = λ q its. held (with_moved lined (inserted key_cmp (w.key, p) lined.moved)) (set ws p (Some w)) q (by_queue q its);
   ascending = by_line;
   moved = IsAscending-inserted key_cmp_total (w.key, p) lined.moved is.moved;
   apart =
@@ -363,7 +338,7 @@ aside_up lined ws p w is backend vacant fresh = record {
     by_queue : (q : Queue) → IsQueueOf (length lined.own) q → (weight : Key × ℕ → ℕ)
         → line_weight weight (with_moved lined (inserted key_cmp (w.key, p) lined.moved)) q ≡ weight_of weight q 0 (set ws p (Some w))
     by_queue (Server s) its weight =
-        let before = is.weighs (Server s) its weight in
+        let before = weighs lined ws is (Server s) its weight in
         let write = weight_set weight (Server s) 0 ws p None (Some w) vacant in
         let light = weight_other weight (Server s) (0 + p) w (λ same. let e : Backend ≡ Server s = sym backend ∙ same in cc) in
         omega arith
@@ -371,7 +346,7 @@ aside_up lined ws p w is backend vacant fresh = record {
         let more = sum_by-IsPermutation weight ((w.key, p) ∷ lined.moved) (inserted key_cmp (w.key, p) lined.moved)
         (IsPermutation-inserted key_cmp (w.key, p) lined.moved (absent_moved lined ws w.key is fresh)) in
         let cons = sum_by-cons weight (w.key, p) lined.moved in
-        let before : sum_by weight lined.backend + sum_by weight lined.moved ≡ weight_of weight Backend 0 ws = is.weighs Backend tt weight in
+        let before : sum_by weight lined.backend + sum_by weight lined.moved ≡ weight_of weight Backend 0 ws = weighs lined ws is Backend tt weight in
         let write = weight_set weight Backend 0 ws p None (Some w) vacant in
         let own : weight_at weight Backend (0 + p) (Some w) ≡ weight (w.key, p) =
         subst (λ (q : Queue). weight_at weight q (0 + p) (Some w) ≡ weight (w.key, p)) backend (weight_own weight p w) in

@@ -1,11 +1,12 @@
 -- Pairs that were sorted are the line of the queue that they were taken from.
 use Rattle.std.proofs.Common.{◌≡◌, ◌≢◌, ℕ, suc, ◌+◌, ◌<◌, ◌≤◌, false, cond, [], ◌∷◌, Contains, length}
-use Rattle.std.proofs.Common.{refl, ap, sym, ◌∙◌, subst, arith, Ordering, Less, Equal, Greater}
+use Rattle.std.proofs.Common.{refl, ap, sym, ◌∙◌, subst, arith, Ordering, Less, Equal, Greater, IsPermutation}
 use Rattle.std.specs.List.{sum_by}
 use Rattle.std.specs.List.Sorted.{IsSortedByKey}
 use Rattle.std.specs.Ordering.{is_eq, is_lt}
 use Rattle.std.proofs.Math.ListN.{get_or}
 use Rattle.std.proofs.lemmas.Cmp.{tied_itself}
+use Rattle.std.proofs.lemmas.List.Sorted.{sum_by-IsPermutation}
 use Rattle.std.proofs.lemmas.List.Sums.{sum_by-cons}
 use Rattle.std.proofs.lemmas.Option.{same_Some}
 use Rattle.due_key.specs.declared.key.Key.{Key}
@@ -14,30 +15,19 @@ use Rattle.due_key.proofs.KeyOrder.{key_cmp_total, key_cmp_exact}
 use Rattle.dispatch_log.specs.declared.queue.Queue.TheVariants.{Backend, Server}
 use Rattle.list_facts.proofs.Members.{all_weaker}
 use Rattle.list_facts.proofs.Orders.{less_from_greater}
-use Rattle.list_facts.proofs.Sums.{sum_has, sum_found, sum_ones}
+use Rattle.list_facts.proofs.Sums.{sum_ones}
 use Rattle.pend_queue.specs.Pairs.{IsAscending, IsAbsent}
 use Rattle.pend_queue.proofs.Ascending.{apart_from_members, same_from_members}
 use Rattle.pend_queue.proofs.Without.{absent_after}
 use Rattle.wait_queues.specs.declared.falls.Fall.{Fall}
 use Rattle.wait_queues.specs.declared.waiters.Waiter.{Waiter}
 use Rattle.wait_queues.specs.Falls.{IsFalling}
-use Rattle.wait_queues.specs.InQueues.{weight_of, AreLinedUp}
+use Rattle.wait_queues.specs.InQueues.{pairs_in, AreLinedUp}
 use Rattle.wait_queues.specs.Lines.{Line, Lined, line_at}
 use Rattle.wait_queues.specs.Waitlists.{Waiters, WaitsAt}
-use Rattle.wait_queues.proofs.Lineup.{one_pair, its_weight, that_pair, line_waits, moved_waits}
-use Rattle.wait_queues.proofs.Weights.{weight_both}
-
--- lists that weigh the same have the same pairs
-members : (xs ys : Line) → ((weight : Key × ℕ → ℕ) → sum_by weight xs ≡ sum_by weight ys) → (p : Key × ℕ) → Contains xs p → Contains ys p
-members xs ys alike p among =
-    let f = one_pair p.0 p.1 in
-    let one = its_weight p.0 p.1 in
-    let some = sum_has f xs p among in
-    let same = alike f in
-    let it = sum_found f ys (omega arith) in
-    let is = that_pair p.0 p.1 it.0 it.2 in
-    let pair : it.0 ≡ p = ap (λ (k : Key). (k, it.0.1)) is.0 ∙ ap (λ n. (p.0, n)) is.1 in
-    subst (Contains ys) pair it.1
+use Rattle.wait_queues.proofs.Held.{members, pairs_weight, weighs}
+use Rattle.wait_queues.proofs.Lineup.{line_waits, moved_waits}
+use Rattle.wait_queues.proofs.Weights.{weight_of, weight_both}
 
 -- how many pairs have a key
 hit : Key → Key × ℕ → ℕ
@@ -105,7 +95,7 @@ same_line xs ys sorted up alike =
 
 -- a server begins to fall
 pub begun : (lined : Lined) (ws : Waiters) (fall : Fall) → AreLinedUp lined ws → fall.server < length lined.own → line_at lined (Server fall.server) ≢ []
-    → fall.told ≡ 0 → ((weight : Key × ℕ → ℕ) → sum_by weight fall.sorted.items ≡ weight_of weight (Server fall.server) 0 ws)
+    → fall.told ≡ 0 → IsPermutation (pairs_in (Server fall.server) 0 ws) fall.sorted.items
     → IsSortedByKey (λ pair. pair.0) key_cmp fall.sorted.items → IsFalling lined fall
 begun lined ws fall is within somebody none pairs sorted = record {
   within = within;
@@ -117,9 +107,12 @@ begun lined ws fall is within somebody none pairs sorted = record {
   room = room;
 }
   where
+    pairs_alike : (weight : Key × ℕ → ℕ) → sum_by weight fall.sorted.items ≡ weight_of weight (Server fall.server) 0 ws
+    pairs_alike weight = sum_by-IsPermutation weight (pairs_in (Server fall.server) 0 ws) fall.sorted.items pairs ∙ pairs_weight weight (Server fall.server) 0 ws
+
     known : fall.sorted.items ≡ line_at lined (Server fall.server)
     known = same_line fall.sorted.items (line_at lined (Server fall.server)) sorted (is.ascending (Server fall.server))
-        (λ weight. pairs weight ∙ sym (is.weighs (Server fall.server) within weight))
+        (λ weight. pairs_alike weight ∙ sym (weighs lined ws is (Server fall.server) within weight))
 
     left : (items : Line) → fall.sorted.items ≡ items → fall.told < length fall.sorted.items
     left [] e = absurd (somebody (sym known ∙ e))
@@ -138,8 +131,8 @@ begun lined ws fall is within somebody none pairs sorted = record {
 
     room : length lined.moved + length fall.sorted.items ≤ lined.room
     room =
-        let moved : sum_by (λ pair. 1) lined.backend + sum_by (λ pair. 1) lined.moved ≡ weight_of (λ pair. 1) Backend 0 ws = is.weighs Backend tt (λ pair. 1) in
-        let own = pairs (λ pair. 1) in
+        let moved : sum_by (λ pair. 1) lined.backend + sum_by (λ pair. 1) lined.moved ≡ weight_of (λ pair. 1) Backend 0 ws = weighs lined ws is Backend tt (λ pair. 1) in
+        let own = pairs_alike (λ pair. 1) in
         let both = weight_both fall.server 0 ws in
         let one = sum_ones lined.moved in
         let two = sum_ones fall.sorted.items in

@@ -1,33 +1,30 @@
 -- What lists of pairs and of waiting requests weigh.
-use Rattle.std.proofs.Common.{◌≡◌, ℕ, zero, suc, ◌+◌, ◌<◌, ◌≤◌, Bool, true, false, cond, [], ◌∷◌, take, Option, None}
-use Rattle.std.proofs.Common.{Some, slice_get, length, refl, ap, subst, ◌∙◌, arith}
-use Rattle.std.proofs.Math.ListN.{get_or, set}
+use Rattle.std.proofs.Common.{◌≡◌, ℕ, suc, ◌+◌, ◌<◌, ◌≤◌, Bool, true, false, cond, [], ◌∷◌, Option, None}
+use Rattle.std.proofs.Common.{Some, slice_get, length, refl, ap, subst, arith}
+use Rattle.std.proofs.Math.ListN.{set}
 use Rattle.due_key.specs.declared.key.Key.{Key}
 use Rattle.dispatch_log.specs.declared.queue.Queue.{Queue}
 use Rattle.dispatch_log.specs.declared.queue.Queue.TheVariants.{Backend, Server}
 use Rattle.dispatch_log.specs.Rows.{same_queue}
 use Rattle.list_facts.proofs.Positions.{item_stands, stands_item, along-set, along_le, along_found, along_length}
 use Rattle.wait_queues.specs.declared.waiters.Waiter.{Waiter}
-use Rattle.wait_queues.specs.InQueues.{weight_at, weight_of}
 use Rattle.wait_queues.specs.Waitlists.{Waiters, WaitsAt}
+use Rattle.list_facts.specs.Weights.{along}
+
+-- what the request at a place weighs in a queue, where a pair of key and place has a weight
+abbrev pub weight_at : (Key × ℕ → ℕ) → Queue → ℕ → Option Waiter → ℕ
+weight_at weight queue place None = 0
+weight_at weight queue place (Some waiter) = cond (same_queue queue waiter.queue) (weight (waiter.key, place)) 0
+
+-- what the requests from a place on weigh in a queue together
+abbrev pub weight_of : (Key × ℕ → ℕ) → Queue → ℕ → Waiters → ℕ
+weight_of weight queue = along (weight_at weight queue)
 
 module _ (weight : Key × ℕ → ℕ) (queue : Queue) where
   -- the weight of a write
   pub weight_set : (at : ℕ) (ws : Waiters) (p : ℕ) (old new : Option Waiter) → slice_get ws p ≡ Some old
       → weight_of weight queue at (set ws p new) + weight_at weight queue (at + p) old ≡ weight_of weight queue at ws + weight_at weight queue (at + p) new
   weight_set at ws p old new stood = along-set (weight_at weight queue) ws at p (at + p) old new refl (item_stands ws p old stood)
-
-  -- the weight of the first ones and one more
-  pub weight_more : (at : ℕ) (ws : Waiters) (p : ℕ) (cell : Option Waiter) → p < length ws → cell ≡ get_or ws p cell
-      → weight_of weight queue at (take (suc p) ws) ≡ weight_of weight queue at (take p ws) + weight_at weight queue (at + p) cell
-  weight_more at [] p cell within stands = absurd (omega (arith, within))
-  weight_more at (w ∷ ws) zero cell within stands =
-      let here : weight_at weight queue (at + zero) cell ≡ weight_at weight queue at w =
-      ap (weight_at weight queue (at + zero)) stands ∙ (let e : at + zero ≡ at = omega arith in ap (λ n. weight_at weight queue n w) e) in omega arith
-  weight_more at (w ∷ ws) (suc p) cell within stands =
-      let rest = weight_more (suc at) ws p cell (omega arith) stands in
-      let place : suc at + p ≡ at + suc p = omega arith in
-      let same = ap (λ n. weight_at weight queue n cell) place in omega arith
 
   -- none weighs more than all
   pub weight_has : (at : ℕ) (ws : Waiters) (p : ℕ) (cell : Option Waiter) → slice_get ws p ≡ Some cell

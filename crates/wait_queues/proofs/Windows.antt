@@ -1,24 +1,23 @@
 -- The queues where those that wait joined before the log's first entry.
-use Rattle.std.proofs.Common.{◌≡◌, ℕ, zero, suc, ◌+◌, [], ◌∷◌, None, Some, option_map, map, length, refl, ap, sym, ◌∙◌, subst}
+use Rattle.std.proofs.Common.{◌≡◌, ℕ, zero, suc, [], ◌∷◌, ◌++◌, None, Some, option_map, map, length, refl, ap, sym, ◌∙◌, subst, IsPermutation}
 use Rattle.std.proofs.lemmas.List.{length-map}
 use Rattle.std.proofs.lemmas.Option.{same_Some}
-use Rattle.due_key.specs.declared.key.Key.{Key}
 use Rattle.dispatch_log.specs.declared.queue.Queue.{Queue}
 use Rattle.slot_ledger.specs.Counts.{IsQueueOf}
 use Rattle.wait_queues.specs.declared.waiters.Waiter.{Waiter}
-use Rattle.wait_queues.specs.InQueues.{weight_at, weight_of, AreLinedUp, AreWaiting}
-use Rattle.wait_queues.specs.Lines.{Lined}
+use Rattle.wait_queues.specs.InQueues.{pair_in, pairs_in, held_in, AreLinedUp, AreWaiting}
+use Rattle.wait_queues.specs.Lines.{Line, Lined}
 use Rattle.wait_queues.specs.Order.{Order}
 use Rattle.wait_queues.specs.Waitlists.{Waiters, WaitsAt, since_before}
 
 abbrev from_start : Waiter → Waiter
 from_start waiter = record { key = waiter.key; queue = waiter.queue; joined = 0 }
 
--- they weigh the same
-same_weight : (weight : Key × ℕ → ℕ) (queue : Queue) (at : ℕ) (ws : Waiters) → weight_of weight queue at (map since_before ws) ≡ weight_of weight queue at ws
-same_weight weight queue at [] = refl
-same_weight weight queue at (None ∷ ws) = ap (λ n. 0 + n) (same_weight weight queue (suc at) ws)
-same_weight weight queue at (Some w ∷ ws) = ap (λ n. weight_at weight queue at (Some w) + n) (same_weight weight queue (suc at) ws)
+-- they have the same pairs
+same_pairs : (queue : Queue) (at : ℕ) (ws : Waiters) → pairs_in queue at (map since_before ws) ≡ pairs_in queue at ws
+same_pairs queue at [] = refl
+same_pairs queue at (None ∷ ws) = same_pairs queue (suc at) ws
+same_pairs queue at (Some w ∷ ws) = ap (λ (l : Line). pair_in queue at (Some w) ++ l) (same_pairs queue (suc at) ws)
 
 -- and wait at the same places
 still_waits : (ws : Waiters) (place : ℕ) (w : Waiter) → WaitsAt ws place w → WaitsAt (map since_before ws) place (from_start w)
@@ -34,7 +33,7 @@ waited (x ∷ ws) (suc place) v stood = waited ws place v stood
 
 lined_before : (lined : Lined) (ws : Waiters) → AreLinedUp lined ws → AreLinedUp lined (map since_before ws)
 lined_before lined ws is = record {
-  weighs = λ queue within weight. is.weighs queue within weight ∙ sym (same_weight weight queue 0 ws);
+  holds = λ queue within. subst (λ (l : Line). IsPermutation l (held_in lined queue)) (sym (same_pairs queue 0 ws)) (is.holds queue within);
   ascending = is.ascending;
   moved = is.moved;
   apart = is.apart;

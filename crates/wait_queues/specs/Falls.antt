@@ -9,16 +9,17 @@ use Rattle.wait_queues.specs.Lines.{Lined, line_at, fallen}
 use Rattle.wait_queues.specs.Order.{Order}
 use Rattle.wait_queues.specs.Waitlists.{Waiters}
 
--- the server of which some were moved, where there are any
+-- the server of whose queue some requests, but not all, were moved, if there is one
 abbrev pub falling_server : ℕ → ℕ → Option ℕ
 falling_server server zero = None
 falling_server server (suc told) = Some server
 
--- the queues where those that were moved of a falling server's count as moved
+-- the queues in which the requests that a falling server has already lost count as moved
 abbrev pub lines_in : Lined → Fall → Lined
 lines_in lined fall = fallen lined fall.server fall.told
 
--- A server falls: the pairs of its queue are known by rising key, so many of them were moved, and others not yet. There is room for all of them among those that were moved before.
+-- A server falls: the pairs of its queue are listed by rising key; the first `told` of them were
+-- moved, and others weren't yet. There is room for all of them in the queue of moved requests.
 pub record IsFalling (lined : Lined) (fall : Fall) : Type 0 where
   pub within : fall.server < length lined.own
   pub known : fall.sorted.items ≡ line_at lined (Server fall.server)
@@ -32,7 +33,8 @@ pub record IsFalling (lined : Lined) (fall : Fall) : Type 0 where
 abbrev pub MayFall : Lined → Fall → Type 0
 MayFall lined fall = fall.told ≢ 0 → IsFalling lined fall
 
--- the requests that wait are in the queues, with a fall under way or none, and a fall has room for the pairs of all
+-- the waiting requests are in the queues, with or without a fall under way, and a fall has room for
+-- the pairs of all places
 pub record AreKept (lined : Lined) (fall : Fall) (waiters : Waiters) (order : Order) : Type 0 where
   pub waiting : AreWaiting (lines_in lined fall) waiters order
   pub falling : MayFall lined fall

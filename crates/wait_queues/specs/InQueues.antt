@@ -1,37 +1,36 @@
 -- How the waiting requests are kept in queues.
-use Rattle.std.specs.Prelude.{◌≡◌, ℕ, ◌+◌, Option, None, Some, length, if◌then◌else◌}
-use Rattle.std.specs.List.{sum_by}
-use Rattle.due_key.specs.declared.key.Key.{Key}
+use Rattle.std.specs.Prelude.{◌≡◌, ℕ, suc, [], ◌∷◌, ◌++◌, Option, None, Some, length, if◌then◌else◌}
+use Rattle.std.specs.List.Sorted.{IsPermutation}
 use Rattle.due_key.specs.Order.{key_cmp}
 use Rattle.dispatch_log.specs.declared.queue.Queue.{Queue}
 use Rattle.dispatch_log.specs.declared.queue.Queue.TheVariants.{Backend, Server}
 use Rattle.dispatch_log.specs.Rows.{same_queue}
-use Rattle.list_facts.specs.Weights.{along}
 use Rattle.pend_queue.specs.Pairs.{IsAscending, HaveNoCommonKey}
 use Rattle.slot_ledger.specs.Counts.{IsQueueOf}
 use Rattle.wait_queues.specs.declared.waiters.Waiter.{Waiter}
-use Rattle.wait_queues.specs.Lines.{Lined, line_at}
+use Rattle.wait_queues.specs.Lines.{Line, Lined, line_at}
 use Rattle.wait_queues.specs.Order.{Order}
 use Rattle.wait_queues.specs.Waitlists.{Waiters, WaitsAt, IsOrderOf}
 
--- what the request at a place weighs in a queue, where a pair of key and place has a weight
-abbrev pub weight_at : (Key × ℕ → ℕ) → Queue → ℕ → Option Waiter → ℕ
-weight_at weight queue place None = 0
-weight_at weight queue place (Some waiter) = if same_queue queue waiter.queue then weight (waiter.key, place) else 0
+-- the key of the request at a place, with the place, where it waits in a queue
+abbrev pub pair_in : Queue → ℕ → Option Waiter → Line
+pair_in queue place None = []
+pair_in queue place (Some waiter) = if same_queue queue waiter.queue then (waiter.key, place) ∷ [] else []
 
--- what the requests from a place on weigh in a queue together
-abbrev pub weight_of : (Key × ℕ → ℕ) → Queue → ℕ → Waiters → ℕ
-weight_of weight queue = along (weight_at weight queue)
+-- the keys of the requests that wait in a queue, each with its place, from a place on
+abbrev pub pairs_in : Queue → ℕ → Waiters → Line
+pairs_in queue place [] = []
+pairs_in queue place (waiter ∷ later) = pair_in queue place waiter ++ pairs_in queue (suc place) later
 
--- what a queue weighs, the backend's with what was moved into it
-abbrev pub line_weight : (Key × ℕ → ℕ) → Lined → Queue → ℕ
-line_weight weight lined Backend = sum_by weight lined.backend + sum_by weight lined.moved
-line_weight weight lined (Server server) = sum_by weight (line_at lined (Server server))
+-- what a queue holds, the backend's with what was moved into it
+abbrev pub held_in : Lined → Queue → Line
+held_in lined Backend = lined.backend ++ lined.moved
+held_in lined (Server server) = line_at lined (Server server)
 
--- the queues hold the keys of those that wait in them with their places, whatever a pair weighs
+-- each queue holds the keys of those that wait in it with their places, in some order, and each of its parts by rising key;
+-- no key is in both parts of the backend's queue, and no two requests have one key
 pub record AreLinedUp (lined : Lined) (waiters : Waiters) : Type 0 where
-  pub weighs : (queue : Queue) → IsQueueOf (length lined.own) queue → (weight : Key × ℕ → ℕ)
-      → line_weight weight lined queue ≡ weight_of weight queue 0 waiters
+  pub holds : (queue : Queue) → IsQueueOf (length lined.own) queue → IsPermutation (pairs_in queue 0 waiters) (held_in lined queue)
   pub ascending : (queue : Queue) → IsAscending key_cmp (line_at lined queue)
   pub moved : IsAscending key_cmp lined.moved
   pub apart : HaveNoCommonKey key_cmp lined.backend lined.moved
@@ -40,7 +39,7 @@ pub record AreLinedUp (lined : Lined) (waiters : Waiters) : Type 0 where
   pub own_keys : (place other : ℕ) (waiter its : Waiter) → WaitsAt waiters place waiter → WaitsAt waiters other its → waiter.key ≡ its.key
       → place ≡ other
 
--- the requests that wait are in the queues, and in the order in which they joined
+-- the waiting requests are in the queues, and in the order in which they joined
 pub record AreWaiting (lined : Lined) (waiters : Waiters) (order : Order) : Type 0 where
   pub lined_up : AreLinedUp lined waiters
   pub order_room : order.room ≡ length waiters

@@ -6,22 +6,23 @@ use Rattle.dispatch_log.specs.declared.queue.Queue.{Queue}
 use Rattle.dispatch_log.specs.declared.queue.Queue.TheVariants.{Backend, Server}
 use Rattle.pend_queue.specs.Pairs.{merged}
 
--- what a queue holds: keys with places
+-- the content of a queue: keys with places
 abbrev pub Line : Type 0
 Line = List (Key × ℕ)
 
--- the first key of a queue, where it has one
+-- the first key of a queue, if there is one
 abbrev pub first_key : Line → Option Key
 first_key line = option_map (λ pair. pair.0) (slice_get line 0)
 
--- the servers' queues, the backend's, what was moved into it and isn't merged yet, and the room of each
+-- the servers' queues, the backend's, the requests that were moved into it and aren't merged yet,
+-- and the room of each
 pub record Lined : Type 0 where
   pub own : List Line
   pub backend : Line
   pub moved : Line
   pub room : ℕ
 
--- the same, how many links the backend's queue has made, and how many all of them have
+-- the queues, the number of links that the backend's queue has made, and that of all queues
 pub record Queued : Type 0 where
   pub own : List Line
   pub backend : Line
@@ -34,12 +35,12 @@ pub record Queued : Type 0 where
 abbrev pub lines_of : Queued → Lined
 lines_of queued = record { own = queued.own; backend = queued.backend; moved = queued.moved; room = queued.room }
 
--- what is in one of the queues
+-- the content of one of the queues
 abbrev pub line_at : Lined → Queue → Line
 line_at lined Backend = lined.backend
 line_at lined (Server server) = slice_index_or lined.own server []
 
--- the same with something else in one of them
+-- the queues with another content in one of them
 abbrev pub with_line : Lined → Queue → Line → Lined
 with_line lined Backend line = record { own = lined.own; backend = line; moved = lined.moved; room = lined.room }
 with_line lined (Server server) line = record { own = slice_set lined.own server line; backend = lined.backend; moved = lined.moved; room = lined.room }
@@ -47,15 +48,15 @@ with_line lined (Server server) line = record { own = slice_set lined.own server
 abbrev pub with_moved : Lined → Line → Lined
 with_moved lined line = record { own = lined.own; backend = lined.backend; moved = line; room = lined.room }
 
--- the same once what was moved is merged
+-- the queues after the moved requests are merged
 abbrev pub gathered : Lined → Lined
 gathered lined = record { own = lined.own; backend = merged key_cmp lined.backend lined.moved; moved = []; room = lined.room }
 
--- the same once a server's queue is merged whole into what was moved
+-- the queues after a server's queue is merged as a whole into the moved requests
 abbrev pub taken_over : Lined → ℕ → Lined
 taken_over lined server = with_moved (with_line lined (Server server) []) (merged key_cmp lined.moved (line_at lined (Server server)))
 
--- the same where the first so many of a server's queue count as moved
+-- the queues where the first requests of a server's queue, this many, count as moved
 abbrev pub fallen : Lined → ℕ → ℕ → Lined
 fallen lined server count =
     let line = line_at lined (Server server) in

@@ -1,4 +1,4 @@
--- How an order is kept: each cell leads to the next one, and back to the one before.
+-- How an order is kept: each cell leads to the next one, and back to the one before it.
 use Rattle.std.specs.Prelude.{◌≡◌, ℕ, zero, suc, ◌+◌, ◌<◌, ◌==◌, List, [], ◌∷◌, length, Contains, slice_index, if◌then◌else◌}
 use Rattle.list_facts.specs.Once.{ComeOnce}
 
@@ -7,7 +7,7 @@ abbrev pub AreLinked : (ℕ → ℕ) → (ℕ → ℕ) → ℕ → List ℕ → 
 AreLinked next previous from [] to = (next from ≡ to) × (previous to ≡ from)
 AreLinked next previous from (place ∷ later) to = (next from ≡ place) × (previous place ≡ from) × AreLinked next previous place later to
 
--- the cells that a walk from one on passes before it comes to the end, in at most so many steps
+-- the cells that a walk passes before the end, in at most this many steps
 abbrev pub walk : (ℕ → ℕ) → ℕ → ℕ → ℕ → List ℕ
 walk next end zero at = []
 walk next end (suc steps) at = if at == end then [] else at ∷ walk next end steps (next at)

@@ -2,12 +2,12 @@
 use Rattle.std.specs.Prelude.{ℕ, ◌<◌, ◌==◌, not, List, [], ◌∷◌, Option, None, Contains, filter, slice_get, if◌then◌else◌}
 use Rattle.list_facts.specs.Once.{ComeOnce}
 
--- the places, the one that joined first at the front, and below which number each is
+-- the places, the one that joined first at the front, and the bound of all places
 pub record Order : Type 0 where
   pub places : List ℕ
   pub room : ℕ
 
--- no place comes twice, and each is below the room
+-- no place stands twice, and each is below the room
 pub record IsOrder (order : Order) : Type 0 where
   pub once : ComeOnce order.places
   pub below : (place : ℕ) → Contains order.places place → place < order.room
@@ -16,7 +16,7 @@ pub record IsOrder (order : Order) : Type 0 where
 abbrev pub without : ℕ → List ℕ → List ℕ
 without place places = filter (λ other. not (other == place)) places
 
--- the place that follows one
+-- the place after one
 abbrev pub next_after : ℕ → List ℕ → Option ℕ
 next_after place [] = None
 next_after place (other ∷ later) = if other == place then slice_get later 0 else next_after place later

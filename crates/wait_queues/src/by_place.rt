@@ -2,7 +2,7 @@ ghost use Rattle.std.specs.Prelude.{◌≡◌, ◌<◌, IfOk, None, length, repl
 
 use std::alloc::{AllocError, Global};
 
-/// So many empty cells. `O(n)`.
+/// Makes this number of empty cells. `O(n)`.
 pub(crate) fn empty<T: Drop>(alloc: Global, cells: usize) -> Result<Vec<Option<T>>, AllocError>
     ensures { IfOk result (λ made. made.items ≡ replicate cells None) }
 {
@@ -13,7 +13,7 @@ pub(crate) fn empty<T: Drop>(alloc: Global, cells: usize) -> Result<Vec<Option<T
     Ok(made)
 }
 
-/// Puts something else into a cell.
+/// Replaces the content of a cell.
 pub(crate) fn put<T: Drop>(cells: &mut Vec<Option<T>>, at: usize, item: Option<T>)
     requires { at < length cells.old.items }
     ensures { cells.new.items ≡ slice_set cells.old.items at item }
@@ -21,7 +21,7 @@ pub(crate) fn put<T: Drop>(cells: &mut Vec<Option<T>>, at: usize, item: Option<T
     cells[at] = item;
 }
 
-/// Takes out what is in a cell.
+/// Takes the content out of a cell.
 pub(crate) fn take<T: Drop>(cells: &mut Vec<Option<T>>, at: usize) -> Option<T>
     requires { at < length cells.old.items }
     ensures taken { slice_get cells.old.items at ≡ Some result }

@@ -1,15 +1,14 @@
 //! Servers that fall: the requests of a queue are moved one after the other by rising key, and the
 //! queue itself is merged as a whole.
-ghost use Rattle.std.specs.Prelude.{◌≡◌, ◌≢◌, ◌⊎◌, ◌+◌, ◌<◌, ◌≤◌, ℕ, [], Some, IfOk, length, drop, slice_get, vec_capacity};
-ghost use Rattle.std.specs.List.{sum_by};
-ghost use Rattle.std.specs.List.Sorted.{IsSortedByKey};
+ghost use Rattle.std.specs.Prelude.{◌≡◌, ◌≢◌, ◌⊎◌, ◌+◌, ◌<◌, ◌≤◌, ℕ, [], ◌∷◌, Some, IfOk, length, drop, slice_get, vec_capacity};
+ghost use Rattle.std.specs.List.Sorted.{IsPermutation, IsSortedByKey};
 ghost use Rattle.std.specs.Option.{option_map_or};
 ghost use Rattle.due_key.specs.declared.key.Key.{Key};
 ghost use Rattle.due_key.specs.Order.{key_cmp};
 ghost use Rattle.dispatch_log.specs.declared.queue.Queue.TheVariants.{Server};
 ghost use Rattle.pend_queue.specs.Pairs.{inserted};
 ghost use Rattle.wait_queues.specs.Falls.{lines_in, IsFalling, MayFall};
-ghost use Rattle.wait_queues.specs.InQueues.{AreLinedUp, weight_at, weight_of};
+ghost use Rattle.wait_queues.specs.InQueues.{AreLinedUp, pair_in, pairs_in};
 ghost use Rattle.wait_queues.specs.Lines.{lines_of, line_at, with_line, with_moved};
 
 use crate::queues::Queues;
@@ -19,18 +18,18 @@ use due_key::Key;
 use pend_queue::PendQueue;
 use std::alloc::{AllocError, Global};
 
-/// The server that fell last, and what is known of its queue while its requests are moved.
+/// The server that fell last, and the content of its queue while its requests are moved.
 #[derive(Drop)]
 pub(crate) struct Fall {
     pub(crate) server: usize,
     // The pairs of its queue, by rising key.
     pub(crate) sorted: Vec<(Key, usize)>,
-    // How many of these were moved; 0 unless others weren't yet.
+    // The number of these that were moved; 0 unless others weren't moved yet.
     pub(crate) told: usize,
 }
 
 impl Fall {
-    /// No server falls. Takes the memory for the pairs of all places.
+    /// Makes the state without a fall. It allocates the memory for the pairs of all places.
     pub(crate) fn none(alloc: Global, places: usize) -> Result<Fall, AllocError>
         ensures told { IfOk result (λ fall. fall.told ≡ 0) }
         ensures room { IfOk result (λ fall. places ≤ vec_capacity fall.sorted) }
@@ -42,13 +41,13 @@ impl Fall {
         })
     }
 
-    // Begins with a server of whose queue none was moved. `O(p + n log n)` in the places and those
-    // in its queue.
+    // Begins the fall of a server, before any of its requests is moved. `O(p + n log n)` in the
+    // places and the requests in its queue.
     fn begin(&mut self, server: usize, waiters: &[Option<Waiter>])
         requires { length waiters.now ≤ vec_capacity self.old.sorted }
         ensures server { self.new.server ≡ server }
         ensures told { self.new.told ≡ 0 }
-        ensures pairs { (weight : Key × ℕ → ℕ) → sum_by weight self.new.sorted.items ≡ weight_of weight (Server server) 0 waiters.now }
+        ensures pairs { IsPermutation (pairs_in (Server server) 0 waiters.now) self.new.sorted.items }
         ensures sorted { IsSortedByKey (λ pair. pair.0) key_cmp self.new.sorted.items }
         ensures capacity { vec_capacity self.new.sorted ≡ vec_capacity self.old.sorted }
     {
@@ -59,10 +58,10 @@ impl Fall {
     }
 }
 
-// The pairs of all that wait in a server's queue.
+// Collects the pairs of all requests that wait in a server's queue.
 fn collect(pairs: &mut Vec<(Key, usize)>, server: usize, waiters: &[Option<Waiter>])
     requires { length waiters.now ≤ vec_capacity pairs.old }
-    ensures pairs { (weight : Key × ℕ → ℕ) → sum_by weight pairs.new.items ≡ weight_of weight (Server server) 0 waiters.now }
+    ensures pairs { pairs.new.items ≡ pairs_in (Server server) 0 waiters.now }
     ensures capacity { vec_capacity pairs.new ≡ vec_capacity pairs.old }
 {
     pairs.clear();
@@ -73,9 +72,9 @@ fn collect(pairs: &mut Vec<(Key, usize)>, server: usize, waiters: &[Option<Waite
     }
 }
 
-// The key of who waits in a server's queue.
+// Returns the key of the request, if it waits in a server's queue.
 fn key_in(cell: Option<Waiter>, server: usize) -> Option<Key>
-    ensures { (weight : Key × ℕ → ℕ) (place : ℕ) → weight_at weight (Server server) place cell ≡ option_map_or (λ key. weight (key, place)) result 0 }
+    ensures { (place : ℕ) → pair_in (Server server) place cell ≡ option_map_or (λ key. (key, place) ∷ []) result [] }
 {
     let waiter = cell?;
     match waiter.queue {
@@ -84,8 +83,8 @@ fn key_in(cell: Option<Waiter>, server: usize) -> Option<Key>
     }
 }
 
-/// Ends a fall of which some weren't moved yet: those that were leave the queue one by one. While the
-/// requests of a queue are moved in a row this never happens.
+/// Ends a fall of which some requests weren't moved yet: those that were leave the queue one by
+/// one. This never happens while the requests of a queue are moved in a row.
 pub(crate) fn settle<Q: PendQueue<Key, usize>>(queues: &mut Queues<Q>, fall: &mut Fall)
     requires { MayFall (lines_of queues.old) fall.old }
     ensures moved { lines_of queues.new ≡ lines_in (lines_of queues.old) fall.old }
@@ -101,8 +100,8 @@ pub(crate) fn settle<Q: PendQueue<Key, usize>>(queues: &mut Queues<Q>, fall: &mu
     fall.told = 0;
 }
 
-/// Looks at the queue of a server, in which somebody is, to move its requests. `O(1)` where some of
-/// them were moved, and else `O(p + n log n)` in the places and those in the queue.
+/// Looks at the queue of a server, which isn't empty, to move its requests. `O(1)` where some of
+/// them were moved, otherwise `O(p + n log n)` in the places and the requests in the queue.
 pub(crate) fn look_at<Q: PendQueue<Key, usize>>(
     queues: &mut Queues<Q>,
     fall: &mut Fall,
@@ -127,7 +126,7 @@ pub(crate) fn look_at<Q: PendQueue<Key, usize>>(
     }
 }
 
-/// Moves the next request of the server that falls, and answers its pair. The last one takes the
+/// Moves the next request of the server that falls, and returns its pair. The last one takes the
 /// queue along, as a whole.
 pub(crate) fn tell<Q: PendQueue<Key, usize>>(
     queues: &mut Queues<Q>,

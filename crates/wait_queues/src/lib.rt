@@ -1,5 +1,6 @@
-//! The requests that wait: the queue of each server and the backend's, by key, with the order in
-//! which they joined and where in the log each did. All memory is taken when they are made.
+//! The waiting requests: the queue of each server and the backend's, by key, with the order in
+//! which they joined and the position in the log where each did. All memory is allocated when they
+//! are made.
 #![tactic(auto)]
 
 mod by_place;

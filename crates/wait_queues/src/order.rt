@@ -26,8 +26,8 @@ impl Model for JoinOrder {
 }
 
 impl JoinOrder {
-    /// An empty order of the places below `room`, refused only where memory is short: so always for
-    /// `usize::MAX` places, which take one cell more than can be counted. `O(n)`.
+    /// Makes an empty order of the places below `room`. Fails only where memory is refused; so
+    /// always for `usize::MAX` places, which take one cell more than can be counted. `O(n)`.
     pub fn with_room(alloc: Global, room: usize) -> Result<JoinOrder, AllocError>
         ensures { IfOk result (λ made. made ≡ record { places = []; room = room }) }
     {
@@ -47,14 +47,14 @@ impl JoinOrder {
         })
     }
 
-    /// Whether a place is in the order. `O(1)`.
+    /// Says whether a place is in the order. `O(1)`.
     pub fn contains(&self, place: usize) -> bool
         ensures { IsTrue result ↔ Contains self.now.places place }
     {
         place < self.room && self.next[place] != place
     }
 
-    /// The place that joined first. `O(1)`.
+    /// Returns the place that joined first. `O(1)`.
     pub fn first(&self) -> Option<usize>
         ensures first { result ≡ slice_get self.now.places 0 }
         ensures order { IsOrder self.now }
@@ -63,7 +63,7 @@ impl JoinOrder {
         if at == self.room { None } else { Some(at) }
     }
 
-    /// The place that joined next after this one. `O(1)`.
+    /// Returns the place that joined next after this one. `O(1)`.
     pub fn after(&self, place: usize) -> Option<usize>
         requires { Contains self.now.places place }
         ensures { result ≡ next_after place self.now.places }
@@ -72,7 +72,7 @@ impl JoinOrder {
         if at == self.room { None } else { Some(at) }
     }
 
-    /// Puts a place at the end. `O(1)`.
+    /// Appends a place. `O(1)`.
     pub fn append(&mut self, place: usize)
         requires room { place < self.old.room }
         requires absent { ¬ (Contains self.old.places place) }
@@ -95,7 +95,7 @@ impl JoinOrder {
     }
 }
 
-// Links two cells, forth and back.
+// Links two cells in both directions.
 fn link(next: &mut Vec<usize>, previous: &mut Vec<usize>, from: usize, to: usize)
     requires from { from < vec_len next.old }
     requires to { to < vec_len previous.old }

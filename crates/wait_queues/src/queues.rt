@@ -15,8 +15,8 @@ use std::marker::Model;
 pub(crate) struct Queues<Q: PendQueue<Key, usize>> {
     own: Vec<Q>,
     backend: Q,
-    // Requests that were moved into the backend's queue and aren't merged into it yet: the queues of
-    // servers that fell, each merged as a whole.
+    // The requests that were moved into the backend's queue and aren't merged into it yet: the
+    // queues of servers that fell, each merged as a whole.
     moved: Q,
     places: usize,
 }
@@ -37,7 +37,7 @@ impl<Q: PendQueue<Key, usize>> Queues<Q> {
     ghost use Rattle.wait_queues.specs.Lines.{lines_of, line_at, first_key, with_line, with_moved, gathered, taken_over};
     ghost use Rattle.pend_queue.specs.Pairs.{IsAbsent, HaveNoCommonKey, inserted, pair_at, without};
 
-    /// Empty queues of so many servers and of the backend.
+    /// Makes empty queues for this number of servers and the backend.
     pub(crate) fn new(alloc: Global, servers: usize, places: usize) -> Result<Queues<Q>, AllocError>
         ensures { IfOk result (λ queues. lines_of queues ≡ record { own = replicate servers []; backend = []; moved = []; room = places }) }
     {
@@ -53,7 +53,7 @@ impl<Q: PendQueue<Key, usize>> Queues<Q> {
         })
     }
 
-    /// The least keys of a server's queue and of the backend's.
+    /// Returns the least keys of a server's queue and of the backend's.
     pub(crate) fn heads(&self, server: usize) -> Heads
         requires { server < length self.now.own }
         ensures own { result.own ≡ first_key (line_at (lines_of self.now) (Server server)) }
@@ -65,7 +65,7 @@ impl<Q: PendQueue<Key, usize>> Queues<Q> {
         }
     }
 
-    /// Puts a request in a queue.
+    /// Inserts a request into a queue.
     pub(crate) fn push(&mut self, queue: Queue, node: Q::Node)
         requires within { IsQueueOf (length self.old.own) queue }
         requires room { length (line_at (lines_of self.old) queue) < self.old.room }
@@ -78,7 +78,7 @@ impl<Q: PendQueue<Key, usize>> Queues<Q> {
         }
     }
 
-    /// Takes the first request out of a queue.
+    /// Takes out the first request of a queue.
     pub(crate) fn pop(&mut self, queue: Queue) -> Option<Q::Node>
         requires { IsQueueOf (length self.old.own) queue }
         ensures links { queue ≢ Backend → self.new.links ≡ self.old.links }
@@ -91,7 +91,7 @@ impl<Q: PendQueue<Key, usize>> Queues<Q> {
         }
     }
 
-    /// Takes the request of a key out of a queue.
+    /// Takes out the request with a key.
     pub(crate) fn remove(&mut self, queue: Queue, key: &Key) -> Option<Q::Node>
         requires { IsQueueOf (length self.old.own) queue }
         ensures its { option_map Q.pair_of result ≡ pair_at key_cmp key.now (line_at (lines_of self.old) queue) }
@@ -103,7 +103,7 @@ impl<Q: PendQueue<Key, usize>> Queues<Q> {
         }
     }
 
-    /// Keeps a request that was moved apart, until those are merged.
+    /// Keeps a moved request apart until the moved ones are merged.
     pub(crate) fn set_aside(&mut self, node: Q::Node)
         requires room { length self.old.moved < self.old.room }
         requires absent { IsAbsent key_cmp (Q.pair_of node).0 self.old.moved }
@@ -113,7 +113,7 @@ impl<Q: PendQueue<Key, usize>> Queues<Q> {
         self.moved.push(node);
     }
 
-    /// Whether nobody is in a server's queue.
+    /// Says whether a server's queue is empty.
     pub(crate) fn is_empty(&self, server: usize) -> bool
         requires { server < length self.now.own }
         ensures { IsTrue result ↔ (line_at (lines_of self.now) (Server server) ≡ []) }
@@ -121,7 +121,7 @@ impl<Q: PendQueue<Key, usize>> Queues<Q> {
         self.own[server].is_empty()
     }
 
-    /// Merges the queue of a server that fell into those that were moved.
+    /// Merges the queue of a server that fell into the moved requests.
     pub(crate) fn take_over(&mut self, server: usize)
         requires within { server < length self.old.own }
         requires room { length self.old.moved + length (line_at (lines_of self.old) (Server server)) ≤ self.old.room }
@@ -135,7 +135,7 @@ impl<Q: PendQueue<Key, usize>> Queues<Q> {
         self.moved.merge(&mut self.own[server]);
     }
 
-    /// Merges those that were moved into the backend's queue.
+    /// Merges the moved requests into the backend's queue.
     pub(crate) fn gather(&mut self)
         requires room { length self.old.backend + length self.old.moved ≤ self.old.room }
         requires apart { HaveNoCommonKey key_cmp self.old.backend self.old.moved }

@@ -16,7 +16,7 @@ use server_pick::Heads;
 use std::alloc::{AllocError, Global};
 use std::marker::Model;
 
-/// The requests that wait.
+/// The waiting requests.
 #[derive(Drop)]
 pub struct WaitQueues<Q: PendQueue<Key, usize>> {
     queues: Queues<Q>,
@@ -50,9 +50,9 @@ impl<Q: PendQueue<Key, usize>> Model for WaitQueues<Q> {
 impl<Q: PendQueue<Key, usize>> WaitQueues<Q> {
     ghost use Rattle.wait_queues.specs.declared.waiters.Waiter.{Waiter};
 
-    /// Nobody waits, in the queues of so many servers and in the backend's, each with room for all
-    /// places. `O(s n)` in the servers and places. Beside the queues a place takes 32 bytes for the
-    /// pair that it may have in a queue whose server falls.
+    /// Makes empty queues for this number of servers and the backend, each with room for all
+    /// places. `O(s n)` in the servers and places. Beside the queues a place takes 32 bytes for its
+    /// pair in a queue whose server falls.
     pub fn new(alloc: Global, servers: usize, places: usize) -> Result<WaitQueues<Q>, AllocError>
         ensures nobody { IfOk result (λ made. list_of made ≡ record { waiters = replicate places None; order = []; servers = servers }) }
         ensures falling { IfOk result (λ made. made.falling ≡ None) }
@@ -65,7 +65,7 @@ impl<Q: PendQueue<Key, usize>> WaitQueues<Q> {
         })
     }
 
-    /// The request at a place waits from now on. The queue's own cost beside `O(1)`.
+    /// Lets the request at a place wait. The queue's own cost beside `O(1)`.
     pub fn join(&mut self, place: usize, waiter: Waiter, node: Q::Node)
         requires vacant { slice_get self.old.waiters place ≡ Some None }
         requires within { IsQueueOf self.old.servers waiter.queue }
@@ -81,7 +81,7 @@ impl<Q: PendQueue<Key, usize>> WaitQueues<Q> {
         self.order.append(place);
     }
 
-    /// The keys of the first requests of a server's queue and of the backend's. The queues' own cost.
+    /// Returns the keys of the first requests of a server's queue and of the backend's. The queues' own cost.
     pub fn heads(&mut self, server: usize) -> Heads
         requires { server < self.old.servers }
         ensures heads { AreFirst server result (list_of self.new) }
@@ -95,8 +95,8 @@ impl<Q: PendQueue<Key, usize>> WaitQueues<Q> {
         self.queues.heads(server)
     }
 
-    /// Takes the first request of a queue out; the queue's own cost beside `O(1)`. None only where
-    /// nobody waits in it.
+    /// Takes out the first request of a queue; the queue's own cost beside `O(1)`. `None` only
+    /// where the queue is empty.
     pub fn take(&mut self, queue: Queue) -> Option<Taken<Q::Node>>
         requires { IsQueueOf self.old.servers queue }
         ensures first { MatchOption result (NoneWaitsIn queue self.old.waiters) (λ it. IsFirstIn queue self.old.waiters it.place it.waiter) }
@@ -121,7 +121,7 @@ impl<Q: PendQueue<Key, usize>> WaitQueues<Q> {
         })
     }
 
-    /// The request at a place waits no more. The queue's own cost beside `O(1)`.
+    /// Ends the wait of the request at a place. The queue's own cost beside `O(1)`.
     pub fn leave(&mut self, place: usize) -> Q::Node
         requires { (waiter : Waiter) × WaitsAt self.old.waiters place waiter }
         ensures pair { (waiter : Waiter) × WaitsAt self.old.waiters place waiter × (Q.pair_of result ≡ (waiter.key, place)) }
@@ -141,17 +141,18 @@ impl<Q: PendQueue<Key, usize>> WaitQueues<Q> {
     }
 
     /// Moves the first request of a server's queue into the backend's, by the entry at a position
-    /// of the log, and answers its place. While all of a queue are moved one after the other the
-    /// first costs `O(p + n log n)` in the places and those in the queue, and each other one `O(1)`;
-    /// the queue is merged as a whole, and the backend's with it at the next call that looks at it.
+    /// of the log, and returns its place. While all requests of a queue are moved one after the
+    /// other, the first one costs `O(p + n log n)` in the places and the requests in the queue, and
+    /// each other one `O(1)`; the queue is merged as a whole, and with the backend's at the next
+    /// call that looks at that one.
     pub fn shift(&mut self, server: usize, joined: usize) -> Option<usize>
         requires { server < self.old.servers }
         ensures shifted { MatchOption result (NoneWaitsIn (Server server) self.old.waiters × (list_of self.new ≡ list_of self.old)) (λ place. (waiter : Waiter) × IsFirstIn (Server server) self.old.waiters place waiter × (list_of self.new ≡ with_waiter_anew (list_of self.old) place (moved_waiter waiter joined))) }
 
-        // Nothing is put into the backend's queue yet.
+        // Nothing is inserted into the backend's queue yet.
         ensures links { self.new.links ≡ self.old.links }
 
-        // No request is taken out of its queue by itself.
+        // No request is taken out of its queue on its own.
         ensures whole { FallsAlone server self.old → MatchOption result (self.new.all_links ≡ self.old.all_links) (λ place. MovesWhole Q.links_of_merge self.old self.new) }
         ensures falling { FallsAlone server self.old → FallsAlone server self.new }
     {
@@ -166,7 +167,7 @@ impl<Q: PendQueue<Key, usize>> WaitQueues<Q> {
         Some(place)
     }
 
-    /// The log begins anew: all that wait joined before its first entry. `O(n)` in the places.
+    /// Begins a new log: all waiting requests joined before its first entry. `O(n)` in the places.
     pub fn begin_window(&mut self)
         ensures window { list_of self.new ≡ in_next_window (list_of self.old) }
         ensures links { self.new.links ≡ self.old.links }
@@ -175,7 +176,7 @@ impl<Q: PendQueue<Key, usize>> WaitQueues<Q> {
         forget_joinings(&mut self.waiters);
     }
 
-    /// The place of the request that joined first, of all queues. `O(1)`.
+    /// Returns the place of the request that joined first, of all queues. `O(1)`.
     pub fn oldest(&self) -> Option<usize>
         ensures oldest { result ≡ slice_get self.now.order 0 }
         ensures order { IsOrderOf self.now.waiters self.now.order }
@@ -183,7 +184,7 @@ impl<Q: PendQueue<Key, usize>> WaitQueues<Q> {
         self.order.first()
     }
 
-    /// The place of the request that joined next after the one at a place. `O(1)`.
+    /// Returns the place of the request that joined next after the one at a place. `O(1)`.
     pub fn after(&self, place: usize) -> Option<usize>
         requires { Contains self.now.order place }
         ensures { result ≡ next_after place self.now.order }
@@ -192,7 +193,7 @@ impl<Q: PendQueue<Key, usize>> WaitQueues<Q> {
     }
 }
 
-/// A request in the backend's queue.
+/// Makes a request in the backend's queue.
 fn moved(key: Key, joined: usize) -> Waiter
     ensures { result ≡ record { key = key; queue = Queue.Backend; joined = joined } }
 {
@@ -203,7 +204,7 @@ fn moved(key: Key, joined: usize) -> Waiter
     }
 }
 
-/// All that wait joined before the first entry of the log.
+/// Notes that all waiting requests joined before the first entry of the log.
 fn forget_joinings(waiters: &mut Vec<Option<Waiter>>)
     ensures { waiters.new.items ≡ map since_before waiters.old.items }
 {
@@ -212,7 +213,7 @@ fn forget_joinings(waiters: &mut Vec<Option<Waiter>>)
     }
 }
 
-/// Who waits at a place joined before the first entry of the log.
+/// Notes that the request at a place joined before the first entry of the log.
 fn joined_before(cell: Option<Waiter>) -> Option<Waiter>
     ensures { result ≡ since_before cell }
 {

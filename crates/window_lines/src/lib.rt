@@ -1,4 +1,5 @@
-//! What is printed of windows: the reports of each one that ended, and at the end a line for each server of what it was given in all of them.
+//! The texts of windows: the reports of each one that ended, and at the end a line for each server
+//! with its sums over all windows.
 #![tactic(auto)]
 
 mod sums;

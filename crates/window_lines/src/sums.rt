@@ -5,7 +5,8 @@ use reporting_core::ServerLine;
 use std::alloc::{AllocError, Global};
 use std::marker::Model;
 
-/// What each server was given in the windows so far, and whether it was up at the end of the last one. Each number stays at its greatest value once it has it.
+/// The number of requests that each server was given in the windows so far, and whether it was up
+/// at the end of the last one. Each number saturates at its greatest value.
 #[derive(Debug, Drop)]
 pub struct Sums {
     lines: Vec<ServerLine>,
@@ -21,7 +22,7 @@ impl Model for Sums {
 }
 
 impl Sums {
-    /// Of no window, for so many servers.
+    /// Makes the sums over no window, for this number of servers.
     pub fn new(alloc: Global, servers: usize) -> Result<Sums, AllocError>
         ensures { IfOk result (λ sums. sums ≡ nothing_for servers) }
     {
@@ -35,14 +36,14 @@ impl Sums {
         })
     }
 
-    /// A line for each server in file order.
+    /// Returns a line for each server in file order.
     pub fn lines(&self) -> &[ServerLine]
         ensures { result.now ≡ self.now }
     {
         self.lines.as_slice()
     }
 
-    /// One window more, of which these are the servers' lines.
+    /// Adds one more window with these lines of the servers.
     pub fn add(&mut self, lines: &[ServerLine])
         ensures { self.new ≡ with_window lines.now self.old }
     {
@@ -64,7 +65,7 @@ fn add_each(sums: &mut [ServerLine], lines: &[ServerLine])
     add_each(sums, lines);
 }
 
-// The sum of a server, and a line of it more.
+// Returns the sum of a server with one more line of it.
 fn with_line(line: ServerLine, sum: ServerLine) -> ServerLine
     ensures { result ≡ with_line line sum }
 {

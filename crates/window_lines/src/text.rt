@@ -8,8 +8,8 @@ use reporting_core::ServerLine;
 use script::{Names, push_reports};
 use std::alloc::{AllocError, Global};
 
-/// Writes the line of a window and those of its reports at the end. Behind the number stands `span`: nothing, or when the window was. After an `Err` a part of them
-/// may stand there.
+/// Appends the line of a window and those of its reports. After the number stands `span`: nothing,
+/// or the time of the window. After an `Err` some of them may stand there.
 pub fn push_window(
     text: &mut String,
     names: &Names,
@@ -23,7 +23,7 @@ pub fn push_window(
     push_reports(text, names, reports)
 }
 
-/// Writes a line for each server at the end, in file order. After an `Err` a part of them may stand there.
+/// Appends a line for each server, in file order. After an `Err` some of them may stand there.
 #[tactic(auto, unfolding(crate::specs::Texts::servers_text))]
 pub fn push_servers(
     text: &mut String,
@@ -50,7 +50,7 @@ fn push_server(text: &mut String, name: &str, line: &ServerLine) -> Result<(), A
     )
 }
 
-/// What is printed at the end: a line for each server, summed over all windows, and the reports of the last one.
+/// Returns the text at the end: a line for each server, summed over all windows, and the reports of the last one.
 pub fn end_text(
     alloc: Global,
     names: &Names,

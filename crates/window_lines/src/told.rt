@@ -14,19 +14,19 @@ pub enum TellFault {
     Write,
 }
 
-/// The windows that ended.
+/// The windows that ended, in numbers.
 #[derive(Debug, Drop)]
 pub struct Told {
-    /// How many. It stays at its greatest value once it has it.
+    /// The number of windows, which saturates at its greatest value.
     pub windows: u64,
-    /// What each server was given in them.
+    /// The number of requests that each server was given in them.
     pub sums: Sums,
-    /// Why the last one that couldn't be printed couldn't.
+    /// Why the last window that failed to be printed did.
     pub fault: Option<TellFault>,
 }
 
 impl Told {
-    /// None so far.
+    /// Makes the numbers before any window.
     pub fn new(sums: Sums) -> Told
         ensures { (result.windows ≡ 0) × (result.sums ≡ sums) × (result.fault ≡ None) }
     {
@@ -37,7 +37,7 @@ impl Told {
         }
     }
 
-    /// One more, of which these are the servers' lines. Its number is how many there are now.
+    /// Counts one more window with these lines of the servers. Its number is the count afterwards.
     pub fn count(&mut self, lines: &[ServerLine])
         ensures windows { self.new.windows ≡ plus self.old.windows 1 }
         ensures sums { self.new.sums ≡ with_window lines.now self.old.sums }
@@ -47,7 +47,7 @@ impl Told {
         self.sums.add(lines);
     }
 
-    /// One couldn't be printed.
+    /// Notes that a window couldn't be printed.
     pub fn fail(&mut self, fault: TellFault)
         ensures { self.new ≡ record self.old { fault = Some fault } }
     {

@@ -13,15 +13,15 @@ use std::collections::VecDeque;
 use std::mem;
 use window_lines::{Sums, TellFault, Told};
 
-/// So many windows wait to be printed, at most.
+/// The most windows that wait to be printed.
 const MOST: usize = 16;
 
-/// A window that is to be printed.
+/// A window to be printed.
 #[derive(Debug, Drop)]
 pub struct Numbered {
-    /// Windows count from 1 in the order in which they were handed over.
+    /// The number of the window, counted from 1 in the order in which they were handed over.
     pub number: u64,
-    /// When the one before ended, and when this one did.
+    /// When the window before it ended, and when this one did.
     pub began: Moment,
     pub ended: Moment,
     pub reports: Reports,
@@ -32,7 +32,7 @@ pub struct Numbered {
 pub struct Handed {
     told: Told,
     waiting: VecDeque<Numbered>,
-    /// So many were left out, of which nobody was told.
+    /// The number of windows that were left out and not reported yet.
     left_out: u64,
     /// When the last one ended.
     ended: Moment,
@@ -41,7 +41,7 @@ pub struct Handed {
 }
 
 impl Handed {
-    /// None so far, of so many servers. It takes the memory for all that may wait.
+    /// Makes the empty state, for this number of servers. It allocates the memory for all windows that may wait.
     pub fn new(alloc: Global, servers: usize) -> Result<Handed, AllocError>
         ensures counted { IfOk result (λ it. (it.told.windows ≡ 0) × (it.told.sums ≡ nothing_for servers)) }
         ensures waiting { IfOk result (λ it. (it.waiting.items ≡ []) × (it.left_out ≡ 0) × (it.is_over ≡ false)) }
@@ -58,7 +58,8 @@ impl Handed {
         })
     }
 
-    /// One more, which ended at this moment: it counts, and it waits to be printed, behind the others. Where 16 wait already, it is left out.
+    /// Adds a window that ended at this moment: it is counted, and waits to be printed, after the
+    /// others. Where 16 wait already, it is left out.
     pub fn hand_over(&mut self, window: Window, ended: Moment)
         ensures windows { self.new.told.windows ≡ plus self.old.told.windows 1 }
         ensures sums { self.new.told.sums ≡ with_window window.servers.items self.old.told.sums }
@@ -85,7 +86,7 @@ impl Handed {
         self.ended = ended;
     }
 
-    /// The first of those that wait, which waits no more.
+    /// Takes the first one of those that wait.
     pub fn next(&mut self) -> Option<Numbered>
         ensures first { self.old.waiting.items ≡ option_to_list result ++ self.new.waiting.items }
         ensures same { (self.new.told ≡ self.old.told) × (self.new.left_out ≡ self.old.left_out) × (self.new.ended ≡ self.old.ended) × (self.new.is_over ≡ self.old.is_over) }
@@ -93,42 +94,42 @@ impl Handed {
         self.waiting.pop_front()
     }
 
-    /// Whether none waits, and more may come.
+    /// Says whether none waits, and more may come.
     pub fn rests(&self) -> bool
         ensures { IsTrue result ↔ ((length self.now.waiting.items ≡ 0) × (self.now.is_over ≡ false)) }
     {
         self.waiting.is_empty() && !self.is_over
     }
 
-    /// How many were left out since it was last asked.
+    /// Returns how many were left out since the last call.
     pub fn take_left_out(&mut self) -> u64
         ensures { (result ≡ self.old.left_out) × (self.new ≡ record self.old { left_out = 0 }) }
     {
         mem::replace(&mut self.left_out, 0)
     }
 
-    /// One that waited found no room where it was to be printed.
+    /// Notes that a window that waited found no room where it was to be printed.
     pub fn leave_out(&mut self)
         ensures { self.new ≡ record self.old { left_out = plus self.old.left_out 1 } }
     {
         self.left_out = self.left_out.saturating_add(1);
     }
 
-    /// One that waited couldn't be printed.
+    /// Notes that a window that waited couldn't be printed.
     pub fn fail(&mut self, fault: TellFault)
         ensures { self.new ≡ record self.old { told = record self.old.told { fault = Some fault } } }
     {
         self.told.fail(fault);
     }
 
-    /// No more come.
+    /// Notes that no more come.
     pub fn end(&mut self)
         ensures { self.new ≡ record self.old { is_over = true } }
     {
         self.is_over = true;
     }
 
-    /// All of them, in numbers.
+    /// Returns all of them, in numbers.
     pub fn into_told(self) -> Told
         ensures { result ≡ self.told }
     {

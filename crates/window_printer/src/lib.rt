@@ -1,4 +1,5 @@
-//! Windows on their way to standard output. A thread of its own prints them, so that one who hands a window over never waits for a reader of standard output.
+//! Windows on their way to standard output. A thread of its own prints them, so that a thread that
+//! hands a window over never waits for a reader of standard output.
 #![tactic(auto)]
 
 mod handed;

@@ -11,21 +11,22 @@ use std::alloc::{AllocError, Global};
 use std::sync::{Arc, Condvar, Mutex, Wait};
 use window_lines::{TellFault, Told, push_window};
 
-/// Between who hands windows over and the thread that prints them. That thread has the lock while it takes a window, and never while it prints one.
+/// The meeting point of the threads that hand windows over and the one that prints them. The latter
+/// has the lock while it takes a window, and never while it prints one.
 #[derive(Drop)]
 pub struct WindowPrinter {
     alloc: Global,
     names: Names,
     handed: Mutex<Handed>,
     bell: Condvar,
-    /// So many milliseconds after the Unix epoch is moment 0, where lines tell when windows were.
+    /// The time of moment 0 in milliseconds since the Unix epoch, where lines tell the times of windows.
     base: Option<i64>,
-    /// Where their lines go in place of standard output.
+    /// The sink of their lines in place of standard output, where there is one.
     sink: Option<Arc<Sink>>,
 }
 
 impl WindowPrinter {
-    /// Of the windows of servers of these names.
+    /// Makes the printer for servers with these names.
     pub fn new(alloc: Global, names: Names, servers: usize) -> Result<WindowPrinter, AllocError> {
         Ok(WindowPrinter {
             alloc,
@@ -37,35 +38,37 @@ impl WindowPrinter {
         })
     }
 
-    /// Each line tells when its window began and ended, where moment 0 is so many milliseconds after the Unix epoch.
+    /// Lets each line tell when its window began and ended, where moment 0 is this number of
+    /// milliseconds after the Unix epoch.
     pub fn dated(self, base: Option<i64>) -> WindowPrinter {
         let mut printer = self;
         printer.base = base;
         printer
     }
 
-    /// Their lines go here, so that one writer has all.
+    /// Sends their lines to this sink, so that one writer has all.
     pub fn onto(self, sink: Option<Arc<Sink>>) -> WindowPrinter {
         let mut printer = self;
         printer.sink = sink;
         printer
     }
 
-    /// The servers' names.
+    /// Returns the servers' names.
     pub fn names(&self) -> &Names
         ensures { result.now ≡ self.now.names }
     {
         &self.names
     }
 
-    /// Takes a window that ended at this moment. It counts now, and is printed by and by; where too many wait to be printed, it is left out.
+    /// Takes a window that ended at this moment. It is counted now, and printed later; where too
+    /// many wait to be printed, it is left out.
     pub fn hand_over<R: Wait>(&self, rt: &R, window: Window, ended: Moment) {
         self.handed.lock(rt).hand_over(window, ended);
         self.bell.notify_all();
     }
 
-    /// Prints each window that is handed over, whole and in order, until no more come and all are printed. How many were left out is said on standard error, once
-    /// there is room again.
+    /// Prints each window that is handed over, whole and in order, until no more come and all are
+    /// printed. It reports on standard error how many were left out, once there is room again.
     pub fn print_all<R: Print + Eprint + Wait>(&self, rt: &R) {
         let mut dates = self.base.map(|base| Dates::new(self.alloc, base));
         for _ in rt.forever() {
@@ -82,14 +85,14 @@ impl WindowPrinter {
         unreachable!()
     }
 
-    /// No more are handed over. How many were left out is said on standard error.
+    /// Notes that no more are handed over. It reports on standard error how many were left out.
     pub fn end<R: Eprint + Wait>(&self, rt: &R) {
         self.handed.lock(rt).end();
         self.bell.notify_all();
         self.say_left_out(rt);
     }
 
-    /// The servers' names, all windows in numbers, and where their lines went in place of standard output.
+    /// Returns the servers' names, all windows in numbers, and the sink of their lines, where there was one.
     pub fn into_told(self) -> (Names, Told, Option<Arc<Sink>>) {
         let WindowPrinter {
             alloc: _,
@@ -102,7 +105,7 @@ impl WindowPrinter {
         (names, handed.into_inner().into_told(), sink)
     }
 
-    // Once one waits. None: no more come.
+    // Waits for the next window; `None` where no more come.
     fn next<R: Wait>(&self, rt: &R) -> Option<Numbered> {
         let mut handed = self
             .bell
@@ -110,7 +113,7 @@ impl WindowPrinter {
         handed.next()
     }
 
-    // False: it found no room.
+    // Prints a window. False where it found no room.
     fn print<R: Print + Wait>(
         &self,
         rt: &R,
@@ -140,7 +143,7 @@ impl WindowPrinter {
     }
 }
 
-/// How many lines a text has.
+/// Returns the number of lines of a text.
 pub fn lines_of(text: &str) -> u64 {
     text.as_bytes()
         .iter()
@@ -148,7 +151,7 @@ pub fn lines_of(text: &str) -> u64 {
         .count() as u64
 }
 
-// When a window was, as it stands behind its number.
+// Returns the time of a window, as it stands after its number.
 fn span_of(
     alloc: Global,
     window: &Numbered,

@@ -1,4 +1,4 @@
--- Numbers of clients, each of which stays at its greatest value once it has it.
+-- Numbers of clients, each of which saturates at its greatest value.
 use Rattle.std.specs.Prelude.{ℕ, ◌+◌, ◌-◌, ◌^◌, min, Result, Ok, Err}
 use Rattle.http_texts.specs.declared.refusals.Code.TheVariants.{BadRequest, BadGateway, Unavailable}
 use Rattle.relay_workers.specs.declared.outcome.Outcome.{Outcome}
@@ -9,11 +9,11 @@ use Rattle.relay_workers.specs.declared.stopping.Stopped.{Stopped}
 abbrev pub plus : ℕ → ℕ → ℕ
 plus a b = min (a + b) (2 ^ 64 - 1)
 
--- one client more
+-- one more client
 abbrev pub counted : Tally → Tally
 counted t = record t { clients = plus t.clients 1 }
 
--- of this outcome
+-- one more client with this outcome
 abbrev pub noted : Outcome → Tally → Tally
 noted Answered t = record (counted t) { answered = plus t.answered 1 }
 noted (Refused BadRequest) t = record (counted t) { bad_requests = plus t.bad_requests 1 }
@@ -30,7 +30,7 @@ together a b = record {
   unavailable = plus a.unavailable b.unavailable;
 }
 
--- of two threads: the sum, or why the first of them stopped that did
+-- the result of two threads: the sum, or why the first one stopped that did
 abbrev pub of_both : Result Tally Stopped → Result Tally Stopped → Result Tally Stopped
 of_both (Ok a) (Ok b) = Ok (together a b)
 of_both (Ok a) (Err stopped) = Err stopped

@@ -11,10 +11,12 @@ use std::sync::atomic::{AtomicBool, Ordering};
 use std::thread::{Scope, Threads};
 use std::{thread, vec};
 
-/// Serves with a thread for each member of a crew, and one more for the checks of servers, until no more clients come to any member. The seat is the
-/// board's first; each member has one split off it, which is joined again.
+/// Serves with a thread for each member of a crew, and one more for the checks of servers, until no
+/// more clients come to any member. The seat is the board's first one; each member gets a seat that
+/// is split off it, and joined again.
 ///
-/// The answer is the sum of the members' tallies, or why the first of them stopped that did; `NoMemory` also where a thread can't be started.
+/// Returns the sum of the members' tallies, or why the first one stopped that did; `NoMemory` also
+/// where a thread can't be started.
 pub fn serve<
     R: Threads + Wait + Sync,
     N: BoardName + Send + Sync,
@@ -47,7 +49,7 @@ pub fn serve<
     (first, all)
 }
 
-// A scope with all threads in it.
+// Runs all threads in a scope.
 fn run_all<
     R: Threads + Wait + Sync,
     N: BoardName + Send + Sync,
@@ -88,7 +90,7 @@ fn run_all<
     })
 }
 
-// A thread for each seat and member. One that can't be started isn't run.
+// Starts a thread for each seat and member. One that can't be started isn't run.
 fn run_crew<
     's,
     E,
@@ -121,7 +123,7 @@ fn run_crew<
     first_stop(mine, others)
 }
 
-// The sum, or why the first stopped that did.
+// Returns the sum, or why the first one stopped that did.
 fn first_stop(
     mine: Result<Tally, Stopped>,
     others: Result<Tally, Stopped>,
@@ -131,7 +133,8 @@ fn first_stop(
     Ok(mine?.sum(others?))
 }
 
-// What lends a proxy to threads. Of a type parameter it is known by a bound alone that it may be shared, so that it is shown of `Proxy` once, where `serve` begins.
+// Lends threads a proxy. Whether a type parameter may be shared is known only from a bound, so this
+// trait shows it once, for `Proxy`, where `serve` begins.
 trait Lends<N: BoardName> {
     fn proxy(&self) -> &Proxy<N>;
 }

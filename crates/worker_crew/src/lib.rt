@@ -1,4 +1,5 @@
-//! The simple way to serve: a thread for each client, from its request to the end of its answer, and one more for the checks of servers.
+//! The simple way to serve: a thread for each client, from its request to the end of its answer,
+//! and one more for the checks of servers.
 #![tactic(auto)]
 
 mod crew;

@@ -4,21 +4,21 @@ ghost use Rattle.worker_crew.specs.Tallies.{noted, together};
 use relay_http::Code;
 use relay_workers::Outcome;
 
-/// What a thread's clients got. Each number stays at its greatest value once it has it.
+/// The outcomes of a thread's clients. Each number saturates at its greatest value.
 #[derive(Clone, Copy, Debug, PartialEq, Eq)]
 pub struct Tally {
-    /// Those that came.
+    /// All clients.
     pub clients: u64,
-    /// Answers that were handed on whole.
+    /// Clients whose answers were handed on whole.
     pub answered: u64,
-    /// Those that were told 400, 502 and 503, also where they left before they read it.
+    /// Clients that were sent 400, 502 and 503, even where they left before they read it.
     pub bad_requests: u64,
     pub bad_gateways: u64,
     pub unavailable: u64,
 }
 
 impl Tally {
-    /// No client.
+    /// Makes a tally without a client.
     pub fn zero() -> Tally
         ensures { result ≡ record { clients = 0; answered = 0; bad_requests = 0; bad_gateways = 0; unavailable = 0 } }
     {
@@ -31,7 +31,7 @@ impl Tally {
         }
     }
 
-    /// One client more, that came to this.
+    /// Counts one more client with this outcome.
     pub fn note(&mut self, outcome: Outcome)
         ensures { self.new ≡ noted outcome self.old }
     {
@@ -51,7 +51,7 @@ impl Tally {
         }
     }
 
-    /// The sum of the two.
+    /// Returns the sum of the two.
     pub fn sum(self, other: Tally) -> Tally
         ensures { result ≡ together self other }
     {

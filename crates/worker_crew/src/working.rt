@@ -11,7 +11,8 @@ use relay_workers::{
 };
 use std::sync::Wait;
 
-/// Serves one client after the other, until no more come. It takes 84 KiB for an exchange, once, beside what each request's head takes.
+/// Serves one client after the other, until no more come. It allocates 84 KiB for an exchange,
+/// once, beside the memory of each request's head.
 pub fn worker<R: Wait, N: BoardName, G: Gate + Drop, P: Pause + Drop>(
     rt: &R,
     proxy: &Proxy<N>,
@@ -43,7 +44,7 @@ pub fn worker<R: Wait, N: BoardName, G: Gate + Drop, P: Pause + Drop>(
     unreachable!()
 }
 
-// One client, from its request to the end of its answer. None where its pauses were spent.
+// Serves one client, from its request to the end of its answer. `None` where its pauses were spent.
 fn attend<R: Wait, N: BoardName, G: Gate + Drop, P: Pause + Drop>(
     rt: &R,
     proxy: &Proxy<N>,

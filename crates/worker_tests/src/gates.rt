@@ -64,7 +64,7 @@ fn config_of(rt: &impl Abort, alloc: Global, port: u16) -> Config
     read(alloc, text.as_bytes()).expect(rt, "a configuration")
 }
 
-// What a check of the gate's server comes to, looked at for a second at most.
+// Returns the result of a check of the gate's server, within a second.
 fn checked<G: Gate>(clock: &impl Clock, gate: &mut G) -> Option<bool> {
     for _ in 0..1000 {
         let ended = gate.probe(0);
@@ -76,7 +76,7 @@ fn checked<G: Gate>(clock: &impl Clock, gate: &mut G) -> Option<bool> {
     None
 }
 
-// A connection to the server of a pass, where it gives a slot.
+// Returns a connection to the server of a pass, where it is for a slot.
 fn connect_by<N: BoardName, G: Gate>(
     gate: &mut G,
     relay: &RelaySeat,
@@ -95,7 +95,7 @@ fn connect_by<N: BoardName, G: Gate>(
     }
 }
 
-// The exchange of a pass is over.
+// Posts that the exchange of a pass is over.
 fn give_back(board: &Board, relay: &mut RelaySeat, pass: Pass)
     requires named { relay.old.board ≡ board.now }
     requires held { relay.old.view.passes ≡ pass ∷ [] }
@@ -103,7 +103,7 @@ fn give_back(board: &Board, relay: &mut RelaySeat, pass: Pass)
     relay.post(board, pass, Ending::Done);
 }
 
-// A request arrives and has its slot, and the gate connects to the slot's server.
+// A request arrives and gets its slot, and the gate connects to the slot's server.
 fn connects<
     N: BoardName,
     R: Abort + Wait + Net<Listener = TcpListener, Stream = TcpStream>,
@@ -136,7 +136,7 @@ fn connects<
     assert_eq!(rt; byte, *b"x");
 }
 
-// What a gate looks at.
+// The parts that a gate needs.
 #[derive(Drop)]
 struct Parts {
     config: Config,

@@ -1,5 +1,5 @@
-//! Tests of workers and of those who check servers, of gates on sockets and of who prints windows: a crate of their own, so that what they test isn't proved
-//! once more with them.
+//! Tests of workers and checkers, of gates on sockets and of the window printer. They are a crate
+//! of their own, so that the crates under test aren't proved a second time with them.
 #![tactic(auto)]
 
 #[cfg(test)]

@@ -1,4 +1,4 @@
-//! What is printed of faults of workers and of those who print windows.
+//! Tests of the texts of workers' and window printers' faults.
 
 use relay_workers::Stopped;
 use std::alloc::Global;
@@ -16,7 +16,7 @@ static OF_WINDOWS: [(TellFault, &str); 2] = [
     (TellFault::Write, "write fault"),
 ];
 
-// Each has its text.
+// Checks the text of each.
 fn say<T: Display>(rt: &impl Abort, alloc: Global, rows: &[(T, &str)]) {
     for (it, text) in rows {
         let said = it.to_string(alloc).expect(rt, "memory");

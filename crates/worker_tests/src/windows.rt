@@ -1,4 +1,4 @@
-//! Windows that are printed while standard output is slow.
+//! Tests of windows that are printed while standard output is slow.
 
 use due_key::Moment;
 use late_cert::Reports;
@@ -13,7 +13,7 @@ use std::thread::Threads;
 use std::{io, thread};
 use window_printer::WindowPrinter;
 
-/// A runtime whose standard output is a text. Whoever has the text's lock lets nobody print.
+/// A runtime whose standard output is a text. While the text is locked nobody can print.
 #[derive(Clone, Copy)]
 struct Slow<'a, R> {
     rt: &'a R,
@@ -61,7 +61,7 @@ impl<'a, R: Eprint> Eprint for Slow<'a, R> {
 
 impl<'a, R: Wait> Wait for Slow<'a, R> {}
 
-// A window in which the only server was given one request when it came.
+// A window in which the only server was given one request on arrival.
 fn window(rt: &impl Abort, alloc: Global) -> Window {
     let line = ServerLine {
         up: true,
@@ -74,7 +74,7 @@ fn window(rt: &impl Abort, alloc: Global) -> Window {
     }
 }
 
-// Hands so many windows over while nobody can print, and returns once the printing thread has ended.
+// Hands this number of windows over while nobody can print, and returns once the printing thread has ended.
 fn hand_over_unread<R: Eprint + Wait + Threads + AllocGlobal + Abort + Sync>(
     rt: &R,
     slow: &Slow<'_, R>,

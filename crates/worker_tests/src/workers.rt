@@ -33,7 +33,7 @@ mod outcomes;
 mod scenes;
 mod waits;
 
-// What the peers of a proxy were told, what its clients got, and what was left on its board.
+// What the peers of a proxy were sent, the outcomes of its clients, and what was left on its board.
 #[derive(Drop)]
 struct Found {
     tally: Result<Tally, Stopped>,
@@ -41,7 +41,7 @@ struct Found {
     closing: Closing,
 }
 
-/// A configuration, a dispatcher that has done nothing and is set up as it asks, and the board that was opened for it.
+/// A configuration, a fresh dispatcher with its setup, and the board that was opened for it.
 #[derive(Drop)]
 pub(crate) struct Opened {
     config: Config,
@@ -58,14 +58,14 @@ pub(crate) struct Opened {
     ghost told_nothing: { IsNew running (length core.setup.servers) },
 }
 
-// One server, whose health one result of a check decides.
+// One server, whose health one check result decides.
 const ONE_SLOT: &[u8] =
     b"listen w\n    bind :80\n    server a 127.0.0.1:9001 maxconn 1 check rise 1 fall 1\n";
 
 const TWO_SLOTS: &[u8] =
     b"listen w\n    bind :80\n    server a 127.0.0.1:9001 maxconn 2 check rise 1 fall 1\n";
 
-/// What a configuration asks for, for four places and with a log of this length.
+/// Opens what a configuration describes, with four places and a log of this length.
 pub(crate) fn open(rt: &impl Abort, alloc: Global, config: Config, log: usize) -> Opened
     requires sound { IsSoundConfig config }
     requires log { (0 < log) × (log ≤ 262144) }
@@ -86,7 +86,7 @@ pub(crate) fn open(rt: &impl Abort, alloc: Global, config: Config, log: usize) -
     }
 }
 
-// The same of a text.
+// The same for a configuration's text.
 fn open_text(rt: &impl Abort, alloc: Global, text: &[u8], log: usize) -> Opened
     requires log { (0 < log) × (log ≤ 262144) }
     ensures sound { IsSoundConfig result.config }
@@ -95,7 +95,7 @@ fn open_text(rt: &impl Abort, alloc: Global, text: &[u8], log: usize) -> Opened
     open(rt, alloc, config, log)
 }
 
-/// A proxy over what was opened, and the first of the seats that take.
+/// Makes a proxy of what was opened, and the first of the seats that take passes.
 pub(crate) fn start<N: BoardName>(alloc: Global, opened: Opened) -> (Proxy<N>, Idle<N>)
     requires named { opened.board ≡ N.board }
     requires terms { N.terms ≡ terms_of opened.core.setup }
@@ -114,7 +114,7 @@ pub(crate) fn start<N: BoardName>(alloc: Global, opened: Opened) -> (Proxy<N>, I
     (proxy, Idle::new(relay))
 }
 
-/// What is left on a proxy's board once its threads are done.
+/// Returns what is left on a proxy's board once its threads have ended.
 pub(crate) fn close<N: BoardName>(proxy: Proxy<N>, idle: Idle<N>) -> Closing
     requires first { idle.seat.view.first ≡ true }
     requires settled { idle.seat.view.split ≡ idle.seat.view.joined }

@@ -15,7 +15,7 @@ const ONE: Met = Met {
     bound: 2,
 };
 
-// Two seats take a pass each and meet; one pass comes back, the bound falls to 1, and they meet again.
+// Two seats take a pass each and meet. One pass is posted, the bound falls to 1, and they meet again.
 fn meet_twice<R: Abort>(
     rt: &R,
     board: &Board,

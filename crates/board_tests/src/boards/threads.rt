@@ -7,7 +7,7 @@ use std::process::Abort;
 use std::sync::Wait;
 use std::thread::{Threads, join};
 
-// Each seat takes a pass of the server, and the counts are told.
+// Each seat takes a pass of the server, and the counts are read.
 fn holds_one_each<R: Abort>(
     rt: &R,
     board: &Board,
@@ -46,7 +46,7 @@ fn holds_one_each<R: Abort>(
     second
 }
 
-// Goes over the last two places once.
+// Serves the last two places once.
 fn serve_all(board: &Board, seat: RelaySeat) -> RelaySeat
     requires same_board { seat.board ≡ board.now }
     requires in_range { seat.view.terms.places ≡ 4 }
@@ -81,7 +81,7 @@ fn serve_both<R: Threads + Sync>(
     )
 }
 
-// Collects until all four are back. Before each look the bound of server 0 changes: 2 or none.
+// Collects until all four are back. Before each look the bound of server 0 changes between 2 and none.
 fn collect_all<R: Wait>(rt: &R, board: &Board, keeper: KeeperSeat) -> KeeperSeat
     requires same_board { keeper.board ≡ board.now }
     requires in_range { keeper.view.terms ≡ terms 4 (2 ∷ 0 ∷ []) }
@@ -115,7 +115,7 @@ fn several_threads(rt: HostRuntime) {
     let second = first.split(&board);
     let second = holds_one_each(&rt, &board, &mut keeper, &mut first, second);
     let third = first.split(&board);
-    // Where no thread can be made the first is called last, so that it finds what it waits for.
+    // Where no thread can be started, the first closure runs last, so that it finds what it waits for.
     let (keeper, (second, third)) = join(
         &rt,
         || -> KeeperSeat
@@ -132,7 +132,7 @@ fn several_threads(rt: HostRuntime) {
     same(&rt, board.close(keeper, first), Closing { left: 0 });
 }
 
-// The seat tries once for the ticket at place 0, and says whether it took it.
+// The seat tries once to take the ticket at place 0. Says whether it did.
 fn try_once(board: &Board, seat: RelaySeat, ticket: u64) -> (RelaySeat, bool)
     requires same_board { seat.board ≡ board.now }
     requires in_range { 0 < seat.view.terms.places }
@@ -146,7 +146,7 @@ fn try_once(board: &Board, seat: RelaySeat, ticket: u64) -> (RelaySeat, bool)
     (seat, took)
 }
 
-// Two threads try once each.
+// Two threads try once each to take the ticket.
 fn race<R: Threads + Sync>(
     rt: &R,
     board: &Board,

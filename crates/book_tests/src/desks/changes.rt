@@ -5,7 +5,7 @@ ghost use Rattle.outstanding.specs.Books.{terms_of};
 use super::*;
 use crate::assertions::{holds, same};
 
-// Sets the server's limit, and answers the first place that was woken.
+// Sets the server's limit, and returns the first place that was woken.
 fn limit<N: BoardName, R: Abort + Wait>(
     rt: &R,
     desk: &Desk<N>,
@@ -18,7 +18,8 @@ fn limit<N: BoardName, R: Abort + Wait>(
     woken.next(0)
 }
 
-// Of four requests two are served. The limit falls to one, so that the end of the first gives no slot; then it is lifted.
+// Of four requests two are served. The limit falls to one, so that the end of the first one frees
+// no slot; then the limit is lifted.
 fn lower_and_lift<N: BoardName, R: Abort + Wait>(
     rt: &R,
     alloc: Global,

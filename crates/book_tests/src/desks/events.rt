@@ -5,7 +5,7 @@ ghost use Rattle.outstanding.specs.Books.{terms_of};
 use super::*;
 use crate::assertions::same;
 
-// The requests that came: one is served, one is aborted, one waits too long, and one finds no server.
+// Four requests: one is served, one is aborted, one waits too long, and one finds no server.
 #[derive(Clone, Copy)]
 struct Four {
     served: Ticketed,
@@ -14,7 +14,7 @@ struct Four {
     lost: Ticketed,
 }
 
-// The third one isn't told before its time.
+// The third one isn't told before its timeout.
 fn come<N: BoardName, R: Abort + Wait>(
     rt: &R,
     alloc: Global,
@@ -49,7 +49,7 @@ fn abort<N: BoardName, R: Abort + Wait>(rt: &R, desk: &Desk<N>, moment: u64, tic
     answer.expect(rt, "an abort");
 }
 
-// What the four were told.
+// Returns what each of the four was told.
 fn tell_each<N: BoardName, R: Abort + Wait>(
     rt: &R,
     alloc: Global,
@@ -99,7 +99,7 @@ fn each_is_told(rt: HostRuntime) {
     same(&rt, closing, Closing { left: 0 });
 }
 
-// How many passes the seat has between its take and its post, and after it.
+// Returns the number of passes that the seat has between its take and its post, and after it.
 fn vouch<N: BoardName, R: Abort + Wait>(
     rt: &R,
     desk: &Desk<N>,
@@ -120,7 +120,7 @@ fn vouch<N: BoardName, R: Abort + Wait>(
     (taken, posted)
 }
 
-// The ticket that comes back from a place.
+// Returns the ticket that comes back from a place.
 fn collect<N: BoardName, R: Abort + Wait>(
     rt: &R,
     desk: &Desk<N>,
@@ -135,7 +135,7 @@ fn collect<N: BoardName, R: Abort + Wait>(
     found.map(|back| back.ticket)
 }
 
-// Whether a tick at this moment would tell a timeout, before it and after it.
+// Says whether a tick at this moment would tell a timeout, before the tick and after it.
 fn tick<N: BoardName, R: Abort + Wait>(rt: &R, desk: &Desk<N>, moment: u64) -> (bool, bool) {
     let before = desk.expired(rt, at(moment));
     let mut woken = PlaceSet::new();
@@ -144,7 +144,7 @@ fn tick<N: BoardName, R: Abort + Wait>(rt: &R, desk: &Desk<N>, moment: u64) -> (
     (before, desk.expired(rt, at(moment)))
 }
 
-// Of three requests on one slot, one is over and one has waited too long.
+// Of three requests for one slot, one is over and one has waited too long.
 fn ask_on<N: BoardName, R: Abort + Wait>(rt: &R, alloc: Global, desk: &Desk<N>, relay: RelaySeat)
     requires named { relay.board ≡ N.board }
     requires terms { relay.view.terms ≡ N.terms }

@@ -6,7 +6,7 @@ use super::*;
 use crate::assertions::same;
 use std::test::Fail;
 
-// The test goes well whichever single allocation is refused: the same call is made again.
+// The test succeeds whichever single allocation is refused: it makes the same call again.
 
 fn open_once(alloc: Global) -> Result<Option<Opened>, AllocError> {
     let setup = setup_of_one(alloc, 1, 10, 1)?;
@@ -38,7 +38,7 @@ fn come<N: BoardName, R: Wait>(
     }
 }
 
-// So many reports.
+// Returns the number of reports.
 fn report<N: BoardName, R: Wait>(
     rt: &R,
     alloc: Global,
@@ -50,7 +50,7 @@ fn report<N: BoardName, R: Wait>(
     }
 }
 
-// So many servers' lines.
+// Returns the number of servers' lines.
 fn lines<N: BoardName, R: Wait>(
     rt: &R,
     alloc: Global,
@@ -62,7 +62,7 @@ fn lines<N: BoardName, R: Wait>(
     }
 }
 
-// Whether there was no room, and a window had to go.
+// Says whether there was no room, so that a window ended.
 fn room<N: BoardName, R: Wait>(rt: &R, alloc: Global, desk: &Desk<N>) -> Result<bool, AllocError> {
     match desk.make_room(rt, alloc) {
         Ok(window) => Ok(window.is_some()),
@@ -82,7 +82,7 @@ fn tell<N: BoardName, R: Wait>(
     ))
 }
 
-// A request arrives, is served, and its return waits on the board for the room that is made.
+// A request arrives and is served, and its return waits on the board until there is room.
 fn use_up<N: BoardName, R: Wait>(
     rt: &R,
     alloc: Global,

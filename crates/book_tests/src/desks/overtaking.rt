@@ -5,7 +5,7 @@ ghost use Rattle.outstanding.specs.Books.{terms_of};
 use super::*;
 use crate::assertions::{holds, same};
 
-// Of two requests that wait, the later one is due earlier: it is woken and served first.
+// Of two waiting requests the later one is due earlier: it is woken and served first.
 fn overtake<N: BoardName, R: Abort + Wait>(
     rt: &R,
     alloc: Global,
@@ -38,7 +38,7 @@ fn overtake<N: BoardName, R: Abort + Wait>(
     );
 }
 
-// What a desk tells of its window, of class 0 and class 1.
+// What a desk tells of its window, for class 0 and class 1.
 #[derive(Drop)]
 struct Told {
     reports: Reports,

@@ -4,7 +4,7 @@ ghost use Rattle.outstanding.specs.Books.{terms_of};
 use super::*;
 use crate::assertions::{holds, same};
 
-// Three servers of one slot each, of which three failed checks in a row take the first one down.
+// Three servers with one slot each; three failed checks in a row take the first one down.
 fn three_servers(rt: &impl Abort, alloc: Global) -> Opened {
     let checked = ServerSet {
         limit: 1,
@@ -24,7 +24,7 @@ fn three_servers(rt: &impl Abort, alloc: Global) -> Opened {
     open(rt, alloc, setup, &[1, 1, 1])
 }
 
-// A request that is bound to the first server.
+// A request that is pinned to the first server.
 fn pinned(millis: i64) -> Wanted {
     Wanted {
         pin: Some(0),
@@ -32,7 +32,7 @@ fn pinned(millis: i64) -> Wanted {
     }
 }
 
-// Four requests are bound to the first server; as it falls, two of those that wait are given the other servers.
+// Four requests are pinned to the first server. When it falls, two of those that wait are given the other servers.
 fn take_down<N: BoardName, R: Abort + Wait>(
     rt: &R,
     alloc: Global,

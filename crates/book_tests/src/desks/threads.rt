@@ -6,15 +6,15 @@ use super::*;
 use crate::assertions::same;
 use std::thread::{Threads, join};
 
-// What a thread did, and what is told of the windows that it was handed.
+// What a thread did, and the sums of the windows that it was handed.
 #[derive(Clone, Copy, Debug, PartialEq, Eq)]
 struct Sums {
-    /// How many of its requests were served.
+    /// The number of its requests that were served.
     served: usize,
-    /// How many requests the windows' servers were given, at once and after they had waited.
+    /// The number of requests that the windows' servers were given, at once and after a wait.
     given: usize,
     granted: usize,
-    /// How many the windows' reports speak of.
+    /// The number of requests that the windows' reports cover.
     reported: usize,
 }
 
@@ -60,7 +60,7 @@ fn make_room<N: BoardName, R: Wait>(rt: &R, alloc: Global, desk: &Desk<N>, sums:
     }
 }
 
-// A request arrives, once the log has room. `None` where it is refused for another reason.
+// Lets a request arrive, once the log has room. `None` where it is refused for another reason.
 fn admit<N: BoardName, R: Wait>(
     rt: &R,
     alloc: Global,
@@ -87,7 +87,7 @@ fn turn_round<N: BoardName, R: Wait>(rt: &R, alloc: Global, desk: &Desk<N>, sums
     }
 }
 
-// A request arrives, and is over once its turn came.
+// A request arrives, and is over once it was offered.
 fn come<N: BoardName, R: Wait>(
     rt: &R,
     alloc: Global,
@@ -111,7 +111,7 @@ fn come<N: BoardName, R: Wait>(
     }
 }
 
-// Now and then the server's limit changes.
+// Changes the server's limit now and then.
 fn change<N: BoardName, R: Wait>(rt: &R, desk: &Desk<N>, number: u32) {
     if number % 64 == 63 {
         let mut woken = PlaceSet::new();
@@ -125,7 +125,7 @@ fn change<N: BoardName, R: Wait>(rt: &R, desk: &Desk<N>, number: u32) {
     }
 }
 
-// So many requests come, each once the one before is over.
+// Serves this number of requests, each once the one before is over.
 fn come_and_go<N: BoardName, R: Wait>(
     rt: &R,
     alloc: Global,
@@ -146,7 +146,7 @@ fn come_and_go<N: BoardName, R: Wait>(
     (relay, sums)
 }
 
-// Two threads, with a seat and so many requests each.
+// Two threads, each with a seat and its number of requests.
 fn pair<N: BoardName + Send + Sync, R: Threads + Wait + Sync>(
     rt: &R,
     alloc: Global,
@@ -173,7 +173,7 @@ fn pair<N: BoardName + Send + Sync, R: Threads + Wait + Sync>(
     (first, second, some.plus(others))
 }
 
-// The last turn, and the windows' numbers with those of the last one.
+// Makes the last turn, and adds the numbers of the last window.
 fn finish<N: BoardName, R: Abort + Wait>(
     rt: &R,
     alloc: Global,
@@ -214,14 +214,14 @@ fn two_threads_of_requests(rt: HostRuntime) {
     same(&rt, closing, Closing { left: 0 });
 }
 
-// The seats of four threads, two by two.
+// The seats of four threads, in two pairs.
 #[derive(Drop)]
 struct Seats {
     some: (RelaySeat, RelaySeat),
     others: (RelaySeat, RelaySeat),
 }
 
-// Two pairs of threads, with so many requests each.
+// Two pairs of threads, with this number of requests each.
 fn crowd<N: BoardName + Send + Sync, R: Threads + Wait + Sync>(
     rt: &R,
     alloc: Global,
@@ -277,7 +277,7 @@ fn four_come<N: BoardName + Send + Sync, R: Abort + Threads + Wait + Sync>(
     (sums, desk.close(first))
 }
 
-// The first seat, once the others are joined in it.
+// Returns the first seat, once the others are joined into it.
 fn gather(board: &Board, seats: Seats) -> RelaySeat
     requires some { (seats.some.0.board ≡ board.now) × (seats.some.1.board ≡ board.now) }
     requires others { (seats.others.0.board ≡ board.now) × (seats.others.1.board ≡ board.now) }

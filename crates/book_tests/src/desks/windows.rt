@@ -5,7 +5,7 @@ ghost use Rattle.outstanding.specs.Books.{terms_of};
 use super::*;
 use crate::assertions::{holds, same};
 
-// Two requests wait as the next window begins, and are served in it.
+// Two requests wait when the next window begins, and are served in it.
 fn wait_over_a_roll<N: BoardName, R: Abort + Wait>(
     rt: &R,
     alloc: Global,
@@ -50,7 +50,7 @@ fn who_waits_joined_at_the_base(rt: HostRuntime) {
     );
 }
 
-// A return finds no room in the log, and stays on the board until there is.
+// A return finds no room in the log, and stays on the board until there is room.
 fn make_room<N: BoardName, R: Abort + Wait>(
     rt: &R,
     alloc: Global,
@@ -79,7 +79,7 @@ fn fill<N: BoardName, R: Abort + Wait>(rt: &R, alloc: Global, opened: Opened) ->
     (window, desk.close(relay))
 }
 
-// What a turn answers.
+// The answer of a turn.
 fn turned<N: BoardName, R: Wait>(rt: &R, desk: &Desk<N>, moment: u64) -> Result<(), Refusal> {
     let mut woken = PlaceSet::new();
     desk.turn(rt, at(moment), &mut woken)
@@ -100,7 +100,7 @@ fn a_full_log_makes_room(rt: HostRuntime) {
     same(&rt, closing, Closing { left: 0 });
 }
 
-// A full log refuses the turn, and what was posted is left on the board.
+// A full log refuses the turn, and what was posted stays on the board.
 fn leave<N: BoardName, R: Abort + Wait>(
     rt: &R,
     alloc: Global,

@@ -1,6 +1,6 @@
 use super::*;
 
-/// Behind it a line is the fifth.
+/// After it comes line 5.
 const LISTEN: &str = "listen w\nbind :80\nserver a h:80\nacl known path /\n";
 
 const LISTEN_AND_IF: &str = "listen w\nbind :80\nserver a h:80\nacl known path /\n\
@@ -27,7 +27,7 @@ static TABLES: [FaultTable; 10] = [
                 7,
                 FaultCause::Keyword,
             ),
-            // A fault is named before what is missing, and the first line before a later one.
+            // A fault is named before a missing line, and the first faulty line before a later one.
             ("listen w\nretries x", 2, FaultCause::Number),
             ("defaults\nx\nbind", 2, FaultCause::Keyword),
         ],

@@ -1,13 +1,14 @@
 use super::*;
 use crate::texts::push_often;
 
-/// A piece that comes so often, one behind the other.
+/// A piece of text that is repeated this many times.
 struct Piece {
     text: &'static str,
     times: usize,
 }
 
-/// A file of these pieces, how many bytes it has, and what is read: so many pins, or that line is past a limit.
+/// A file of these pieces, its number of bytes, and what is read: this number of pins, or that a
+/// line is past a limit.
 struct LargeFile {
     name: &'static str,
     pieces: &'static [Piece],
@@ -20,7 +21,7 @@ const LISTEN: &str = "listen w\nbind :80\n";
 
 const SERVER: &str = "server s0 h:80\n";
 
-/// As many as there may be.
+/// The most servers that there may be.
 const SERVERS: &str = "\
 server s0 h:80\nserver s1 h:80\nserver s2 h:80\nserver s3 h:80\nserver s4 h:80\n\
 server s5 h:80\nserver s6 h:80\nserver s7 h:80\nserver s8 h:80\nserver s9 h:80\n\
@@ -227,7 +228,7 @@ static LARGE_FILES: [LargeFile; 9] = [
         pins: 0,
         too_much: None,
     },
-    // The byte past the last is a line feed, and stands in line 6.
+    // The byte past the limit is a line feed, and stands in line 6.
     LargeFile {
         name: "more bytes",
         pieces: &[

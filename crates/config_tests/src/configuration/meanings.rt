@@ -1,6 +1,6 @@
 use super::*;
 
-/// A server's address: its IPv4 address or its name.
+/// A server's address: an IPv4 address or a name.
 enum HostRow {
     Ip([u8; 4]),
     Name(&'static [u8]),
@@ -16,7 +16,7 @@ struct ServerRow {
     check: Option<Checks>,
 }
 
-/// A file with one server, and what it says.
+/// A file with one server, and the settings that it describes.
 struct SettingsRow {
     name: &'static str,
     file: &'static [u8],
@@ -24,7 +24,7 @@ struct SettingsRow {
     retries: u32,
     redispatch: bool,
     abortonclose: bool,
-    /// Of a queue, a connect, a client and a server.
+    /// The timeouts of the queue, of a connect, of a client and of a server.
     timeouts: [Option<u64>; 4],
     server: ServerRow,
 }

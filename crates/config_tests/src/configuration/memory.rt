@@ -1,6 +1,6 @@
 use super::*;
 
-// Where memory was refused, that is told, and the same text is read again.
+// Where memory was refused, the reader says so, and reads the same text again.
 fn read_in_the_end(rt: &impl Abort, alloc: Global) -> Config {
     match read(alloc, sample::SAMPLE.as_bytes()) {
         Ok(config) => config,
@@ -23,7 +23,7 @@ fn is_the_sample(rt: &impl Abort, config: &Config) {
     holds(rt, config.pins.len() == 1, "the sample", "pins");
 }
 
-// It goes well whichever single allocation is refused. With all memory the sample is read at once.
+// The test succeeds whichever single allocation is refused. With enough memory the sample is read at once.
 #[test]
 fn a_refused_growth_is_told(rt: HostRuntime) {
     let config = read_in_the_end(&rt, rt.alloc());

@@ -1,6 +1,6 @@
 use super::*;
 
-/// Behind it a line is the fourth.
+/// After it comes line 4.
 const LISTEN: &str = "listen w\nbind :80\nacl x path /\n";
 
 static TABLES: [FaultTable; 6] = [

@@ -25,7 +25,7 @@ static ANSWERS: [Answer; 3] = [
         fields: &[(b"A", b"1"), (b"B", b"2"), (b"a", b"3")],
         values_of_a: &[b"1", b"3"],
     },
-    // It needs no field and no reason.
+    // An answer needs no field and no reason phrase.
     Answer {
         text: "HTTP/1.1 200 OK\r\n\r\n",
         length: 19,

@@ -38,7 +38,7 @@ pub fn is_field(rt: &impl Abort, field: Option<Field<'_>>, named: &Named, text: 
     holds(rt, same, "field", text);
 }
 
-/// These values come, and no more.
+/// The values are these and no more.
 pub fn are(rt: &impl Abort, values: Values<'_>, expected: &[&[u8]], name: &str) {
     let mut values = values;
     for value in expected {

@@ -5,7 +5,7 @@ use req_view::{HEAD_BYTES, HEAD_FIELDS};
 use std::alloc::Global;
 use std::process::Abort;
 
-/// A head with a piece that comes so often, of which so many bytes are kept.
+/// A head with a piece that is repeated this many times, of which only this number of bytes is kept.
 struct LongHead {
     name: &'static str,
     front: &'static str,
@@ -18,7 +18,7 @@ struct LongHead {
 
 const FIELDS_BEGIN: &str = "GET / HTTP/1.1\r\nHost: h\r\n";
 
-/// With its end it has 31 bytes.
+/// With the empty line it has 31 bytes.
 const VALUE_BEGINS: &str = "GET / HTTP/1.1\r\nHost: h\r\na:";
 
 static LONG_HEADS: [LongHead; 6] = [

@@ -34,7 +34,7 @@ static HEADS: [Head; 12] = [
         version: Version::Http11,
         fields: &[(b"Host", b"h")],
     },
-    // HTTP/1.0 needs no Host field, and an empty one is one.
+    // HTTP/1.0 needs no `Host` field, and an empty one counts as one.
     Head {
         text: "GET / HTTP/1.0\r\n\r\n",
         length: 18,
@@ -53,7 +53,7 @@ static HEADS: [Head; 12] = [
         version: Version::Http10,
         fields: &[(b"Host", b"")],
     },
-    // A method is compared in its case.
+    // Methods are case-sensitive.
     Head {
         text: "connect h:1 HTTP/1.1\r\nHost: h\r\n\r\n",
         length: 33,
@@ -63,7 +63,7 @@ static HEADS: [Head; 12] = [
         version: Version::Http11,
         fields: &[(b"Host", b"h")],
     },
-    // Paths of whole addresses, and where there is none.
+    // The paths of targets in absolute form, with and without a path.
     Head {
         text: "GET http://h/a?b HTTP/1.0\r\n\r\n",
         length: 29,

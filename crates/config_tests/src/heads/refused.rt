@@ -12,7 +12,7 @@ static NO_HEADS: [TextRow; 10] = [
     ("GET / HTTP/1.1\r\nHost : h\r\n", Seen::Refused),
     ("GET / HTTP/1.1\r\n a: b\r\n", Seen::Refused),
     ("", Seen::More),
-    // The Host fields suit the version.
+    // The number of `Host` fields must suit the version.
     ("GET / HTTP/1.1\r\n\r\n", Seen::Refused),
     (
         "GET / HTTP/1.1\r\nHost: h\r\nHOST: h\r\n\r\n",
@@ -22,7 +22,7 @@ static NO_HEADS: [TextRow; 10] = [
         "GET / HTTP/1.0\r\nHost: h\r\nHost: g\r\n\r\n",
         Seen::Refused,
     ),
-    // A tunnel is refused.
+    // `CONNECT` is refused.
     ("CONNECT h:1 HTTP/1.1\r\nHost: h\r\n\r\n", Seen::Refused),
     // A target has no fragment.
     (
@@ -78,7 +78,7 @@ fn seen_in_the_end(alloc: Global) -> Viewed<View> {
     }
 }
 
-// It goes well whichever single allocation is refused.
+// The test succeeds whichever single allocation is refused.
 #[test]
 fn a_refused_growth_is_want_of_memory(rt: HostRuntime) {
     let seen = seen_in_the_end(rt.alloc());

@@ -1,7 +1,7 @@
 use super::setups::{Plan, setup_of};
 use crate::assertions::{holds, same};
 use binom_queue::BinomQueue;
-use dispatch_core::{Core, Refusal};
+use dispatch_core::{Core, Event, Refusal};
 use dispatch_log::Intake;
 use due_key::{Class, Key, Moment, Offset};
 use pend_queue::{ListQueue, PendQueue};
@@ -61,7 +61,50 @@ fn ask_one<Q: PendQueue<Key, usize>>(
     answer.map(|()| 0)
 }
 
-/// Asks a call of two dispatchers, whose answers and logs are the same. Tells why it was refused.
+/// The event that a call is; none of an arrival.
+fn event_of(moment: Moment, call: &Call) -> Option<Event> {
+    match call {
+        Call::Arrive(_, _, _) => None,
+        Call::Done(ticket) => Some(Event::Done {
+            moment,
+            ticket: *ticket,
+        }),
+        Call::Fail(ticket) => Some(Event::Fail {
+            moment,
+            ticket: *ticket,
+        }),
+        Call::Abort(ticket) => Some(Event::Abort {
+            moment,
+            ticket: *ticket,
+        }),
+        Call::Tick => Some(Event::Tick { moment }),
+        Call::Check(server, answered) => Some(Event::Check {
+            moment,
+            server: *server,
+            answered: *answered,
+        }),
+        Call::Limit(server, limit) => Some(Event::Limit {
+            moment,
+            server: *server,
+            limit: *limit,
+        }),
+    }
+}
+
+/// The same as `ask_one`, by the event that the call is.
+fn apply_one<Q: PendQueue<Key, usize>>(
+    alloc: Global,
+    core: &mut Core<Q>,
+    moment: Moment,
+    call: &Call,
+) -> Result<usize, Refusal> {
+    match event_of(moment, call) {
+        None => ask_one(alloc, core, moment, *call),
+        Some(event) => core.apply(event).map(|()| 0),
+    }
+}
+
+/// Asks a call of two dispatchers, of the second one by its event: their answers and logs are the same. Tells why it was refused.
 pub fn ask(
     rt: &impl Abort,
     alloc: Global,
@@ -71,7 +114,7 @@ pub fn ask(
     call: &Call,
 ) -> Option<Refusal> {
     let answer = ask_one(alloc, lists, moment(at), *call);
-    let other = ask_one(alloc, trees, moment(at), *call);
+    let other = apply_one(alloc, trees, moment(at), call);
     same(rt, other, answer);
     same(rt, trees.log().entries(), lists.log().entries());
     answer.err()

@@ -5,36 +5,36 @@ use pend_queue::PendQueue;
 use std::fmt::Debug;
 use std::process::Abort;
 
-/// What a dispatcher tells of itself.
+/// A fact that a dispatcher tells of itself.
 #[derive(Clone, Copy)]
 pub enum Fact {
-    /// Where the request with this ticket stands.
+    /// The phase of the request with this ticket.
     Phase(u64, Option<Phase>),
     /// The place of the request with this ticket.
     Place(u64, Option<usize>),
     Places(usize),
     Servers(usize),
-    /// Whether this server is up.
+    /// This server is up.
     Up(usize, bool),
-    /// How many requests this server serves.
+    /// The number of requests that this server serves.
     Served(usize, usize),
-    /// How many requests wait in this queue.
+    /// The number of requests that wait in this queue.
     Queued(Queue, usize),
     HasRoom(bool),
-    /// Whether a tick at this moment would tell a timeout.
+    /// A tick at this moment would tell a timeout.
     Expired(u64, bool),
     LogIsEmpty(bool),
-    /// How many entries the window has.
+    /// The number of entries in the window.
     Entries(usize),
-    /// How many requests the window's base has.
+    /// The number of requests in the window's base.
     BaseRows(usize),
     /// The class and the moment of the window's first grant.
     FirstGrant(Option<(Class, Moment)>),
-    /// The positions where the stay of the window's first grant joined and where it has its slot.
+    /// The positions in the log where the stay of the window's first grant begins and where it gets its slot.
     FirstStay(Option<(usize, usize)>),
 }
 
-/// Stops the test at this step, counted from 0, where the dispatcher tells something else.
+/// Fails the test at this step, counted from 0, where the dispatcher tells something else.
 pub fn tells<Q: PendQueue<Key, usize>>(
     rt: &impl Abort,
     core: &Core<Q>,
@@ -59,7 +59,7 @@ pub fn tells<Q: PendQueue<Key, usize>>(
     }
 }
 
-/// Stops the test at this step, counted from 0, where the two differ, and prints both.
+/// Fails the test at this step, counted from 0, where the two differ, and prints both.
 pub fn same_at<T: PartialEq + Debug + Drop>(rt: &impl Abort, number: usize, found: T, expected: T) {
     assert_eq!(rt; found, expected, "step {number}");
 }

@@ -8,9 +8,9 @@ use pend_queue::{ListQueue, PendQueue};
 use std::alloc::{AllocError, Global};
 use std::process::Abort;
 
-// It goes well whichever single allocation is refused.
+// The test succeeds whichever single allocation is refused.
 
-// A dispatcher of one server that takes one request at a time. None where its setup isn't sound.
+// A dispatcher of one server that takes one request at a time; `None` where its setup isn't sound.
 fn made<Q: PendQueue<Key, usize>>(alloc: Global) -> Result<Option<Core<Q>>, AllocError> {
     let setup = of_servers(alloc, &[server(1, 1)])?;
     if !setup.sound() {
@@ -31,7 +31,7 @@ fn arrive<Q: PendQueue<Key, usize>>(alloc: Global, core: &mut Core<Q>) -> Result
     Ok(it.ticket)
 }
 
-// Where memory was refused, the log is as it was, and the same call comes again.
+// Where memory was refused, the log is unchanged, and the same call is made again.
 fn arrive_in_the_end<Q: PendQueue<Key, usize>>(
     rt: &impl Abort,
     alloc: Global,

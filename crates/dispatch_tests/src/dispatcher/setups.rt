@@ -2,14 +2,14 @@ use dispatch_core::{ServerSet, Servers, Setup};
 use std::alloc::{AllocError, Global};
 use std::process::Abort;
 
-/// The servers that a test is played on, and the rules for them.
+/// The servers of a test and their rules.
 #[derive(Clone, Copy)]
 pub enum Plan {
     /// One server that takes one request at a time.
     Alone,
     /// The same with two places, and a log that is full after two arrivals and an end.
     Cramped,
-    /// One server that takes one request at a time, where requests wait 10 milliseconds at most.
+    /// One server that takes one request at a time; requests wait 10 milliseconds at most.
     Patient,
     /// One server that takes two requests at a time.
     Wide,
@@ -17,8 +17,8 @@ pub enum Plan {
     TwoWide,
     /// One server that balancing never picks.
     Weightless,
-    /// Two servers that take one request at a time and go down and up at one result, with
-    /// `option redispatch` and one retry.
+    /// Two servers that take one request at a time and go down or up at one result, with `option
+    /// redispatch` and one retry.
     Checked,
 }
 
@@ -32,7 +32,7 @@ pub(super) fn server(limit: u32, weight: u32) -> ServerSet {
     }
 }
 
-// These servers, with 8 places and room for 64 entries.
+// Makes a setup of these servers, with 8 places and room for 64 entries.
 pub(super) fn of_servers(alloc: Global, list: &[ServerSet]) -> Result<Setup, AllocError> {
     let mut servers = Vec::new(alloc);
     servers.extend_from_slice(list)?;

@@ -6,24 +6,25 @@ use dispatch_log::Entry;
 use std::alloc::Global;
 use std::process::Abort;
 
-/// A step of a test, which is played on two dispatchers, one over each kind of queue.
+/// A step of a test, which runs on two dispatchers, one with each kind of queue.
 #[derive(Clone, Copy)]
 pub enum Step {
     /// The call is accepted at this moment.
     Call(u64, Call),
-    /// The call is refused at this moment, and the log stays as it is.
+    /// The call is refused at this moment, and the log doesn't change.
     Refused(u64, Call, Refusal),
     /// The next window begins.
     Roll,
-    /// The log has this entry at this position, the first of which is 0.
+    /// The log has this entry at this position, counted from 0.
     Entry(usize, Entry),
     /// The log ends with this entry.
     LastEntry(Entry),
-    /// The dispatchers tell this.
+    /// The dispatchers tell this fact.
     Tells(Fact),
 }
 
-/// Plays the steps on dispatchers of a plan. A call of `drop` is proved faster than the drops of all parts of a dispatcher.
+/// Runs the steps on dispatchers of a plan. An explicit `drop` is proved faster than the drops of
+/// all parts of a dispatcher.
 pub fn play(rt: &impl Abort, alloc: Global, plan: Plan, steps: &[Step]) {
     let mut lists = made(rt, alloc, plan);
     let mut trees = made(rt, alloc, plan);
@@ -44,7 +45,7 @@ fn play_on(
     }
 }
 
-// The number of the step, from 0, is told where it fails.
+// Where it fails, it tells the number of the step, from 0.
 fn play_one(
     rt: &impl Abort,
     alloc: Global,

@@ -1,4 +1,4 @@
-//! Reports compared with a plain program that tries every assignment.
+//! Tests that compare reports with a plain program that tries every assignment.
 
 use super::{log_of, moment};
 use crate::assertions::{holds, same};
@@ -9,14 +9,14 @@ use readable_log::{Log, SlotGrant};
 use std::alloc::Global;
 use std::process::Abort;
 
-/// Fixed pseudo-random numbers: a linear congruential generator.
+/// A fixed sequence of pseudo-random numbers: a linear congruential generator.
 #[derive(Drop)]
 struct Numbers {
     state: u64,
 }
 
 impl Numbers {
-    /// One below a bound.
+    /// Returns a number below a bound.
     fn below(&mut self, bound: u64) -> u64 {
         self.state = self
             .state
@@ -33,7 +33,7 @@ struct Waiting {
     key: Key,
 }
 
-/// The entries so far, and who waits.
+/// The entries so far, and the requests that wait.
 #[derive(Drop)]
 struct Course {
     numbers: Numbers,
@@ -42,8 +42,8 @@ struct Course {
     waiting: Vec<Waiting>,
 }
 
-/// A readable log with up to seven grants. Where it is in order each takes the least key of its
-/// queue, else any.
+/// Makes a readable log with up to seven grants. With `in_order` each takes the least key of its
+/// queue, otherwise any.
 fn random_log(rt: &impl Abort, alloc: Global, seed: u64, in_order: bool) -> Log {
     let mut course = Course {
         numbers: Numbers { state: seed },
@@ -61,7 +61,7 @@ fn play(rt: &impl Abort, course: &mut Course, in_order: bool) {
     }
 }
 
-/// A request comes, or one that waits has a slot.
+/// Lets a request arrive, or grants a slot to one that waits.
 fn step(rt: &impl Abort, course: &mut Course, ticket: u64, in_order: bool) {
     course.now = course.now.wrapping_add(course.numbers.below(4));
     if course.numbers.below(2) == 0 {
@@ -99,7 +99,7 @@ fn is_grant(entry: &Entry) -> bool {
     matches!(entry, Entry::Granted(_, _, _))
 }
 
-/// A request of one of two classes in one of two queues, due around now.
+/// Makes a request of one of two classes in one of two queues, due around now.
 fn newcomer(numbers: &mut Numbers, now: u64, ticket: u64) -> Waiting {
     let class = if numbers.below(4) == 0 { 1 } else { 0 };
     let offset = i64::try_from(numbers.below(16)).unwrap_or(0);
@@ -127,7 +127,7 @@ fn arrival(now: u64, it: &Waiting) -> Entry {
     Entry::Arrive(moment(now), arrival)
 }
 
-/// The least of a queue, or any one that waits.
+/// Returns the least request of a queue, or any one that waits.
 fn chosen(numbers: &mut Numbers, waiting: &[Waiting], in_order: bool) -> Option<Waiting> {
     let place = numbers.below(waiting.len() as u64) as usize;
     let any = waiting.get(place).copied()?;
@@ -141,7 +141,7 @@ fn chosen(numbers: &mut Numbers, waiting: &[Waiting], in_order: bool) -> Option<
         .min_by_key(|it| it.key)
 }
 
-/// The grants that a report is about.
+/// Returns the grants that a report is about.
 fn group(rt: &impl Abort, alloc: Global, log: &Log, report: &Report) -> Vec<SlotGrant> {
     let grants = log
         .grants()
@@ -152,7 +152,7 @@ fn group(rt: &impl Abort, alloc: Global, log: &Log, report: &Report) -> Vec<Slot
     grants.expect(rt, "memory")
 }
 
-/// The least that the greatest lateness of an assignment can be. None where there is none.
+/// Returns the smallest greatest lateness of any assignment; `None` where there is none.
 fn least(rt: &impl Abort, alloc: Global, group: &[SlotGrant]) -> Option<i64> {
     let orders = [1, 1, 2, 6, 24, 120, 720, 5040].as_slice();
     let mut least: Option<i64> = None;
@@ -164,8 +164,8 @@ fn least(rt: &impl Abort, alloc: Global, group: &[SlotGrant]) -> Option<i64> {
     least
 }
 
-/// The greatest lateness with the slots in the order of this number, from 0. None where one of
-/// them isn't after its stay's joining.
+/// Returns the greatest lateness with the slots in the permutation of this number, from 0. `None`
+/// where one of them isn't after its stay joined.
 fn greatest(rt: &impl Abort, alloc: Global, group: &[SlotGrant], order: usize) -> Option<i64> {
     let mut slots = Vec::from_slice(alloc, group).expect(rt, "memory");
     greatest_of(&mut slots, group, order)
@@ -189,12 +189,12 @@ fn greatest_of(slots: &mut Vec<SlotGrant>, group: &[SlotGrant], order: usize) ->
     worst
 }
 
-/// What comparing a log's reports with every assignment gave.
+/// The result of comparing a log's reports with every assignment.
 #[derive(Clone, Copy, PartialEq, Eq)]
 enum Outcome {
-    /// The report passes the audit, and no assignment is better.
+    /// The report passes the audit, and no assignment is better than its worst.
     Sound,
-    /// It fails, and no assignment is worse than its worst.
+    /// The report fails the audit, and no assignment is worse than its worst.
     Unsound,
     Wrong,
 }
@@ -218,7 +218,7 @@ fn judged(least: i64, passes: bool, report: &Report) -> Outcome {
     }
 }
 
-/// How many of the reports of some logs had an outcome.
+/// Returns how many of the reports of these logs had an outcome.
 fn outcomes(rt: &impl Abort, alloc: Global, seeds: u64, in_order: bool, outcome: Outcome) -> usize {
     let mut number: usize = 0;
     for seed in 0..seeds {

@@ -23,7 +23,7 @@ fn is_one_write(rt: &impl Abort, alloc: Global, side: &Side, bytes: &[u8], text:
     same(rt, relay.output.writes, 1, "its writes");
 }
 
-// What is read together goes out together.
+// Bytes that are read together are written together.
 #[test]
 fn a_head_and_its_body_are_one_write(rt: HostRuntime) {
     is_one_write(&rt, rt.alloc(), &Side::Request, POST, POST_TEXT);
@@ -36,7 +36,7 @@ fn a_head_and_its_body_are_one_write(rt: HostRuntime) {
     );
 }
 
-// Reads the request, behind whose head its body came.
+// Reads the request, whose body came after its head.
 fn read_whole(rt: &impl Abort, alloc: Global, exchange: &mut Exchange) -> View {
     exchange.renew();
     let view = exchange
@@ -46,7 +46,7 @@ fn read_whole(rt: &impl Abort, alloc: Global, exchange: &mut Exchange) -> View {
     view
 }
 
-// An exchange holds what came behind a head, and one that is made new takes a part of it up.
+// An exchange holds the bytes after a head, and a renewed one takes up a part of them.
 #[test]
 fn a_request_is_taken_up(rt: HostRuntime) {
     let mut relay = Relay::new(&rt, rt.alloc(), TURNS);
@@ -56,7 +56,7 @@ fn a_request_is_taken_up(rt: HostRuntime) {
     same(&rt, relay.output.bytes.as_slice(), POST_TEXT, "a request");
 }
 
-// The leave for a request has 25 bytes or none.
+// The `100` for a request has 25 bytes or none.
 fn is_given_leave(rt: &impl Abort, alloc: Global, number: usize, head: &[u8], len: usize) {
     let mut exchange = Exchange::new(alloc, TURNS).expect(rt, "memory");
     let mut output = Log::new(alloc);

@@ -33,7 +33,7 @@ fn answers_closed(rt: &impl Abort, alloc: Global, exchange: &mut Exchange, view:
     );
 }
 
-// It is closed, and tells the client so if no byte of an answer went out.
+// The exchange is closed, and tells the client so if no byte of an answer was sent.
 fn is_over(rt: &impl Abort, alloc: Global, exchange: &mut Exchange, view: &View) {
     answers_closed(rt, alloc, exchange, view);
     if !exchange.begun() {
@@ -44,7 +44,7 @@ fn is_over(rt: &impl Abort, alloc: Global, exchange: &mut Exchange, view: &View)
     }
 }
 
-/// A message that meets a fault, with so many turns, and what the client was told of an answer before that.
+/// A message that meets a fault, with this number of turns, and what the client was sent of an answer before that.
 struct Faulty {
     side: Side,
     bytes: &'static [u8],
@@ -170,7 +170,7 @@ static ANSWERS: [Faulty; 10] = [
         fault: Fault::Turns,
         told: b"HTTP/1.1 200 OK\r\nConnection: close\r\n\r\nab",
     },
-    // Of interim heads alone the client gets what it can take, and the answer is missed.
+    // Of interim heads alone the client gets what it can take, and the answer is missing.
     Faulty {
         side: Side::AnswerTo(GET),
         bytes: b"HTTP/1.1 100 Continue\r\n\r\nHTTP/1.1 103 X\r\n\r\n",

@@ -94,7 +94,7 @@ fn framings_of_requests(rt: HostRuntime) {
     }
 }
 
-/// A request's method, the head of an answer to it, and what is done with that.
+/// A request's method, the head of an answer to it, and the plan for the answer.
 type PlanRow = (&'static [u8], &'static [u8], Option<Plan>);
 
 static PLANS: [PlanRow; 14] = [
@@ -185,7 +185,7 @@ static PLANS: [PlanRow; 14] = [
         b"HTTP/1.1 200 OK\r\nContent-Length: x\r\n\r\n",
         None,
     ),
-    // A method is told by the case of its letters.
+    // Methods are case-sensitive.
     (
         b"head",
         b"HTTP/1.1 200 OK\r\nContent-Length: 7\r\n\r\n",

@@ -7,7 +7,7 @@ use req_view::{HEAD_BYTES, HEAD_FIELDS};
 use std::alloc::Global;
 use std::process::Abort;
 
-/// A message at a limit or past it, and how many bytes are written of it.
+/// A message at a limit or past it, and how many bytes of it are written.
 struct Limit {
     what: &'static str,
     side: Side,
@@ -19,7 +19,7 @@ const HEAD: &[u8] = b"GET / HTTP/1.1\r\nHost: h\r\n";
 
 const LONG_HEAD: &[u8] = b"GET / HTTP/1.1\r\nHost: h\r\nX: ";
 
-// what comes before a size line's extension
+// the bytes before a size line's extension
 const SIZE_START: &[u8] = b"POST / HTTP/1.1\r\nHost: h\r\nTransfer-Encoding: chunked\r\n\r\n1;";
 
 // and before trailers
@@ -159,7 +159,7 @@ fn is_limit(rt: &impl Abort, alloc: Global, limit: &Limit) {
         Err(fault) => Err(fault),
     };
     same(rt, outcome, limit.expected, limit.what);
-    // Of an answer that is refused its first bytes alone went out.
+    // Of an answer that is refused only the first bytes were sent.
     if outcome.is_err() && matches!(limit.side, Side::AnswerTo(_)) {
         let written = relay.output.bytes.as_slice();
         holds(rt, bytes.as_slice().starts_with(written), limit.what);
@@ -173,7 +173,7 @@ fn messages_at_a_limit(rt: HostRuntime) {
     }
 }
 
-/// A message behind whose start one byte comes for ever, and how it ends with so many turns.
+/// A message with one byte repeated for ever after its start, and how it ends after this number of turns.
 struct Endless {
     what: &'static str,
     side: Side,

@@ -24,7 +24,7 @@ fn read(alloc: Global, exchange: &mut Exchange) -> Result<View, Fault> {
     exchange.read_request(alloc, &mut client)
 }
 
-// Where the growth is refused in the first read, the second one reads.
+// Where the first read finds no memory, the second one reads.
 fn read_in_the_end(rt: &impl Abort, alloc: Global, exchange: &mut Exchange) -> Result<View, Fault> {
     match read(alloc, exchange) {
         Ok(view) => Ok(view),
@@ -52,7 +52,7 @@ fn answer(alloc: Global, relay: &mut Relay, pass: &Pass, view: &View) -> Result<
         .answer(alloc, pass, view, &mut server, &mut relay.output)
 }
 
-// The same of the answer, to the same request.
+// The same for the answer, to the same request.
 fn is_answered(rt: &impl Abort, alloc: Global, relay: &mut Relay, pass: &Pass, view: &View)
     requires { Serves pass.now.verdict }
 {
@@ -68,7 +68,8 @@ fn is_answered(rt: &impl Abort, alloc: Global, relay: &mut Relay, pass: &Pass, v
     }
 }
 
-// With the one growth refused that `rt try --test --fail-alloc N` names: want of memory is answered, and the next time not.
+// With one allocation refused, as `rt try --test --fail-alloc N` does, the call answers want of
+// memory, and the next call doesn't.
 #[test]
 fn a_refused_growth_is_want_of_memory(rt: HostRuntime) -> Result<(), Fail> {
     let alloc = rt.alloc();

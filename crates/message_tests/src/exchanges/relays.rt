@@ -17,14 +17,14 @@ pub(crate) const GET: &[u8] = b"GET / HTTP/1.1\r\nHost: h\r\n\r\n";
 
 pub(crate) const OLD_GET: &[u8] = b"GET / HTTP/1.0\r\n\r\n";
 
-/// Which message is looked at.
+/// The message under test.
 pub(crate) enum Side {
     Request,
     /// The answer to this request, which has no body.
     AnswerTo(&'static [u8]),
 }
 
-/// An exchange, and what takes the message that is looked at.
+/// An exchange, and the sink of the message under test.
 #[derive(Drop)]
 pub(crate) struct Relay {
     pub(crate) exchange: Exchange,
@@ -39,7 +39,7 @@ impl Relay {
         }
     }
 
-    /// Hands the message on by the exchange, made new, on a pass of its own.
+    /// Hands the message on by the exchange, renewed, on a pass of its own.
     pub(crate) fn hand_on(
         &mut self,
         alloc: Global,
@@ -52,7 +52,7 @@ impl Relay {
         result
     }
 
-    /// The same on this pass. Before an answer its request is handed on.
+    /// The same on this pass. The request is handed on before its answer.
     pub(crate) fn hand_on_by(
         &mut self,
         alloc: Global,
@@ -99,7 +99,8 @@ impl Relay {
             .answer(alloc, pass, &view, input, &mut self.output)
     }
 
-    /// Hands on a request that was read, by the exchange, made new: what is taken up of its body, and the rest.
+    /// Hands on a request that was read, by the exchange, renewed: the part of its body that it
+    /// takes up, and the rest.
     pub(crate) fn forward(
         &mut self,
         alloc: Global,
@@ -121,7 +122,7 @@ impl Relay {
     }
 }
 
-/// What a message is, its bytes, and what becomes of it.
+/// The name of a message, its bytes, and what they become.
 pub(crate) type Row = (&'static str, &'static [u8], Result<&'static [u8], Fault>);
 
 fn becomes(rt: &impl Abort, alloc: Global, relay: &mut Relay, side: &Side, row: &Row) {
@@ -134,7 +135,7 @@ fn becomes(rt: &impl Abort, alloc: Global, relay: &mut Relay, side: &Side, row: 
     assert_eq!(rt; outcome, expected, "{what}");
 }
 
-/// Stops the test where a row becomes something else. One exchange hands all of them on.
+/// Fails the test where a row becomes something else. One exchange hands all of them on.
 pub(crate) fn become_of_each(rt: &impl Abort, alloc: Global, side: &Side, rows: &[Row]) {
     let mut relay = Relay::new(rt, alloc, TURNS);
     for row in rows {

@@ -1,4 +1,4 @@
-//! Messages that are stopped a step later each time.
+//! Tests of messages that are stopped one step later each time.
 use crate::assertions::{holds, same};
 use crate::exchanges::relays::{GET, Relay, Side, TURNS};
 use crate::fakes::Feed;
@@ -6,19 +6,19 @@ use relay_http::{Fault, Stage};
 use std::alloc::Global;
 use std::process::Abort;
 
-/// What stops a message at a step.
+/// The way to stop a message at a step.
 enum Stop {
-    /// The input ends behind so many bytes, the first of which are the head.
+    /// The input ends after this number of bytes, the first of which are the head.
     Cut { head: usize },
-    /// This read fails, each of one byte.
+    /// The read of this number fails; each read is of one byte.
     Read,
-    /// This write fails, each of one byte.
+    /// The write of this number fails; each write is of one byte.
     Write,
-    /// There are no more turns than so many, and a read takes one for each byte.
+    /// There is only this number of turns, and a read takes one for each byte.
     Turns,
 }
 
-/// A message that is stopped at each of the steps, up to that from which on it is whole.
+/// A message that is stopped at each step before it is whole.
 struct Steps {
     what: &'static str,
     side: Side,
@@ -31,7 +31,7 @@ struct Steps {
     last: usize,
 }
 
-// 77 bytes, the last of which is behind the body
+// 77 bytes, the last of which is after the body
 const POST: &[u8] =
     b"POST /a HTTP/1.1\r\nHost: h\r\nConnection: x-a\r\nX-A: 1\r\nContent-Length: 3\r\n\r\nabcd";
 
@@ -119,7 +119,8 @@ static STEPS: [Steps; 7] = [
         whole: 26,
         last: 25,
     },
-    // Of its turns two go to the request, one to each byte, and one to each write: before each byte of the body is read, and at the end.
+    // Two of its turns go to the request, one to each byte, and one to each write: before each byte
+    // of the body is read, and at the end.
     Steps {
         what: "each turn of an answer",
         side: Side::AnswerTo(GET),
@@ -163,7 +164,7 @@ fn relay_at(rt: &impl Abort, alloc: Global, steps: &Steps, step: usize) -> Relay
     relay
 }
 
-// What had gone out when it was stopped.
+// Checks what was written when it was stopped.
 fn is_stopped(rt: &impl Abort, relay: &Relay, steps: &Steps, step: usize) {
     let written = relay.output.bytes.len();
     same(rt, relay.exchange.stage(), Stage::Failed, steps.what);

@@ -1,21 +1,21 @@
 use std::alloc::{AllocError, Global};
 
-/// A fixed sequence of scripts that look random, from a number that it begins with.
+/// A fixed sequence of pseudo-random scripts, from a seed.
 #[derive(Drop)]
 pub struct Chance {
     pub state: u64,
 }
 
-/// What a line asks for, but for its moment.
+/// The event of a line, without its moment.
 enum Event {
     Arrival,
-    /// It happens to the ticket that is drawn.
+    /// An event of a ticket that is drawn at random.
     Ticketed(&'static str),
     Other(&'static str),
     Roll,
 }
 
-// Each as often as it is to be drawn.
+// Each event as often as it is to be drawn.
 static EVENTS: [Event; 22] = [
     Event::Arrival,
     Event::Arrival,
@@ -44,7 +44,7 @@ static EVENTS: [Event; 22] = [
 const HEADER: &str = "retries 1\nqueue-timeout 40\nserver a 1 2 1 2 1\nserver b.b 2 1 2\n";
 
 impl Chance {
-    /// A number below the bound.
+    /// Returns a number below the bound.
     fn below(&mut self, bound: u64) -> u64 {
         self.state = self
             .state
@@ -53,7 +53,7 @@ impl Chance {
         (self.state >> 33) % bound.max(1)
     }
 
-    /// A script of two servers and so many events, of which many are refused.
+    /// Makes a script of two servers and this number of events, of which many are refused.
     pub fn script(&mut self, alloc: Global, events: usize) -> Result<String, AllocError> {
         let mut text = String::from_str(alloc, HEADER)?;
         if self.below(2) == 0 {

@@ -1,7 +1,7 @@
 use std::alloc::Global;
 use std::process::Abort;
 
-/// A bar as a picture has it.
+/// A bar of a picture.
 #[derive(Drop)]
 pub struct Seen {
     pub ticket: u64,
@@ -10,7 +10,7 @@ pub struct Seen {
     pub lasts: u64,
 }
 
-/// The bars of a picture, in order.
+/// Returns the bars of a picture, in order.
 pub fn bars_in(rt: &impl Abort, alloc: Global, picture: &str) -> Vec<Seen> {
     let mut bars = Vec::new(alloc);
     for line in picture.lines() {
@@ -21,7 +21,7 @@ pub fn bars_in(rt: &impl Abort, alloc: Global, picture: &str) -> Vec<Seen> {
     bars
 }
 
-// `<path class="kN KIND" d="MX YhWv..z"><title>ticket T, ..`.
+// Reads `<path class="kN KIND" d="MX YhWv..z"><title>ticket T, ..`.
 fn bar_in(line: &str) -> Option<Seen> {
     let (looks, rest) = line
         .strip_prefix("<path class=\"k")?
@@ -41,7 +41,7 @@ fn number_between(text: &str, before: &str, behind: &str) -> Option<u64> {
     rest.split_once(behind)?.0.parse().ok()
 }
 
-/// Whether each tag that opens is closed in turn, and no sign stands bare.
+/// Says whether each tag that opens is closed in turn, and every special character is escaped.
 pub fn is_well_formed(rt: &impl Abort, alloc: Global, text: &str) -> bool {
     let mut open = Vec::new(alloc);
     let mut pieces = text.split("<");
@@ -52,7 +52,7 @@ pub fn is_well_formed(rt: &impl Abort, alloc: Global, text: &str) -> bool {
     well && open.is_empty()
 }
 
-// Whether what stands behind a `<` is a tag that may stand there, and plain text. The tags that are open are kept.
+// Says whether the text after a `<` is a tag that may stand there, and plain text. The open tags are kept.
 fn is_tag<'a>(rt: &impl Abort, open: &mut Vec<&'a str>, piece: &'a str) -> bool {
     let Some((tag, text)) = piece.split_once(">") else {
         return false;

@@ -23,7 +23,7 @@ fn a_picture_shows_the_stretches_and_no_other_bar(rt: HostRuntime) {
     holds(&rt, SCRIPTS * 10 < bars);
 }
 
-// How many bars the picture of a script has, which are those that are expected.
+// Returns the number of bars of a script's picture, which must be the expected ones.
 fn bars_of(rt: &impl Abort, alloc: Global, script: &str) -> usize {
     let trace = told(rt, alloc, trace_of(rt, alloc, script).as_slice());
     let picture = picture_of(rt, alloc, &trace);
@@ -33,7 +33,7 @@ fn bars_of(rt: &impl Abort, alloc: Global, script: &str) -> usize {
     bars.len()
 }
 
-// The bars are the stretches of a log over its moments, which the test reads for itself.
+// The bars are the stretches of a log over its moments, which the test computes for itself.
 fn are_the_stretches(rt: &impl Abort, alloc: Global, bars: &[Seen], entries: &[Entry]) {
     let stretches = stretches_of(alloc, entries).expect(rt, "memory");
     same(rt, bars.len(), stretches.len());
@@ -60,7 +60,7 @@ fn are_the_stretches(rt: &impl Abort, alloc: Global, bars: &[Seen], entries: &[E
     }
 }
 
-// The moment of the last event up to a position.
+// Returns the moment of the last event up to a position.
 fn moment_at(entries: &[Entry], position: usize) -> u64 {
     let mut moment = 0;
     for entry in entries.iter().take(position) {
@@ -91,7 +91,7 @@ fn a_trace_is_read_as_it_is_written(rt: HostRuntime) {
     }
 }
 
-// The lines of a trace that are of an entry: no refusal, no roll and no report.
+// Returns the lines of a trace that are entries: no refusal, no roll and no report.
 fn entry_lines(rt: &impl Abort, alloc: Global, trace: &[u8]) -> Vec<u8> {
     let mut lines = Vec::new(alloc);
     for line in Lines::new(trace) {

@@ -6,7 +6,7 @@ use pend_queue::PendQueue;
 use std::alloc::Global;
 use std::process::Abort;
 
-/// What is asked of a dispatcher.
+/// A call of a dispatcher.
 #[derive(Clone, Copy)]
 pub enum Call {
     Arrive(Class, Offset, Option<usize>),
@@ -18,7 +18,7 @@ pub enum Call {
     Limit(usize, Intake),
 }
 
-/// Asks a call of the dispatcher, and tells the place of an arrival.
+/// Makes a call, and returns the place of an arrival.
 pub fn ask<Q: PendQueue<Key, usize>>(
     alloc: Global,
     core: &mut Core<Q>,
@@ -41,7 +41,7 @@ pub fn ask<Q: PendQueue<Key, usize>>(
     Ok(0)
 }
 
-/// A dispatcher without a request.
+/// Makes a dispatcher without a request.
 pub fn made<Q: PendQueue<Key, usize>>(rt: &impl Abort, alloc: Global, setup: Setup) -> Core<Q> {
     holds(rt, setup.sound());
     Core::new(alloc, setup).expect(rt, "memory")

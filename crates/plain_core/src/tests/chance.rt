@@ -3,7 +3,7 @@ use super::state::Plain;
 use dispatch_log::Intake;
 use due_key::{Class, Moment, Offset};
 
-/// A fixed sequence of moments and calls that look random.
+/// A fixed sequence of pseudo-random moments and calls.
 #[derive(Drop)]
 pub struct Chance {
     state: u64,
@@ -18,7 +18,7 @@ impl Chance {
         }
     }
 
-    /// A number below the bound.
+    /// Returns a number below the bound.
     fn below(&mut self, bound: u64) -> u64 {
         self.state = self
             .state
@@ -27,7 +27,7 @@ impl Chance {
         (self.state >> 33) % bound.max(1)
     }
 
-    /// A moment: most come later than the one before, and some earlier.
+    /// Returns a moment: most are later than the one before, and some earlier.
     pub fn moment(&mut self) -> Moment {
         let later = self.now.get().saturating_add(self.below(8));
         self.now = Moment::new(later).unwrap_or(self.now);
@@ -35,14 +35,14 @@ impl Chance {
         Moment::new(earlier).unwrap_or(self.now)
     }
 
-    /// A number from `-bound` to `bound`.
+    /// Returns a number from `-bound` to `bound`.
     fn around(&mut self, bound: u32) -> i64 {
         let wide = u64::from(bound).saturating_mul(2).saturating_add(1);
         let number = self.below(wide).min(u64::from(u32::MAX));
         number as i64 - i64::from(bound)
     }
 
-    /// One of the servers, or now and then none.
+    /// Returns one of the servers, or now and then none.
     fn server(&mut self, plain: &Plain) -> usize {
         let servers = plain.servers() as u64;
         if self.below(64) == 0 {
@@ -52,7 +52,7 @@ impl Chance {
         }
     }
 
-    /// The ticket of a request that waits, or of one that doesn't; now and then any ticket.
+    /// Returns the ticket of a request that waits, or of one that doesn't; now and then any ticket.
     fn ticket(&mut self, plain: &Plain, waits: bool) -> u64 {
         let nth = self.below(plain.count(waits));
         match plain.nth_ticket(waits, nth) {
@@ -61,7 +61,7 @@ impl Chance {
         }
     }
 
-    /// A call that fits what the dispatcher has to do, for the most part.
+    /// Returns a call that mostly suits the dispatcher's state.
     pub fn call(&mut self, plain: &Plain) -> Call {
         match self.below(16) {
             0..=4 => self.arrival(plain),
@@ -80,7 +80,7 @@ impl Chance {
         }
     }
 
-    // Closed, or open to up to three, or to any number.
+    // Returns closed, open up to three, or open without limit.
     fn intake(&mut self) -> Intake {
         match self.below(5).min(4) {
             4 => Intake::Closed,
@@ -88,7 +88,7 @@ impl Chance {
         }
     }
 
-    /// Whether the next window begins, now and then.
+    /// Says whether the next window begins, now and then.
     pub fn rolls(&mut self) -> bool {
         self.below(1024) == 0
     }

@@ -7,14 +7,14 @@ use verdict::Cause;
 /// The servers that balancing chooses from.
 #[derive(Clone, Copy)]
 enum Among {
-    /// Those that a request may be put on, which avoids this one.
+    /// Those that a request may be put on that avoids this one.
     Candidates(Option<usize>),
-    /// Those that are free and face a request that their slot may go to.
+    /// Those that are free while a request waits that may take their slot.
     Takers,
 }
 
 impl Plain {
-    /// Where a request in no place goes, which avoids a server where it can.
+    /// Returns the placement of a request without a phase that avoids a server where it can.
     pub fn placement(&self, ticket: u64, pin: Option<usize>, avoid: Option<usize>) -> Entry {
         let chosen = match self.working_pin(pin) {
             Some(server) => Some(server),
@@ -28,7 +28,7 @@ impl Plain {
         }
     }
 
-    /// The grant that comes next, if one is lawful: the server that takes next takes the least key that it may.
+    /// Returns the next grant, if one is lawful: the server that takes next takes the least key that it may.
     pub fn grant(&self) -> Option<Entry> {
         let server = match self.first_weightless_taker() {
             Some(server) => server,
@@ -41,7 +41,7 @@ impl Plain {
         }
     }
 
-    /// The request with the least key of those that wait in a queue.
+    /// Returns the request with the least key in a queue.
     pub fn first_in(&self, queue: Queue) -> Option<&Row> {
         let mut first = None;
         for place in &self.rows {
@@ -54,7 +54,7 @@ impl Plain {
         first
     }
 
-    /// The expired request with the lowest ticket.
+    /// Returns the expired request with the lowest ticket.
     pub fn first_expired(&self) -> Option<u64> {
         let mut first: Option<u64> = None;
         for place in &self.rows {
@@ -68,7 +68,7 @@ impl Plain {
         first
     }
 
-    /// Whether a tick at this moment would tell a timeout.
+    /// Says whether a tick at this moment would tell a timeout.
     pub fn some_expire(&self, moment: Moment) -> bool {
         let now = self.effective(moment);
         for place in &self.rows {
@@ -100,7 +100,7 @@ impl Plain {
         false
     }
 
-    // The request with the least key of those that a slot of the server may go to.
+    // Returns the request with the least key among those that may take a slot of the server.
     fn first_for(&self, server: usize) -> Option<&Row> {
         let mut first = None;
         for place in &self.rows {
@@ -126,7 +126,7 @@ impl Plain {
         None
     }
 
-    // A server with room; the avoided one only where no other has room.
+    // Says whether a server has room; the one to avoid counts only where no other has room.
     fn is_candidate(&self, server: usize, avoid: Option<usize>) -> bool {
         self.has_room(server) && (avoid != Some(server) || !self.another_has_room(server))
     }
@@ -147,7 +147,8 @@ impl Plain {
         }
     }
 
-    // Of those with the least load for their weight the first after the cursor, where the first server follows the last.
+    // Returns, among those with the least load for their weight, the first one after the cursor,
+    // where the first server follows the last.
     fn pick(&self, among: Among) -> Option<usize> {
         let servers = self.servers();
         let next = self.cursor.saturating_add(1).min(servers);
@@ -160,7 +161,7 @@ impl Plain {
         best
     }
 
-    // Whether the server has less load than the best one so far, or is the first.
+    // Says whether the server has less load than the best one so far, or is the first.
     fn is_better(&self, server: usize, best: Option<usize>) -> bool {
         match best {
             Some(other) => self.share(server, other) < self.share(other, server),
@@ -173,7 +174,7 @@ impl Plain {
     }
 }
 
-// The one with the lesser key.
+// Returns the one with the lesser key.
 fn lesser<'a>(first: Option<&'a Row>, row: &'a Row) -> &'a Row {
     match first {
         Some(other) if other.key <= row.key => other,

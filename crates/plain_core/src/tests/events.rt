@@ -5,14 +5,14 @@ use dispatch_log::{Arrival, Entry, Intake, Phase, Queue, Refusal};
 use due_key::{Due, Moment};
 use verdict::Cause;
 
-/// What comes next in an event.
+/// The stage of an event: what comes next in it.
 #[derive(Clone, Copy)]
 pub enum Stage {
     Placing(u64),
     Returning(u64),
     Ending(u64),
     Failing(u64),
-    /// The ticket's slot at the server was given back, because its connection failed.
+    /// The ticket's slot at the server was freed, because its connection failed.
     Leaving(u64, usize),
     Aborting(u64),
     Telling,
@@ -22,7 +22,7 @@ pub enum Stage {
 }
 
 impl Stage {
-    /// The stage after an entry.
+    /// Returns the stage after an entry.
     pub fn after(self, entry: Entry) -> Stage {
         match (self, entry) {
             (_, Entry::Arrive(_, arrival)) => Stage::Placing(arrival.ticket),
@@ -50,7 +50,7 @@ impl Plain {
         self.moment.later(moment)
     }
 
-    /// The first refusal that applies.
+    /// Returns the first refusal that applies.
     pub fn refuses(&self, call: Call) -> Option<Refusal> {
         let needed = self.setup.places.saturating_mul(2).saturating_add(8);
         if self.setup.log.saturating_sub(self.used) < needed {
@@ -89,7 +89,7 @@ impl Plain {
         }
     }
 
-    /// The entry that an accepted call begins its event with; an arrival gets this place.
+    /// Returns the entry with which an accepted call begins its event; an arrival gets this place.
     pub fn event(&self, moment: Moment, call: Call, place: usize) -> Entry {
         let moment = self.effective(moment);
         match call {
@@ -112,7 +112,7 @@ impl Plain {
         }
     }
 
-    /// Whether the place of an arrival is free.
+    /// Says whether the place of an arrival is free.
     pub fn has_place_for(&self, event: &Entry) -> bool {
         match event {
             Entry::Arrive(_, arrival) => matches!(
@@ -123,7 +123,7 @@ impl Plain {
         }
     }
 
-    /// The entry that comes next in an event; None where it is over.
+    /// Returns the next entry of an event; `None` where it is over.
     pub fn next(&self, stage: Stage) -> Option<Entry> {
         match stage {
             Stage::Placing(ticket) => Some(self.placement(ticket, self.pin_of(ticket), None)),
@@ -168,7 +168,7 @@ impl Plain {
         }
     }
 
-    // What the failure of a connection opens with.
+    // Returns the first entry after the failure of a connection.
     fn retry(&self, ticket: u64) -> Option<Entry> {
         let server = self.server_of(ticket)?;
         let failures = self.failures_of(ticket);
@@ -181,12 +181,12 @@ impl Plain {
     }
 }
 
-// The pin as an entry has it.
+// Returns the pin as an entry has it.
 fn number_of(pin: Option<usize>) -> Option<u8> {
     u8::try_from(pin?).ok()
 }
 
-// Whether a request in this phase may be returned, fail, or be given up.
+// Says whether a request in this phase may be returned, fail, or be given up.
 fn suits(call: Call, phase: Phase) -> bool {
     match call {
         Call::Done(_) => !waits(phase),

@@ -10,7 +10,7 @@ impl Plain {
         self.setup.servers.as_slice().get(server).copied()
     }
 
-    /// How many requests a server takes at present.
+    /// Returns a server's present limit.
     pub fn limit(&self, server: usize) -> Option<Intake> {
         self.limits.get(server).copied()
     }
@@ -39,13 +39,13 @@ impl Plain {
         count
     }
 
-    /// The requests that a server serves and those in its own queue.
+    /// Returns the number of requests that a server serves and that wait in its own queue.
     pub fn load(&self, server: usize) -> usize {
         self.served(server)
             .saturating_add(self.queued(Queue::Server(server)))
     }
 
-    /// Whether a server's health lets it take requests, by all results of its checks or by those before the last one.
+    /// Says whether a server is up, by all results of its checks or by those before the last one.
     pub fn is_up_by_results(&self, server: usize, but_the_last: bool) -> bool {
         match (self.server(server), self.results.get(server)) {
             (Some(it), Some(results)) => {
@@ -71,7 +71,7 @@ impl Plain {
         }
     }
 
-    /// Whether a balanced request may be put on the server.
+    /// Says whether balancing may put a request on the server.
     pub fn has_room(&self, server: usize) -> bool {
         let Some(it) = self.server(server) else {
             return false;
@@ -84,7 +84,7 @@ impl Plain {
         (limit == 0 || self.load(server) < most) && self.is_usable(server)
     }
 
-    /// Whether a server takes a request that is bound to it.
+    /// Says whether a server takes a request that is pinned to it.
     fn takes_pinned(&self, server: usize) -> bool {
         let Some(it) = self.server(server) else {
             return false;
@@ -102,7 +102,7 @@ impl Plain {
         }
     }
 
-    /// Whether a slot of a server may go to a request in this phase.
+    /// Says whether a slot of a server may go to a request in this phase.
     pub fn may_go_to(&self, server: usize, phase: Phase) -> bool {
         match phase {
             Phase::Waiting(Queue::Backend, _) => self.is_usable(server),
@@ -131,7 +131,7 @@ fn is_up_by(rise_fall: Option<(u32, u32)>, results: &[bool]) -> bool {
     }
 }
 
-// `fall` failures stand in a row, and no `rise` successes stand in a row after them.
+// Says whether `fall` failures stand in a row with no `rise` successes in a row after them.
 fn is_down(rise: usize, fall: usize, results: &[bool]) -> bool {
     for at in 0..results.len() {
         let rest = &results[at..];

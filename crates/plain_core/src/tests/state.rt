@@ -4,8 +4,8 @@ use due_key::{Key, Moment};
 use std::alloc::Global;
 use std::process::Abort;
 
-/// What a log leaves of its base: the rows in a list and the results of the checks in lists, with no count, heap or index
-/// beside them.
+/// The state that a log leaves: the rows in a list and the results of the checks in lists, without
+/// counters, heaps or indexes.
 #[derive(Drop)]
 pub struct Plain {
     pub setup: Setup,
@@ -13,13 +13,13 @@ pub struct Plain {
     pub results: Vec<Vec<bool>>,
     /// Which servers are up, by their results.
     pub ups: Vec<bool>,
-    /// How many requests each server takes at present.
+    /// The present limit of each server.
     pub limits: Vec<Intake>,
     pub moment: Moment,
     pub ticket: u64,
     /// The server that balancing picked last.
     pub cursor: usize,
-    /// How many entries the window has.
+    /// The number of entries in the window.
     pub used: usize,
 }
 
@@ -65,7 +65,7 @@ impl Plain {
         true
     }
 
-    /// How many requests wait, or don't.
+    /// Returns the number of requests that wait, or that don't.
     pub fn count(&self, those_that_wait: bool) -> u64 {
         let mut count: u64 = 0;
         for place in &self.rows {
@@ -78,7 +78,8 @@ impl Plain {
         count
     }
 
-    /// The ticket of one of those that wait, or don't, with so many of them in places before its own.
+    /// Returns the ticket of one of those that wait, or that don't, with this number of them in
+    /// places before its own.
     pub fn nth_ticket(&self, those_that_wait: bool, nth: u64) -> Option<u64> {
         let mut before: u64 = 0;
         for place in &self.rows {
@@ -98,7 +99,7 @@ impl Plain {
         self.row_of(ticket)?.pin
     }
 
-    /// Takes in what an entry leaves.
+    /// Applies an entry.
     pub fn take(&mut self, rt: &impl Abort, entry: Entry) {
         self.used = self.used.saturating_add(1);
         match entry {
@@ -145,7 +146,7 @@ impl Plain {
         }
     }
 
-    /// Begins the next window: what is left is its base.
+    /// Begins the next window: the present state is its base.
     pub fn roll(&mut self, rt: &impl Abort) {
         self.used = 0;
         for server in 0..self.servers() {
@@ -153,8 +154,9 @@ impl Plain {
         }
     }
 
-    // Of a server's results those stand that its health goes by: where it is up the failures since the last success, and
-    // where it is down so many failures as let it fall, and the successes since the last failure.
+    // Keeps only the results that decide a server's health: where it is up the failures since the
+    // last success, and where it is down as many failures as take it down, and the successes since
+    // the last failure.
     fn shorten(&mut self, rt: &impl Abort, server: usize) {
         let up = self.is_up(server);
         let fall = if up { 0 } else { self.fall(server) };
@@ -170,7 +172,7 @@ impl Plain {
         }
     }
 
-    // So many failures in a row let a server fall; 0 where it isn't checked.
+    // Returns how many failures in a row take a server down; 0 where it isn't checked.
     fn fall(&self, server: usize) -> usize {
         match self.server(server) {
             Some(
@@ -183,7 +185,7 @@ impl Plain {
         }
     }
 
-    /// The weight of a server; 0 where no server has the number.
+    /// Returns the weight of a server; 0 where no server has the number.
     pub fn weight(&self, server: usize) -> u32 {
         match self.server(server) {
             Some(it) => it.weight,
@@ -240,7 +242,7 @@ impl Plain {
         }
     }
 
-    // One failure more; a request that is redispatched has no pin any more.
+    // Counts one more failure; a redispatched request loses its pin.
     fn fail(&mut self, ticket: u64) {
         if let Some(&row) = self.row_of(ticket) {
             let failures = row.failures.saturating_add(1);
@@ -251,7 +253,7 @@ impl Plain {
         }
     }
 
-    /// Whether the retry after so many failures is the last one and goes to another server.
+    /// Says whether the retry after this number of failures is the last one and goes to another server.
     pub fn is_redispatched(&self, failures: u32) -> bool {
         self.setup.redispatch && failures == self.setup.retries
     }
@@ -268,7 +270,7 @@ impl Plain {
         }
     }
 
-    // A request that is put on the server of its pin is no pick of balancing.
+    // A request that is put on its pinned server doesn't move the cursor of balancing.
     fn put_on(&mut self, ticket: u64, server: usize) {
         if self.pin_of(ticket) != Some(server) {
             self.cursor = server;
@@ -276,7 +278,7 @@ impl Plain {
     }
 }
 
-// How many results at the end are all such.
+// Returns how many results at the end are of this kind.
 fn last_of(results: &[bool], which: bool) -> usize {
     let mut count: usize = 0;
     for ok in results.iter().rev() {

@@ -1,7 +1,7 @@
 use crate::assertions::same;
 use script::{Line, step_in};
 
-// Lines, and the steps that they ask for, as these are printed.
+// Lines, and their steps in debug form.
 static ASKED: [(&str, &str); 17] = [
     (
         "\t7  arrive 5000\t-600000 ",
@@ -64,9 +64,9 @@ static ASKED: [(&str, &str); 17] = [
     (" \troll ", "Roll"),
 ];
 
-// Lines that ask for nothing.
+// Lines without a step.
 static NOTHING: [&str; 61] = [
-    // Like limits and rolls.
+    // Similar to limits and rolls.
     "1 limit",
     "1 limit s1",
     "1 limit 1",
@@ -84,7 +84,7 @@ static NOTHING: [&str; 61] = [
     "roll roll",
     "Roll",
     "rolls",
-    // Like arrivals and ends, or like nothing.
+    // Similar to arrivals and ends, or to nothing.
     "1000000000000000000 done 1",
     "1 done 0000000000000000001",
     "1 done -1",
@@ -97,7 +97,7 @@ static NOTHING: [&str; 61] = [
     "1 Arrive 0 0",
     "places 3",
     "",
-    // Like failures and aborts.
+    // Similar to failures and aborts.
     "1 fail",
     "1 fail 1 2",
     "1 fail -1",
@@ -113,7 +113,7 @@ static NOTHING: [&str; 61] = [
     "1 abort 1000000000000000000",
     "1000000000000000000 abort 1",
     "1 aborted 1",
-    // Like ticks and checks.
+    // Similar to ticks and checks.
     "tick",
     "1 tick 1",
     "-1 tick",

@@ -27,7 +27,7 @@ static FAULTS: [(&str, Option<usize>); 51] = [
     ("server a 0 0 1\n0 done 1\nlog 9\n", Some(3)),
     ("log 9\nroll\nroll\n0 tick", None),
     ("roll\nlog 9\n", Some(2)),
-    // Retries, redispatch and timeouts have their form.
+    // Retries, redispatch and timeouts have their forms.
     ("retries 0\nretries 999999999", None),
     ("retries", Some(1)),
     ("retries 1 2", Some(1)),
@@ -56,17 +56,17 @@ static FAULTS: [(&str, Option<usize>); 51] = [
     ("server a 0 0 1 2 -3", Some(1)),
     ("server a 0 0 257 2 3", Some(1)),
     ("server a 0 0 1 2 3\nserver a 0 0 1", Some(2)),
-    // A header line behind an event is a fault.
+    // A header line after an event is a fault.
     ("0 tick\nretries 3", Some(2)),
     ("0 fail 1\nredispatch", Some(2)),
     ("0 abort 1\n\nqueue-timeout 3", Some(3)),
     ("0 check a up\nserver a 0 0 1 2 3", Some(2)),
     ("redispatch\n0 tick\n1 tick\nplaces 3", Some(4)),
-    // A name that no server has is no fault.
+    // A name that no server has isn't a fault.
     ("retries 3\n0 tick\n0 check a up\n0 check b down", None),
 ];
 
-// The first faulty line of a script: of its header lines, or else of those behind them.
+// Returns the first faulty line of a script: of its header lines, or else of those after them.
 fn fault(alloc: Global, script: &[u8]) -> Option<usize> {
     match read(alloc, script) {
         Err(ScriptError::Fault { line }) => Some(line),

@@ -2,7 +2,7 @@ use crate::assertions::same;
 use dispatch_log::ServerSet;
 use script::{Line, Name, read, step_in};
 
-/// A script, the number of its header's lines, and what these say but for the servers.
+/// A script, the number of its header lines, and their settings without the servers.
 struct Said {
     script: &'static str,
     lines: usize,
@@ -26,7 +26,7 @@ static SAID: [Said; 3] = [
         redispatch: false,
         queue_timeout: None,
     },
-    // Of a word that comes again the last line stands.
+    // Where a word is repeated its last line counts.
     Said {
         script: "retries 5\nqueue-timeout 10\nredispatch\nretries 0\nredispatch\nqueue-timeout 07\nlog 9\n",
         lines: 7,
@@ -36,7 +36,7 @@ static SAID: [Said; 3] = [
         redispatch: true,
         queue_timeout: Some(7),
     },
-    // What no line says is not set.
+    // A word without a line isn't set.
     Said {
         script: "places 8\n0 tick\n",
         lines: 1,

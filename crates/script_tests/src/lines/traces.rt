@@ -7,7 +7,7 @@ use std::alloc::Global;
 use std::process::Abort;
 use verdict::Cause;
 
-// The lines of these entries.
+// Returns the lines of these entries.
 fn text_of(rt: &impl Abort, alloc: Global, entries: &[Entry]) -> String {
     let mut text = String::new(alloc);
     push_entries(&mut text, &named(rt, alloc, &["a", "b"]), entries).expect(rt, "memory");

@@ -9,7 +9,7 @@ const SCRIPT: &[u8] = b"0 arrive 0 0\n9 done 1";
 
 const TRACE: &[u8] = b"0 arrive 1 0 0\n  direct 1 s1\n9 done 1\n  free 1 s1\n  end 1\n";
 
-// Gives a text in pieces, until its turns are spent: the next read fails.
+// A reader of a text in pieces, until its turns are spent: the next read fails.
 #[derive(Drop)]
 struct Source<'a> {
     rest: &'a [u8],
@@ -31,7 +31,7 @@ impl<'a> Read for Source<'a> {
     }
 }
 
-// Takes bytes in pieces, until its turns are spent: the next write fails, or takes nothing.
+// A writer that takes bytes in pieces, until its turns are spent: the next write fails, or takes nothing.
 #[derive(Drop)]
 struct Sink {
     taken: Vec<u8>,
@@ -60,8 +60,8 @@ impl Write for Sink {
     }
 }
 
-/// In which pieces the script is read and its trace written, how often each, and whether the
-/// write behind these fails.
+/// The sizes of the pieces in which the script is read and its trace written, the number of each,
+/// and whether the next write fails.
 #[derive(Clone, Copy)]
 struct Streams {
     read: usize,
@@ -79,7 +79,7 @@ const UNBROKEN: Streams = Streams {
     fails: true,
 };
 
-// So the replay over these streams ends, and so many bytes of the trace are written.
+// Checks how the replay over these streams ends, and that this number of bytes of the trace are written.
 fn ends(rt: &impl Abort, alloc: Global, streams: Streams, end: Result<(), Fault>, count: usize) {
     let mut source = Source {
         rest: SCRIPT,

@@ -17,7 +17,7 @@ static ROWS: [(&str, usize); 9] = [
     ("0 arrive 0 1000000000000000000\n", 1),
 ];
 
-// How the replay of a script ends that leaves nothing written.
+// Returns how the replay of a script ends that writes nothing.
 fn end_of(rt: &impl Abort, alloc: Global, script: &[u8]) -> Result<(), Fault> {
     let mut reader = script;
     let mut trace = Vec::new(alloc);

@@ -1,7 +1,7 @@
 use super::{Replay, play};
 
 static ROWS: [Replay; 2] = [
-    // 65 arrivals are one more than there are places.
+    // 65 arrivals are one more than the places.
     Replay {
         name: "a full house refuses",
         script: "\

@@ -34,7 +34,7 @@ fn arrive(rt: &impl Abort, alloc: Global, core: &mut OfLists, offset: i64) {
     let _ = arrived.expect(rt, "an arrival");
 }
 
-// The reports are of these classes, with so many grants and this worst lateness.
+// Checks that the reports are of these classes, with these numbers of grants and worst latenesses.
 fn are_reported(rt: &impl Abort, alloc: Global, core: &OfLists, expected: &[(i64, usize, i64)]) {
     let reports = reports_of(alloc, core).expect(rt, "memory");
     same(rt, reports.as_slice().len(), expected.len());
@@ -44,7 +44,7 @@ fn are_reported(rt: &impl Abort, alloc: Global, core: &OfLists, expected: &[(i64
     }
 }
 
-// The second of two requests that arrive is reported once the first is over.
+// The second of two requests is reported once the first is over.
 fn the_second_is_reported(rt: &impl Abort, alloc: Global, core: &mut OfLists) {
     arrive(rt, alloc, core, 0);
     arrive(rt, alloc, core, 5);

@@ -171,7 +171,8 @@ refused 6
 refused 2
 ",
     },
-    // Without a usable server a request is told so at once, and keeps its place until that is done.
+    // Without a usable server a request is told so at once, and keeps its place until the caller
+    // has reported that.
     Replay {
         name: "a request without a server is told so",
         script: "\
@@ -189,7 +190,7 @@ refused 2
   end 1
 ",
     },
-    // The servers stand in the order of their lines, the classes of a queue rise.
+    // The servers come in the order of their lines, the classes of a queue by rising number.
     Replay {
         name: "each queue and class is reported",
         script: "\

@@ -88,7 +88,7 @@ refused 6
 1 limit s1 2
 ",
     },
-    // Before all else an event asks for twice the places and 8 free entries, here 10.
+    // Before anything else an event needs twice as many free entries as places, and 8 more, here 10.
     Replay {
         name: "a full log refuses each event",
         script: "\

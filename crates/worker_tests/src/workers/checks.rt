@@ -1,4 +1,4 @@
-// Checks of servers.
+// Tests of servers' checks.
 ghost use Rattle.std.specs.Prelude.{◌≡◌};
 ghost use Rattle.outstanding.specs.Books.{terms_of};
 ghost use Rattle.proxy_config.specs.Sound.{IsSoundConfig};
@@ -8,7 +8,7 @@ use super::scenes::plain;
 use super::*;
 use std::sync::atomic::AtomicBool;
 
-// What a checker found: how often it looked, and whether the server is up then.
+// The result of a checker: how often it looked, and whether the server is up afterwards.
 type Checked = (u64, bool);
 
 // The checker's pauses are spent, or it was told to stop before.
@@ -27,7 +27,7 @@ fn check_thrice<N: BoardName, R: Abort + Wait>(
     (seen.probes.load(Ordering::SeqCst), is_up)
 }
 
-// A server that fails its checks, is checked by none who was told to stop, and then passes.
+// A server fails its checks, isn't checked by a checker that was told to stop, and then passes.
 fn down_and_up<N: BoardName, R: Abort + Wait>(rt: &R, alloc: Global, opened: Opened) -> [Checked; 3]
     requires named { opened.board ≡ N.board }
     requires terms { N.terms ≡ terms_of opened.core.setup }

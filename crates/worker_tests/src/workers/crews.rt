@@ -1,4 +1,4 @@
-// Workers side by side.
+// Tests of workers side by side.
 ghost use Rattle.std.specs.Prelude.{◌≡◌};
 ghost use Rattle.outstanding.specs.Books.{terms_of};
 ghost use Rattle.proxy_config.specs.Sound.{IsSoundConfig};
@@ -9,7 +9,7 @@ use super::*;
 use std::thread::Threads;
 use worker_crew::serve;
 
-// Two workers serve a client each, of which the first one's server answers only once the second one's has.
+// Two workers serve one client each; the first one's server answers only once the second one's has.
 fn serve_two<N: BoardName + Send + Sync, R: Abort + Threads + Wait + Sync>(
     rt: &R,
     alloc: Global,

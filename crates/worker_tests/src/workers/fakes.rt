@@ -4,16 +4,16 @@ use super::*;
 /// What was seen of all peers.
 #[derive(Drop)]
 pub(crate) struct Seen {
-    /// Bytes that a peer was told and expected, and others.
+    /// The number of bytes that a peer was sent as expected, and of others.
     pub(crate) right: AtomicU64,
     pub(crate) wrong: AtomicU64,
-    /// Connections to servers that were asked for.
+    /// The number of connections to servers that were asked for.
     pub(crate) connects: AtomicU64,
-    /// Servers that gave all that they say.
+    /// The number of servers that sent their whole answers.
     pub(crate) answers: AtomicU64,
-    /// Windows that ended.
+    /// The number of windows that ended.
     pub(crate) windows: AtomicU64,
-    /// Looks at checks of servers.
+    /// The number of looks at checks of servers.
     pub(crate) probes: AtomicU64,
 }
 
@@ -30,7 +30,7 @@ impl Seen {
     }
 }
 
-/// What a gate's peers say, and what they expect to be told.
+/// The bytes that a gate's peers send, and those that they expect.
 #[derive(Clone, Copy)]
 pub(crate) struct Scene {
     pub(crate) clients: u32,
@@ -38,15 +38,15 @@ pub(crate) struct Scene {
     pub(crate) answer: &'static [u8],
     pub(crate) to_server: &'static [u8],
     pub(crate) to_client: &'static [u8],
-    /// A client takes so many bytes, and is gone.
+    /// A client takes this number of bytes, and leaves.
     pub(crate) taken: usize,
-    /// So many connections fail at first.
+    /// This number of connections fail at first.
     pub(crate) failing: u64,
-    /// A client is gone once it was asked so often.
+    /// A client has left once it was asked this number of times.
     pub(crate) patience: u32,
-    /// A server answers once so many have, or once it waited too long.
+    /// A server answers once this number of servers have answered, or once it has waited too long.
     pub(crate) answers_after: u64,
-    /// What a check of a server finds.
+    /// The result of a server's check.
     pub(crate) up: bool,
 }
 
@@ -188,7 +188,7 @@ impl<'a> Fake<'a> {
     }
 }
 
-/// So many pauses, in each of which another thread may run.
+/// This number of pauses, in each of which another thread may run.
 #[derive(Drop)]
 pub(crate) struct Few {
     most: u32,

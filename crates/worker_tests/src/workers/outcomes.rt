@@ -1,4 +1,5 @@
-// Clients one after the other, of which the rows say what becomes of them. The places are fewer, so that each row shows that its place is free again.
+// Tests of clients one after the other, with a row for the outcome of each. There are fewer places
+// than rows, so each row shows that its place is free again.
 ghost use Rattle.std.specs.Prelude.{◌≡◌, ◌<◌, ◌≤◌};
 ghost use Rattle.outstanding.specs.Books.{terms_of};
 ghost use Rattle.proxy_config.specs.Sound.{IsSoundConfig};
@@ -24,7 +25,7 @@ fn work<N: BoardName, R: Wait>(rt: &R, alloc: Global, opened: Opened, scene: Sce
     }
 }
 
-// What a scene comes to in a log of this length.
+// Returns the outcome of a scene, with a log of this length.
 fn play<R: Abort + Wait>(rt: &R, alloc: Global, log: usize, scene: Scene) -> Found
     requires log { (0 < log) × (log ≤ 262144) }
 {
@@ -32,7 +33,8 @@ fn play<R: Abort + Wait>(rt: &R, alloc: Global, log: usize, scene: Scene) -> Fou
     work::<Brand, _>(rt, alloc, opened, scene)
 }
 
-// A scene comes to this tally, its peers are told so many bytes of what they expect and no other, and nothing is left on the board.
+// Checks that a scene has this tally, its peers are sent this number of expected bytes and no
+// others, and nothing is left on the board.
 fn expect<R: Abort + Wait>(rt: &R, alloc: Global, scene: Scene, told: usize, tally: Tally) {
     let found = play(rt, alloc, 4096, scene);
     assert_eq!(rt; found.tally, Ok(tally));
@@ -41,7 +43,7 @@ fn expect<R: Abort + Wait>(rt: &R, alloc: Global, scene: Scene, told: usize, tal
     assert_eq!(rt; found.closing, Closing { left: 0 });
 }
 
-// Six clients, of whom nobody got anything whole.
+// Six clients, none of which got a whole answer.
 const NOBODY: Tally = Tally {
     clients: 6,
     answered: 0,
@@ -50,7 +52,7 @@ const NOBODY: Tally = Tally {
     unavailable: 0,
 };
 
-// Six clients, of whom everybody was answered.
+// Six clients, all of which were answered.
 const EVERYBODY: Tally = Tally {
     answered: 6,
     ..NOBODY
@@ -143,7 +145,7 @@ fn a_client_is_gone_while_served(rt: HostRuntime) {
     expect(&rt, rt.alloc(), scene, 6 * FORWARDED.len(), NOBODY);
 }
 
-// None is asked whether it is gone before its slot is offered.
+// No client is asked whether it has left before its slot is offered.
 #[test]
 fn a_client_is_gone_once_its_slot_is_offered(rt: HostRuntime) {
     let scene = Scene {
@@ -182,7 +184,7 @@ fn windows_go_to_the_gate(rt: HostRuntime) {
     // Such a log has room for one event.
     let found = play(&rt, rt.alloc(), 16, plain());
     assert_eq!(rt; found.tally, Ok(EVERYBODY));
-    // Each client after the first begins a window as it comes, and each as it goes.
+    // Each client after the first one begins a window when it comes, and each when it leaves.
     assert_eq!(rt; found.seen.windows.load(Ordering::SeqCst), 11);
     assert_eq!(rt; found.closing, Closing { left: 0 });
 }

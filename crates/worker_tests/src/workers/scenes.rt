@@ -1,4 +1,4 @@
-// What peers say, and what they are told.
+// The bytes that peers send, and those that they are sent.
 use super::fakes::Scene;
 
 pub(super) const FORWARDED: &[u8] = b"GET / HTTP/1.1\r\nHost: h\r\nConnection: close\r\n\r\n";

@@ -1,4 +1,4 @@
-// Clients that wait.
+// Tests of clients that wait.
 ghost use Rattle.std.specs.Prelude.{◌≡◌, ◌<◌, []};
 ghost use Rattle.outstanding.specs.Books.{terms_of};
 ghost use Rattle.proxy_config.specs.Sound.{IsSoundConfig};
@@ -28,7 +28,7 @@ fn come_first<N: BoardName, R: Abort + Wait>(rt: &R, alloc: Global, desk: &Desk<
         .expect(rt, "a place")
 }
 
-// Its exchange is over. Whether it had its slot, and what it left was collected.
+// Ends its exchange. Says whether it had its slot, and its return was collected.
 fn go_last<N: BoardName, R: Wait>(
     rt: &R,
     desk: &Desk<N>,
@@ -86,7 +86,8 @@ fn work_behind<N: BoardName, R: Abort + Wait>(
     }
 }
 
-// Six clients that are gone after so many looks get nothing, each is asked for so often, and nothing is left on the board.
+// Checks that six clients that leave after this number of looks get nothing, each is asked that
+// often, and nothing is left on the board.
 fn expect<R: Abort + Wait>(rt: &R, alloc: Global, patience: u32) {
     let opened = open_text(rt, alloc, ONE_SLOT, 4096);
     let scene = Scene {

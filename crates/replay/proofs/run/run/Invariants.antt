@@ -6,7 +6,7 @@ use Rattle.script.specs.ScriptTexts.{IsScriptText}
 use Rattle.script.proofs.Bodies.{IsThrough}
 use Rattle.replay.proofs.run.run.Given as goal
 
--- so many lines have no fault; and what is written, and then a text of the lines that are left, is a text of all lines
+-- the lines so far have no fault; and the written text with a text of the remaining lines behind it is a text of all lines
 abbrev pub invariant-lines : goal.invariant-lines
 invariant-lines g l =
     (length (lines l.script) ≤ length l.script) × IsThrough (lines l.script) l.lines l.header l.number

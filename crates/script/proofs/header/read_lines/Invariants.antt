@@ -3,7 +3,7 @@ use Rattle.std.specs.Str.Lines.{lines}
 use Rattle.script.proofs.Headers.{IsReadTo}
 use Rattle.script.proofs.header.read_lines.Given as goal
 
--- so many lines are read, and none of them is faulty
+-- the lines so far are read, and none of them is faulty
 abbrev pub invariant-lines : goal.invariant-lines
 invariant-lines l = (length (lines l.script) ≤ length l.script) × IsReadTo (lines l.script) l.lines l.header l.number
 

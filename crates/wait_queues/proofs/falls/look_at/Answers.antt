@@ -1,6 +1,6 @@
-use Rattle.std.proofs.Common.{◌≡◌, ◌≢◌, ◌⊎◌, ◌<◌, [], length, ap, sym, ◌∙◌, subst, inl, inr}
+use Rattle.std.proofs.Common.{◌≡◌, ◌≢◌, ◌⊎◌, ◌<◌, [], length, ap, sym, ◌∙◌, subst, inl, inr, IsPermutation}
 use Rattle.dispatch_log.specs.declared.queue.Queue.TheVariants.{Server}
-use Rattle.wait_queues.specs.InQueues.{AreLinedUp, weight_of}
+use Rattle.wait_queues.specs.InQueues.{AreLinedUp, pairs_in}
 use Rattle.wait_queues.specs.Lines.{Lined, lines_of, line_at}
 use Rattle.wait_queues.proofs.Sorted.{begun}
 use Rattle.wait_queues.proofs.Falling.{fallen_elsewhere, fallen_servers}
@@ -24,4 +24,5 @@ returns-then-fall-eq0-clause-falling g c =
     (subst (λ n. n < length c.settle.new.queues.own) (sym c.begin.ensures.server) (subst (λ n. c.args.server < n) (sym servers) c.requires.within))
     (subst (λ n. line_at (lines_of c.settle.new.queues) (Server n) ≢ []) (sym c.begin.ensures.server) (λ none. c.requires.somebody (sym line ∙ none)))
     c.begin.ensures.told
-    (λ weight. c.begin.ensures.pairs weight ∙ ap (λ n. weight_of weight (Server n) 0 c.args.waiters.now) (sym c.begin.ensures.server)) c.begin.ensures.sorted
+    (subst (λ n. IsPermutation (pairs_in (Server n) 0 c.args.waiters.now) c.begin.new.self.sorted.items) (sym c.begin.ensures.server) c.begin.ensures.pairs)
+    c.begin.ensures.sorted

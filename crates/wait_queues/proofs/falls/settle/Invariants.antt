@@ -2,7 +2,7 @@ use Rattle.std.proofs.Common.{◌≡◌}
 use Rattle.wait_queues.specs.Lines.{lines_of, fallen}
 use Rattle.wait_queues.proofs.falls.settle.Given as goal
 
--- so many of those that were moved have left the queue
+-- this many of the moved requests have left the queue
 abbrev pub invariant-loop-at : goal.invariant-loop-at
 invariant-loop-at g l = record {
   moved : lines_of l.queues ≡ fallen (lines_of l.initial.queues) l.initial.fall.server l.at;

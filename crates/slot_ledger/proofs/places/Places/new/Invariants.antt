@@ -1,7 +1,7 @@
 use Rattle.std.proofs.Common.{◌≡◌, ◌<◌, ◌-◌, ℕ, None, Some, length, replicate, slice_get, vec_capacity}
 use Rattle.slot_ledger.proofs.places.Places.new.Given as goal
 
--- so many free places so far, the lowest last
+-- the free places so far, the lowest last
 abbrev pub invariant-loop-place : goal.invariant-loop-place
 invariant-loop-place g l = record {
   slots : l.slots.items ≡ replicate l.place None;

@@ -1,7 +1,7 @@
 use Rattle.std.proofs.Common.{◌≡◌, ◌<◌, ℕ, length, get_or, vec_capacity}
 use Rattle.wait_queues.proofs.order.JoinOrder.with_room.Given as goal
 
--- so many cells so far, each leading to itself
+-- the cells so far, each leading to itself
 abbrev pub invariant-loop-cell : goal.invariant-loop-cell
 invariant-loop-cell l = record {
   next_cells : length l.next.items ≡ l.cell;

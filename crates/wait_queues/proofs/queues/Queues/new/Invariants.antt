@@ -1,7 +1,7 @@
 use Rattle.std.proofs.Common.{◌≡◌, ℕ, [], Some, length, map, replicate, slice_get, vec_capacity}
 use Rattle.wait_queues.proofs.queues.Queues.new.Given as goal
 
--- so many empty queues so far, each with its room
+-- the empty queues so far, each with its room
 abbrev pub invariant-loop-server : goal.invariant-loop-server
 invariant-loop-server g l = record {
   empty : map g.Q.PendQueue.pairs l.own.items ≡ replicate l.server [];

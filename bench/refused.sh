@@ -48,7 +48,7 @@ names=("$@")
 if [ $# -eq 0 ]; then
     for program in crates/*/out/*_tests; do
         name=$(basename "$(dirname "$(dirname "$program")")")
-        case $name in serving_tests | worker_tests | server_names) ;; *) [ -x "$program" ] && names+=("$name") ;; esac
+        case $name in test_serving | test_workers | run_gate) ;; *) [ -x "$program" ] && names+=("$name") ;; esac
     done
     [ ${#names[@]} -gt 0 ] || { echo "no tests are built: run rt ci or rt test first"; exit 1; }
 fi

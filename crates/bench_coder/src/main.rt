@@ -7,8 +7,7 @@
 ghost use Rattle.std.specs.Prelude.{◌<◌};
 
 use anyhow::{Result, bail};
-use body_coder::{Coding, Outbox, State};
-use relay_body::Framing;
+use http_bodies::{Coding, Framing, Outbox, State};
 use std::alloc::{AllocError, Global};
 use std::env;
 

@@ -7,29 +7,29 @@
 #![tactic(auto)]
 
 ghost use Rattle.std.specs.Prelude.{◌≡◌, ◌<◌, ◌∷◌, [], length, true, None, IfOk};
-ghost use Rattle.dispatch_log.specs.Histories.{first_window};
+ghost use Rattle.log_entries.specs.Histories.{first_window};
 ghost use Rattle.grant_board.specs.KeeperCalls.{new_keeper};
 ghost use Rattle.grant_board.specs.RelayCalls.{new_relay};
-ghost use Rattle.outstanding.specs.Books.{terms_of};
-ghost use Rattle.reporting_core.specs.Reporting.{IsNew};
+ghost use Rattle.locked_book.specs.Books.{terms_for};
+ghost use Rattle.dispatch_reports.specs.Reporting.{IsNew};
 
 use anyhow::{Context, Result, bail};
+use base_places::PlaceSet;
+use base_verdict::Ending;
 use dispatch_core::Core;
-use dispatch_log::{Refusal, ServerSet, Servers, Setup};
-use dispatch_trace::Ticketed;
+use dispatch_state::Ticketed;
 use due_key::{Class, Moment, Offset};
 use grant_board::{Board, BoardName, KeeperSeat, RelaySeat, Taking};
-use grant_desk::{Desk, Queues};
 use late_cert::Running;
 use locked_book::Wanted;
-use place_set::PlaceSet;
+use log_entries::{Refusal, ServerSet, Servers, Setup};
+use shared_desk::{Desk, Queues};
 use std::alloc::Global;
 use std::collections::VecDeque;
 use std::env;
 use std::marker::{Brand, PhantomData};
 use std::sync::Wait;
 use std::thread::{Threads, join, yield_now};
-use verdict::Ending;
 
 /// A thread's share: how many requests it keeps at once, and how many it serves in all.
 #[derive(Clone, Copy)]
@@ -56,8 +56,8 @@ struct Opened {
     running: Running,
     ghost first: { core ≡ first_window core.setup [] },
     ghost named: { (seat.board ≡ board) × (relay.board ≡ board) },
-    ghost keeper: { seat.view ≡ new_keeper (terms_of core.setup) },
-    ghost views: { relay.view ≡ new_relay (terms_of core.setup) true },
+    ghost keeper: { seat.view ≡ new_keeper (terms_for core.setup) },
+    ghost views: { relay.view ≡ new_relay (terms_for core.setup) true },
     ghost told_nothing: { IsNew running (length core.setup.servers) },
 }
 
@@ -139,7 +139,7 @@ fn setup_of(alloc: Global, places: usize, limit: u32) -> Result<Setup>
 
 fn start<N: BoardName>(opened: Opened) -> (Desk<N>, RelaySeat)
     requires named { opened.board ≡ N.board }
-    requires terms { N.terms ≡ terms_of opened.core.setup }
+    requires terms { N.terms ≡ terms_for opened.core.setup }
     ensures board { result.1.board ≡ N.board }
     ensures view { result.1.view ≡ new_relay N.terms true }
 {
@@ -156,7 +156,7 @@ fn start<N: BoardName>(opened: Opened) -> (Desk<N>, RelaySeat)
 // Serves the requests with one thread, and returns how many were served.
 fn one<N: BoardName, R: Wait>(rt: &R, alloc: Global, opened: Opened, share: Share) -> u64
     requires named { opened.board ≡ N.board }
-    requires terms { N.terms ≡ terms_of opened.core.setup }
+    requires terms { N.terms ≡ terms_for opened.core.setup }
 {
     let (desk, relay) = start::<N>(opened);
     serve(rt, alloc, &desk, relay, share)
@@ -170,7 +170,7 @@ fn four<N: BoardName + Send + Sync, R: Threads + Wait + Sync>(
     share: Share,
 ) -> u64
     requires named { opened.board ≡ N.board }
-    requires terms { N.terms ≡ terms_of opened.core.setup }
+    requires terms { N.terms ≡ terms_for opened.core.setup }
 {
     let (desk, first) = start::<N>(opened);
     let seats = split(desk.board(), first);

@@ -6,11 +6,11 @@ use crate::script::Script;
 use crate::sides::{Past, Side, Sink, Source, Told};
 use crate::site::Site;
 use exchange_driver::{Duplex, Line, Moved, Rest, Settings};
+use exchange_events::{Clock, Rules};
 use exchange_machine::Terms;
+use exchange_seated::{Given, Notice, Posting, Queued, Seated, Served, Stage};
 use grant_board::BoardName;
-use mixed_exchange::{Clock, Rules};
 use relay_http::{Additions, Persistence};
-use seated_exchange::{Given, Notice, Posting, Queued, Seated, Served, Stage};
 use std::alloc::{AllocError, Global};
 use std::net::{IpAddr, Ipv4Addr};
 use std::rc::Rc;
@@ -258,7 +258,7 @@ pub(crate) fn tell<N: BoardName + Ledger>(
     seated: Seated<N>,
     notice: Notice,
 ) -> Then<N> {
-    let served = seated.tell(play.settings, notice);
+    let served = seated.notify(play.settings, notice);
     settle(play, site, served)
 }
 
@@ -346,7 +346,7 @@ fn redial<N: BoardName + Ledger>(
             client,
             server,
             rest: _,
-        } = seated.tell(play.settings, Notice::Unreachable);
+        } = seated.notify(play.settings, Notice::Unreachable);
         let _ = spent(client) | spent(server);
         play.quiet = 0;
         go_on(play, site, seated, given)

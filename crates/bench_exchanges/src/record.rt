@@ -1,8 +1,8 @@
 //! The outcome of a client's connection, as lines of text.
 
 use crate::texts::add_encoded;
+use base_verdict::Ending;
 use std::alloc::{AllocError, Global};
-use verdict::Ending;
 
 /// What both sides got, and the verdicts of the passes.
 #[derive(Drop)]

@@ -3,13 +3,12 @@
 ghost use Rattle.std.specs.Prelude.{◌≡◌, ◌<◌, ◌≤◌, [], IfSome};
 ghost use Rattle.relay_http.specs.States.{Serves};
 
+use base_verdict::{Ending, Verdict};
+use board_seats::{Idle, Seats, Taken};
+use exchange_seated::Posting;
 use grant_board::{Board, BoardName, RelaySeat};
-use lent_seats::{Seats, Taken};
-use pass_seat::Idle;
-use seated_exchange::Posting;
 use std::alloc::{AllocError, Global};
 use std::sync::ledger::{Blank, Ledger};
-use verdict::{Ending, Verdict};
 
 /// A board, and its seats.
 #[derive(Drop)]

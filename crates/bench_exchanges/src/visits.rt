@@ -6,12 +6,12 @@ use crate::record::Record;
 use crate::script::Script;
 use crate::sides::Told;
 use crate::site::Site;
+use base_verdict::Verdict;
+use exchange_seated::{Notice, Queued, Seated};
 use grant_board::{Board, BoardName, RelaySeat};
-use seated_exchange::{Notice, Queued, Seated};
 use std::alloc::{AllocError, Global};
 use std::marker::Brand;
 use std::sync::ledger::{Blank, Ledger};
-use verdict::Verdict;
 
 /// How the next visit begins.
 #[derive(Drop)]

@@ -5,9 +5,10 @@
 #![tactic(auto)]
 
 ghost use Rattle.std.specs.Prelude.{◌≡◌, OnOk};
-ghost use Rattle.relay_http.specs.States.{IsAt, Serves, forwarded_on};
+ghost use Rattle.relay_http.specs.States.{IsAtOrFailed, Serves, forwarded_on};
 
 use anyhow::{Result, bail};
+use base_verdict::{Ending, Verdict};
 use grant_board::{Board, Pass, Taking};
 use relay_http::{Exchange, Stage};
 use req_view::View;
@@ -15,7 +16,6 @@ use std::alloc::Global;
 use std::env;
 use std::io::{Read, Write};
 use std::net::TcpStream;
-use verdict::{Ending, Verdict};
 
 const TURNS: u64 = 1_000_000_000;
 
@@ -95,7 +95,7 @@ fn answer<R: Read, W: Write>(
     reader: &mut R,
     writer: &mut W,
 ) -> Result<()>
-    requires new { IsAt Stage.New exchange.old }
+    requires new { IsAtOrFailed Stage.New exchange.old }
     requires serves { Serves pass.now.verdict }
 {
     let view = ask(alloc, pass, exchange)?;
@@ -105,7 +105,7 @@ fn answer<R: Read, W: Write>(
 
 // Hands a small request on into memory.
 fn ask(alloc: Global, pass: &Pass, exchange: &mut Exchange) -> Result<View>
-    requires new { IsAt Stage.New exchange.old }
+    requires new { IsAtOrFailed Stage.New exchange.old }
     requires serves { Serves pass.now.verdict }
     ensures { OnOk result (exchange.new.stage ≡ forwarded_on pass.now) }
 {
@@ -121,7 +121,7 @@ fn forward<R: Read, W: Write>(
     reader: &mut R,
     writer: &mut W,
 ) -> Result<View>
-    requires new { IsAt Stage.New exchange.old }
+    requires new { IsAtOrFailed Stage.New exchange.old }
     requires serves { Serves pass.now.verdict }
     ensures { OnOk result (exchange.new.stage ≡ forwarded_on pass.now) }
 {

@@ -3,9 +3,9 @@ use Rattle.std.proofs.Common.{◌≡◌, ◌≢◌, ℕ, zero, suc, List, ◌∷
 use Rattle.std.specs.Cmp.{IsTotalOrder}
 use Rattle.std.specs.List.{AllByRecursion}
 use Rattle.std.proofs.lemmas.Cmp.{tied_itself}
-use Rattle.list_facts.proofs.Members.{all_weaker, all_append}
-use Rattle.list_facts.proofs.Orders.{greater_from_less, less_from_greater, less_then_tied}
-use Rattle.pend_queue.specs.Pairs.{IsAbsent}
+use Rattle.base_lists.proofs.Members.{all_weaker, all_append}
+use Rattle.base_lists.proofs.Orders.{greater_from_less, less_from_greater, less_then_tied}
+use Rattle.pend_queue.specs.Pairs.{KeyIsAbsent}
 use Rattle.binom_queue.specs.declared.forest.Forest.{Forest}
 use Rattle.binom_queue.specs.declared.forest.Forest.TheVariants.{Empty, Of'}
 use Rattle.binom_queue.specs.Trees.{items, AreChildren}
@@ -55,7 +55,7 @@ module _ {K V : Type 0} {cmp : K → K → Ordering} (order : IsTotalOrder cmp) 
   )
 
   -- a key that is below a floor is absent above it
-  pub absent_under_floor : (floor key : K) (ps : List (K × V)) → cmp key floor ≡ Less → AllByRecursion (λ p. cmp floor p.0 ≢ Greater) ps → IsAbsent cmp key ps
+  pub absent_under_floor : (floor key : K) (ps : List (K × V)) → cmp key floor ≡ Less → AllByRecursion (λ p. cmp floor p.0 ≢ Greater) ps → KeyIsAbsent cmp key ps
   absent_under_floor floor key ps below all = all_weaker (λ p. cmp floor p.0 ≢ Greater) (λ p. cmp p.0 key ≢ Equal)
       (λ p first tied. not_above_trans order floor p.0 key first (λ above. let no : cmp p.0 key ≡ Equal = tied in cc)
       (greater_from_less order key floor below)) ps all

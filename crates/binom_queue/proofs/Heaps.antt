@@ -11,7 +11,7 @@ use Rattle.binom_queue.specs.declared.forest.Forest.TheVariants.{Empty, Of, Of'}
 use Rattle.binom_queue.specs.declared.forest.Node.{Node}
 use Rattle.binom_queue.specs.Trees.{items, tree_items, AreChildren, AreRoots, IsTakenOut}
 use Rattle.std.proofs.lemmas.List.Sorted.{IsPermutation-append_left}
-use Rattle.list_facts.proofs.Shuffles.{kept_aside}
+use Rattle.base_lists.proofs.Shuffles.{kept_aside}
 
 module _ {K V : Type 0} (cmp : K → K → Ordering) where
   -- a root of order n and what is below it have 2 to the n pairs

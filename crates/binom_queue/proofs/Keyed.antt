@@ -6,8 +6,8 @@ use Rattle.std.proofs.lemmas.Cmp.{tied_back}
 use Rattle.std.proofs.lemmas.List.Elements.{Contains-append_left, Contains-append_right, Contains-append_cases}
 use Rattle.std.proofs.lemmas.List.Sorted.{Contains-permutation, IsPermutation-refl, IsPermutation-sym, IsPermutation-trans, IsPermutation-cons}
 use Rattle.std.proofs.lemmas.List.Sorted.{length_permutation}
-use Rattle.pend_queue.specs.Pairs.{IsAscending, IsAbsent, inserted, pair_at, without}
-use Rattle.list_facts.proofs.Members.{Contains-head, Contains-tail, Contains-cases, Contains-filter, Contains-filter_kept}
+use Rattle.pend_queue.specs.Pairs.{IsAscending, KeyIsAbsent, inserted, pair_at, pairs_without}
+use Rattle.base_lists.proofs.Members.{Contains-head, Contains-tail, Contains-cases, Contains-filter, Contains-filter_kept}
 use Rattle.pend_queue.proofs.Ascending.{absent_at_member, same_key_same_pair, same_from_members, pair_at-member}
 use Rattle.pend_queue.proofs.Inserted.{IsPermutation-inserted, Contains-inserted, Contains-inserted_old}
 use Rattle.pend_queue.proofs.Without.{IsAscending-without, Contains-without, Contains-without_other}
@@ -28,14 +28,14 @@ module _ {K V : Type 0} (cmp : K → K → Ordering) where
     parts_fit (q ∷ qs) = parts_step q _ _ (length qs) (cmp q.0 key) (parts_fit qs)
 
     absent_step : (q : K × V) (qs ls gs : List (K × V)) (o : Ordering) → cmp q.0 key ≡ o → length ls + length gs ≤ length qs
-        → (length ls + length gs ≡ length qs → IsAbsent cmp key qs)
-        → length (cond (is_lt o) (q ∷ ls) ls) + length (cond (is_gt o) (q ∷ gs) gs) ≡ suc (length qs) → IsAbsent cmp key (q ∷ qs)
+        → (length ls + length gs ≡ length qs → KeyIsAbsent cmp key qs)
+        → length (cond (is_lt o) (q ∷ ls) ls) + length (cond (is_gt o) (q ∷ gs) gs) ≡ suc (length qs) → KeyIsAbsent cmp key (q ∷ qs)
     absent_step q qs ls gs Less is le rest all = (λ tied. cc, rest (omega arith))
     absent_step q qs ls gs Equal is le rest all = absurd (omega arith)
     absent_step q qs ls gs Greater is le rest all = (λ tied. cc, rest (omega arith))
 
     absent_from_parts : (ps : List (K × V)) → length (filter (λ p. is_lt (cmp p.0 key)) ps) + length (filter (λ p. is_gt (cmp p.0 key)) ps) ≡ length
-        ps → IsAbsent cmp key ps
+        ps → KeyIsAbsent cmp key ps
     absent_from_parts [] all = tt
     absent_from_parts (q ∷ qs) all = absent_step q qs _ _ (cmp q.0 key) refl (parts_fit qs) (absent_from_parts qs) all
 
@@ -58,7 +58,7 @@ module _ {K V : Type 0} (cmp : K → K → Ordering) where
       let here = length-inserted_le q (by_key cmp qs) in
       let parts = length-parts q (by_key cmp qs) in
       let rest : length (by_key cmp qs) ≡ length qs = omega arith in
-      let absent : IsAbsent cmp q.0 (by_key cmp qs) = absent_from_parts q.0 (by_key cmp qs) (omega arith) in
+      let absent : KeyIsAbsent cmp q.0 (by_key cmp qs) = absent_from_parts q.0 (by_key cmp qs) (omega arith) in
       IsPermutation-trans _ _ _ (IsPermutation-cons q _ _ (IsPermutation-by_key qs rest)) (IsPermutation-inserted cmp q (by_key cmp qs) absent)
 
   -- who is there
@@ -133,7 +133,7 @@ module _ {K V : Type 0} {cmp : K → K → Ordering} (order : IsTotalOrder cmp) 
         let here = length-inserted_le cmp p (by_key cmp qs) in
         omega arith
 
-    absent_from_others : IsAbsent cmp p.0 (by_key cmp qs)
+    absent_from_others : KeyIsAbsent cmp p.0 (by_key cmp qs)
     absent_from_others =
         let long = ap length whole in
         let as_long = length_permutation ps (p ∷ qs) parted in
@@ -141,8 +141,8 @@ module _ {K V : Type 0} {cmp : K → K → Ordering} (order : IsTotalOrder cmp) 
         let parts = length-parts cmp p (by_key cmp qs) in
         absent_from_parts cmp p.0 (by_key cmp qs) (omega arith)
 
-    pub rest_by_key : (key : K) → cmp p.0 key ≡ Equal → by_key cmp qs ≡ without cmp key ps
-    rest_by_key key tied = same_from_members order (by_key cmp qs) (without cmp key ps) (IsAscending-by_key qs) (IsAscending-without cmp key ps up)
+    pub rest_by_key : (key : K) → cmp p.0 key ≡ Equal → by_key cmp qs ≡ pairs_without cmp key ps
+    rest_by_key key tied = same_from_members order (by_key cmp qs) (pairs_without cmp key ps) (IsAscending-by_key qs) (IsAscending-without cmp key ps up)
         (λ x among. Contains-without_other cmp key ps x
         (subst (λ (l : List (K × V)). Contains l x) whole (Contains-inserted_old cmp p (by_key cmp qs) x absent_from_others among))
         (λ same. absent_at_member cmp p.0 (by_key cmp qs) x absent_from_others among (order.congr x.0 key p.0 same ∙ tied_back order p.0 key tied)))

@@ -1,6 +1,6 @@
 -- Trees found in a row by their order.
 use Rattle.std.proofs.Common.{◌≡◌, ◌≢◌, ℕ, suc, ◌≤◌, Bool, true, false, if◌then◌else◌, nat_eq, Some, ◌∷◌, ◌++◌, Contains, refl, ap, subst, ◌∙◌, Ordering, arith}
-use Rattle.list_facts.proofs.Members.{Contains-head, Contains-tail}
+use Rattle.base_lists.proofs.Members.{Contains-head, Contains-tail}
 use Rattle.std.proofs.lemmas.List.Elements.{Contains-append_right}
 use Rattle.std.proofs.lemmas.Bool.{eqb-true, eq-eqb}
 use Rattle.binom_queue.specs.declared.forest.Forest.{Forest}

@@ -5,9 +5,9 @@ use Rattle.std.specs.Cmp.{IsTotalOrder}
 use Rattle.std.specs.List.{AllByRecursion}
 use Rattle.std.proofs.lemmas.Cmp.{tied_itself}
 use Rattle.std.proofs.lemmas.List.Sorted.{Contains-permutation, IsPermutation-sym, IsPermutation-trans, IsPermutation-cons, IsPermutation-append}
-use Rattle.pend_queue.specs.Pairs.{IsAscending, IsAbsent, HaveNoCommonKey, inserted, pair_at, without, merged}
-use Rattle.list_facts.proofs.Members.{Contains-nil, Contains-head, each_at_member}
-use Rattle.list_facts.proofs.Orders.{greater_from_less}
+use Rattle.pend_queue.specs.Pairs.{IsAscending, KeyIsAbsent, HaveNoCommonKey, inserted, pair_at, pairs_without, merged}
+use Rattle.base_lists.proofs.Members.{Contains-nil, Contains-head, each_at_member}
+use Rattle.base_lists.proofs.Orders.{greater_from_less}
 use Rattle.pend_queue.proofs.Ascending.{head_or_above, absent-IsPermutation, pair_at-absent}
 use Rattle.pend_queue.proofs.Inserted.{IsAscending-inserted, IsPermutation-inserted}
 use Rattle.pend_queue.proofs.Without.{without-absent, without-head}
@@ -45,7 +45,7 @@ module _ {K V : Type 0} {cmp : K → K → Ordering} (order : IsTotalOrder cmp) 
     same = IsPermutation-by_key cmp ps kept
 
     -- one pair more
-    pub pushed : (new : K × V) (qs : List (K × V)) → IsPermutation (new ∷ ps) qs → IsAbsent cmp new.0 (by_key cmp ps)
+    pub pushed : (new : K × V) (qs : List (K × V)) → IsPermutation (new ∷ ps) qs → KeyIsAbsent cmp new.0 (by_key cmp ps)
         → Become qs (inserted cmp new (by_key cmp ps))
     pushed new qs moved absent = become qs _
         (IsPermutation-trans _ _ _ (IsPermutation-sym _ _ moved)
@@ -62,9 +62,9 @@ module _ {K V : Type 0} {cmp : K → K → Ordering} (order : IsTotalOrder cmp) 
         (IsAscending-merged order (by_key cmp ps) (by_key cmp qs) up)
 
     -- no pair of a key
-    pub none_found : (key : K) → IsAbsent cmp key ps → (pair_at cmp key (by_key cmp ps) ≡ None) × (without cmp key (by_key cmp ps) ≡ by_key cmp ps)
+    pub none_found : (key : K) → KeyIsAbsent cmp key ps → (pair_at cmp key (by_key cmp ps) ≡ None) × (pairs_without cmp key (by_key cmp ps) ≡ by_key cmp ps)
     none_found key absent =
-        let still : IsAbsent cmp key (by_key cmp ps) = absent-IsPermutation cmp key ps (by_key cmp ps) same absent in
+        let still : KeyIsAbsent cmp key (by_key cmp ps) = absent-IsPermutation cmp key ps (by_key cmp ps) same absent in
         (pair_at-absent cmp key (by_key cmp ps) still, without-absent cmp key (by_key cmp ps) still)
 
     -- the least pair
@@ -80,13 +80,13 @@ module _ {K V : Type 0} {cmp : K → K → Ordering} (order : IsTotalOrder cmp) 
       pub all_of_rest : length (by_key cmp qs) ≡ length qs
       all_of_rest = none_lost_of_rest order (by_key cmp ps) p qs up by_key_parted
 
-      pub removed : (key : K) → cmp p.0 key ≡ Equal → (pair_at cmp key (by_key cmp ps) ≡ Some p) × (by_key cmp qs ≡ without cmp key (by_key cmp ps))
+      pub removed : (key : K) → cmp p.0 key ≡ Equal → (pair_at cmp key (by_key cmp ps) ≡ Some p) × (by_key cmp qs ≡ pairs_without cmp key (by_key cmp ps))
       removed key tied = (part_found order (by_key cmp ps) p qs up by_key_parted key tied, rest_by_key order (by_key cmp ps) p qs up by_key_parted key tied)
 
       pub popped : AllByRecursion (λ q. cmp p.0 q.0 ≢ Greater) ps → (slice_get (by_key cmp ps) 0 ≡ Some p) × (by_key cmp qs ≡ drop 1 (by_key cmp ps))
       popped least =
           let head = first_is p (Contains-permutation _ _ p (IsPermutation-sym _ _ parted) (Contains-head p qs)) least in
-          let rest : without cmp p.0 (by_key cmp ps) ≡ head.0 = ap (without cmp p.0) head.1 ∙ without-head order p head.0
+          let rest : pairs_without cmp p.0 (by_key cmp ps) ≡ head.0 = ap (pairs_without cmp p.0) head.1 ∙ without-head order p head.0
           (subst (IsAscending cmp) head.1 up) in (
             ap (λ (l : List (K × V)). slice_get l 0) head.1,
             rest_by_key order (by_key cmp ps) p qs up by_key_parted p.0 (tied_itself order p.0) ∙ rest

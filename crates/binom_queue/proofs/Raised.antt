@@ -1,7 +1,7 @@
 -- The pair of a key that went up by one root.
 use Rattle.std.proofs.Common.{◌≡◌, ℕ, zero, suc, ◌∷◌, ◌++◌, IsPermutation, sym, subst, ◌∙◌, Ordering, Box, Global}
 use Rattle.std.specs.Cmp.{IsTotalOrder}
-use Rattle.list_facts.proofs.Shuffles.{through_front, behind_part}
+use Rattle.base_lists.proofs.Shuffles.{through_front, behind_part}
 use Rattle.binom_queue.specs.declared.forest.Forest.{Forest}
 use Rattle.binom_queue.specs.declared.forest.Forest.TheVariants.{Of, Of'}
 use Rattle.binom_queue.specs.declared.forest.Node.{Node}

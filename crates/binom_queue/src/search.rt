@@ -3,7 +3,7 @@
 ghost use Rattle.std.specs.Prelude.{◌≡◌, ◌≢◌, ◌⊎◌, ℕ, ◌+◌, Some, None, IfNone, IfSome, IsPermutation, ◌∷◌, option_map, true, false};
 ghost use Rattle.std.specs.List.{AllByRecursion};
 ghost use Rattle.std.specs.declared.cmp.Ordering.TheVariants.{Equal, Greater};
-ghost use Rattle.pend_queue.specs.Pairs.{IsAbsent};
+ghost use Rattle.pend_queue.specs.Pairs.{KeyIsAbsent};
 ghost use Rattle.binom_queue.specs.declared.forest.Forest.TheVariants.{Empty};
 ghost use Rattle.binom_queue.specs.Trees.{items, tree_items, root_of, AreChildren, AreRoots, IsTakenOut, IsRaised};
 
@@ -74,7 +74,7 @@ pub(crate) fn detach_key<K: Ord + Drop, V: Drop>(
     key: &K,
 ) -> Option<Box<Node<K, V>>>
     requires { AreRoots K.cmp 0 roots.old }
-    ensures none { IfNone result ((roots.new ≡ roots.old) × IsAbsent K.cmp key.now (items roots.old)) }
+    ensures none { IfNone result ((roots.new ≡ roots.old) × KeyIsAbsent K.cmp key.now (items roots.old)) }
     ensures key { IfSome result (λ root. K.cmp root.value.pair.0 key.now ≡ Equal) }
     ensures some { IfSome result (λ root. IsTakenOut K.cmp roots.old roots.new root.value) }
 {
@@ -101,7 +101,7 @@ fn holds<K: Ord, V>(root: &mut Node<K, V>, key: &K) -> bool
     requires { AreChildren K.cmp root.old.pair.0 root.old.order root.old.child }
     ensures found { result ≡ true → IsRaised K.cmp key.now root.old.pair root.old.child root.new.pair root.new.child }
     ensures rest { (root.new.order ≡ root.old.order) × (root.new.next ≡ root.old.next) }
-    ensures missed { result ≡ false → (root.new ≡ root.old) × IsAbsent K.cmp key.now (tree_items root.old) }
+    ensures missed { result ≡ false → (root.new ≡ root.old) × KeyIsAbsent K.cmp key.now (tree_items root.old) }
 {
     match key.cmp(&root.pair.0) {
         Ordering::Less => false,
@@ -115,7 +115,7 @@ fn holds<K: Ord, V>(root: &mut Node<K, V>, key: &K) -> bool
 fn raise<K: Ord, V>(above: &mut (K, V), trees: &mut Forest<K, V>, key: &K) -> bool
     requires { (n : ℕ) × AreChildren K.cmp above.old.0 n trees.old }
     ensures found { result ≡ true → IsRaised K.cmp key.now above.old trees.old above.new trees.new }
-    ensures missed { result ≡ false → (above.new ≡ above.old) × (trees.new ≡ trees.old) × IsAbsent K.cmp key.now (items trees.old) }
+    ensures missed { result ≡ false → (above.new ≡ above.old) × (trees.new ≡ trees.old) × KeyIsAbsent K.cmp key.now (items trees.old) }
 {
     let Forest::Of(root) = trees else {
         return false;

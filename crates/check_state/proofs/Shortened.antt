@@ -1,7 +1,7 @@
 -- A shortened list of results: the walk over it ends where the walk over the whole list does.
 use Rattle.std.proofs.Common.{◌≡◌, ℕ, zero, suc, ◌+◌, ◌<◌, Bool, true, false, not, List, [], ◌∷◌, ◌++◌, replicate, cond, ltb, refl, ap, sym, ◌∙◌, subst, arith}
 use Rattle.std.proofs.lemmas.Bool.{ltb-true, lt-ltb, le-ltb}
-use Rattle.check_state.specs.Results.{is_up, run_at_end}
+use Rattle.check_state.specs.Results.{is_up_after, run_at_end}
 use Rattle.check_state.specs.Shortened.{shortened}
 use Rattle.check_state.specs.Standing.{Standing, IsHealthOf}
 use Rattle.check_state.proofs.Walk.{State, step, walk}
@@ -66,9 +66,9 @@ module _ (rise fall : ℕ) where
     -- both walks end at the same standing
     same_walk : (results : List Bool) → walk rise fall (true, 0) (shortened rise fall results) ≡ walk rise fall (true, 0) results
     same_walk results =
-        at (walk rise fall (true, 0) results) refl (within_walk results (true, 0) some_fall) (is_up rise fall results) refl
+        at (walk rise fall (true, 0) results) refl (within_walk results (true, 0) some_fall) (is_up_after rise fall results) refl
       where
-        at : (state : State) → walk rise fall (true, 0) results ≡ state → IsWithin state → (up : Bool) → is_up rise fall results ≡ up
+        at : (state : State) → walk rise fall (true, 0) results ≡ state → IsWithin state → (up : Bool) → is_up_after rise fall results ≡ up
             → walk rise fall (true, 0) (cond up (replicate (run_at_end false results) false) (replicate fall false ++ replicate (run_at_end true results) true))
             ≡ walk rise fall (true, 0) results
         at (true, against) ends few true up =
@@ -89,14 +89,14 @@ module _ (rise fall : ℕ) where
             ∙ up in cc
 
     -- whatever follows, the server is up after the one list where it is after the other
-    pub same_later : (results later : List Bool) → is_up rise fall (shortened rise fall results ++ later) ≡ is_up rise fall (results ++ later)
+    pub same_later : (results later : List Bool) → is_up_after rise fall (shortened rise fall results ++ later) ≡ is_up_after rise fall (results ++ later)
     same_later results later =
         sym (walk_stands rise fall some_rise some_fall (shortened rise fall results ++ later))
         ∙ ap (λ (s : State). s.0) (walk_on (true, 0) (shortened rise fall results) later ∙ ap (λ (s : State). walk rise fall s later) (same_walk results)
         ∙ sym (walk_on (true, 0) results later))
         ∙ walk_stands rise fall some_rise some_fall (results ++ later)
 
-    pub same_up : (results : List Bool) → is_up rise fall (shortened rise fall results) ≡ is_up rise fall results
+    pub same_up : (results : List Bool) → is_up_after rise fall (shortened rise fall results) ≡ is_up_after rise fall results
     same_up results =
         sym (walk_stands rise fall some_rise some_fall (shortened rise fall results)) ∙ ap (λ (s : State). s.0) (same_walk results)
         ∙ walk_stands rise fall some_rise some_fall results

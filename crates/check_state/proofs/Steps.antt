@@ -8,8 +8,8 @@ use Rattle.std.specs.List.{prefix_len}
 use Rattle.std.specs.Prelude.{if◌then◌else◌}
 use Rattle.check_state.specs.declared.health.Change.{Change}
 use Rattle.check_state.specs.declared.health.Change.TheVariants.{Stay, WentDown, WentUp}
-use Rattle.check_state.specs.Results.{is_up, run_at_end}
-use Rattle.check_state.specs.Standing.{Standing, IsHealthOf, IsStanding, limit_of, change_between}
+use Rattle.check_state.specs.Results.{is_up_after, run_at_end}
+use Rattle.check_state.specs.Standing.{Standing, IsHealthOf, IsStanding, results_to_turn, change_between}
 use Rattle.check_state.proofs.Walk.{State, step, walk, walks}
 
 -- the run at the end, with one result more
@@ -61,7 +61,7 @@ module _ (rise fall : ℕ) where
 
   module _ (some_rise : 0 < rise) (some_fall : 0 < fall) where
     -- the walk over all results is at the standing
-    pub walk_stands : (results : List Bool) → (walk rise fall (true, 0) results).0 ≡ is_up rise fall results
+    pub walk_stands : (results : List Bool) → (walk rise fall (true, 0) results).0 ≡ is_up_after rise fall results
     walk_stands results = (walks rise fall some_rise some_fall results).from_up 0 some_fall
 
     pub walk_counts : (results : List Bool) → Counts results (walk rise fall (true, 0) results)
@@ -125,7 +125,7 @@ with_state health up against = record { rise = health.rise; fall = health.fall; 
 
 pub record IsResult (rise fall : ℕ) (results : List Bool) (result : Bool) (next : Standing) (change : Change) : Type 0 where
   pub health : IsHealthOf rise fall (results ++ result ∷ []) next
-  pub change_is : change ≡ change_between (is_up rise fall results) (is_up rise fall (results ++ result ∷ []))
+  pub change_is : change ≡ change_between (is_up_after rise fall results) (is_up_after rise fall (results ++ result ∷ []))
 
 module _ (rise fall : ℕ) (results : List Bool) (health : Standing) (result : Bool) (is : IsHealthOf rise fall results health)
     (standing : IsStanding health) where
@@ -141,18 +141,18 @@ module _ (rise fall : ℕ) (results : List Bool) (health : Standing) (result : B
       record {
         health = next;
         change_is = is_change ∙ ap (λ b. change_between b up) is.stands
-            ∙ ap (λ b. change_between (is_up rise fall results) b) next.stands;
+            ∙ ap (λ b. change_between (is_up_after rise fall results) b) next.stands;
       }
 
   pub same_result : beq result health.up ≡ true → IsResult rise fall results result (with_state health health.up 0) Stay
   same_result same = leads_to health.up 0 (step_same health.rise health.fall health.up health.against result same) Stay (change_stays health.up)
 
-  pub further_result : beq result health.up ≡ false → health.against + 1 < limit_of health
+  pub further_result : beq result health.up ≡ false → health.against + 1 < results_to_turn health
       → IsResult rise fall results result (with_state health health.up (health.against + 1)) Stay
   further_result other few = leads_to health.up (health.against + 1) (step_more health.rise health.fall health.up health.against result other few) Stay
       (change_stays health.up)
 
-  pub turning_result : beq result health.up ≡ false → limit_of health ≤ health.against + 1
+  pub turning_result : beq result health.up ≡ false → results_to_turn health ≤ health.against + 1
       → IsResult rise fall results result (with_state health result 0) (if result then WentUp else WentDown)
   turning_result other all = leads_to result 0 (step_turn health.rise health.fall health.up health.against result other all)
       (if result then WentUp else WentDown) (change_turns health.up result other)

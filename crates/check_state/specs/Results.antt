@@ -20,8 +20,8 @@ is_down rise fall [] = false
 is_down rise fall (result ∷ later) = (begins_with fall false (result ∷ later) && not (has_run rise true later)) || is_down rise fall later
 
 -- a server is up unless it is down
-abbrev pub is_up : ℕ → ℕ → List Bool → Bool
-is_up rise fall results = not (is_down rise fall results)
+abbrev pub is_up_after : ℕ → ℕ → List Bool → Bool
+is_up_after rise fall results = not (is_down rise fall results)
 
 -- the number of results of one kind in a row at the end of the list
 abbrev pub run_at_end : Bool → List Bool → ℕ

@@ -1,6 +1,6 @@
 ghost use Rattle.std.specs.Prelude.{◌≡◌, ℕ, ◌≤◌, Bool, List, [], ◌∷◌, ◌++◌};
-ghost use Rattle.check_state.specs.Results.{is_up};
-ghost use Rattle.check_state.specs.Standing.{IsHealthOf, limit_of, change_between};
+ghost use Rattle.check_state.specs.Results.{is_up_after};
+ghost use Rattle.check_state.specs.Standing.{IsHealthOf, results_to_turn, change_between};
 
 use std::marker::Model;
 
@@ -53,7 +53,7 @@ impl Health {
     /// Takes the next result of a health check, and returns the change. `O(1)`.
     pub fn result(&mut self, ok: bool) -> Change
         ensures health { (rise fall : ℕ) (results : List Bool) → IsHealthOf rise fall results self.old → IsHealthOf rise fall (results ++ ok ∷ []) self.new }
-        ensures change { (rise fall : ℕ) (results : List Bool) → IsHealthOf rise fall results self.old → result ≡ change_between (is_up rise fall results) (is_up rise fall (results ++ ok ∷ [])) }
+        ensures change { (rise fall : ℕ) (results : List Bool) → IsHealthOf rise fall results self.old → result ≡ change_between (is_up_after rise fall results) (is_up_after rise fall (results ++ ok ∷ [])) }
     {
         let limit = self.limit();
         if ok == self.up {
@@ -71,14 +71,14 @@ impl Health {
 
     // Returns the number of results in a row that reverse the standing.
     fn limit(&self) -> u32
-        ensures { result ≡ limit_of self.now }
+        ensures { result ≡ results_to_turn self.now }
     {
         if self.up { self.fall } else { self.rise }
     }
 
     /// Says whether the server is up.
     pub fn up(&self) -> bool
-        ensures { (rise fall : ℕ) (results : List Bool) → IsHealthOf rise fall results self.now → result ≡ is_up rise fall results }
+        ensures { (rise fall : ℕ) (results : List Bool) → IsHealthOf rise fall results self.now → result ≡ is_up_after rise fall results }
     {
         self.up
     }

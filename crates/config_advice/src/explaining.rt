@@ -10,7 +10,7 @@ ghost use Rattle.proxy_config.specs.File.{reading};
 use crate::advising::{advice, has_own_advice, sentence};
 use crate::knowns::meant;
 use crate::sections::{is_merged, is_one_of, is_other, is_section};
-use line_advice::{Span, push_marked_line, span_of};
+use base_advice::{Span, push_marked_line, span_of};
 use proxy_config::{ConfigFault, FaultCause, MOST_BYTES, ReadError, read};
 use proxy_words::{Lines, Words, without_comment};
 use std::alloc::{AllocError, Global};

@@ -1,7 +1,7 @@
 //! Lines that the configuration's reader accepts and that have no effect.
 
 use crate::sections::{is_global, is_section};
-use line_advice::push_printable;
+use base_advice::push_printable;
 use proxy_words::{Lines, Words, without_comment};
 use std::alloc::{AllocError, Global};
 

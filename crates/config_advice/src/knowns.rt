@@ -1,6 +1,6 @@
 //! The words that may stand at a place, and the one that may have been meant by an unknown word.
 
-use line_advice::nearest;
+use base_advice::nearest;
 use std::alloc::{AllocError, Global};
 use std::str;
 

@@ -4,8 +4,8 @@ use Rattle.std.proofs.lemmas.Bool.Decides.{nat_tests}
 use Rattle.std.proofs.lemmas.List.{length-map}
 use Rattle.std.proofs.lemmas.List.Elements.{All-map, All-weaker}
 use Rattle.std.specs.Option.{unwrap_or}
-use Rattle.dispatch_log.specs.declared.setup.Setup.{Setup}
-use Rattle.dispatch_log.specs.Setups.{IsSound, is_within, has_rise_and_fall}
+use Rattle.log_entries.specs.declared.setup.Setup.{Setup}
+use Rattle.log_entries.specs.Setups.{IsSound, is_within, has_rise_and_fall}
 use Rattle.proxy_config.specs.declared.parts.Checks.{Checks}
 use Rattle.proxy_config.specs.declared.parts.Config.{Config}
 use Rattle.proxy_config.specs.declared.parts.Server.{Server}

@@ -1,8 +1,8 @@
 -- The setup of a dispatcher that a configuration describes.
 use Rattle.std.specs.Prelude.{◌≡◌, ℕ, map, Option, Some, None}
 use Rattle.std.specs.Option.{unwrap_or}
-use Rattle.dispatch_log.specs.declared.setup.ServerSet.{ServerSet}
-use Rattle.dispatch_log.specs.declared.setup.Setup.{Setup}
+use Rattle.log_entries.specs.declared.setup.ServerSet.{ServerSet}
+use Rattle.log_entries.specs.declared.setup.Setup.{Setup}
 use Rattle.proxy_config.specs.declared.parts.Checks.{Checks}
 use Rattle.proxy_config.specs.declared.parts.Config.{Config}
 use Rattle.proxy_config.specs.declared.parts.Server.{Server}
@@ -29,5 +29,5 @@ setup_of config places log = record {
 }
 
 -- the configuration describes the setup, whatever its number of places and the size of its log
-abbrev pub IsAskedBy : Config → Setup → Type 0
-IsAskedBy config setup = setup ≡ setup_of config setup.places setup.log
+abbrev pub SetupIsAsked : Config → Setup → Type 0
+SetupIsAsked config setup = setup ≡ setup_of config setup.places setup.log

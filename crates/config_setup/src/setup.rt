@@ -1,9 +1,9 @@
 ghost use Rattle.std.specs.Prelude.{◌≡◌, ◌<◌, ◌≤◌, IfOk, map};
-ghost use Rattle.dispatch_log.specs.Setups.{IsSound};
+ghost use Rattle.log_entries.specs.Setups.{IsSound};
 ghost use Rattle.proxy_config.specs.Sound.{IsSoundConfig};
 ghost use Rattle.config_setup.specs.Setups as setups;
 
-use dispatch_log::{ServerSet, Servers, Setup};
+use log_entries::{ServerSet, Servers, Setup};
 use proxy_config::{Config, Server};
 use std::alloc::{AllocError, Global};
 

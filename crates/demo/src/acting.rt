@@ -8,8 +8,8 @@ use crate::stage::Stage;
 use demo_words::{Looks, Server, VISITS};
 use late_cert::Reports;
 use proxy_config::read;
-use proxy_service::{Record, ServeFault, serve_recorded};
-use run_sizes::Sizes;
+use run_parts::RunLimits;
+use run_service::{Record, ServeFault, serve_recorded};
 use std::net::{Net, SocketAddr, TcpListener, TcpStream};
 use std::rt::Files;
 use std::sync::Wait;
@@ -184,7 +184,7 @@ pub(crate) fn serve<
 ) -> Result<Reports, ServeFault> {
     match (
         read(rt.alloc(), config.as_bytes()),
-        Sizes::new(None, None, None, PLACES, clients),
+        RunLimits::new(None, None, None, PLACES, clients),
     ) {
         (Ok(config), Some(sizes)) => serve_recorded(rt, config, listener, sizes, record),
         // The program's own configuration is sound, and so are the sizes: only memory can be short.

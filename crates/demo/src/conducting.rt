@@ -3,8 +3,8 @@
 use crate::fault::DemoFault;
 use crate::watcher::Watcher;
 use demo_words::{GAP, Looks, PLAN, VISITS, request_of};
-use dispatch_log::Entry;
-use proxy_service::Record;
+use log_entries::Entry;
+use run_service::Record;
 use std::alloc::Global;
 use std::io::{Read, Write};
 use std::net::TcpStream;

@@ -4,8 +4,7 @@ use crate::acting::Played;
 use crate::fault::DemoFault;
 use crate::picture::write_picture;
 use demo_words::{Looks, Tone, VISITS, names_of, push_reports, push_table};
-use log_stretches::Course;
-use log_waits::{are_in_order, services_in, stays_in};
+use log_stretches::{Course, are_in_order, services_in, stays_in};
 use std::alloc::Global;
 use std::rt::Files;
 

@@ -1,4 +1,4 @@
-use proxy_service::ServeFault;
+use run_service::ServeFault;
 use std::alloc::AllocError;
 use std::io;
 use thiserror::Error;

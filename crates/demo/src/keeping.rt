@@ -4,7 +4,7 @@ use crate::acting::{Front, serve};
 use crate::fault::DemoFault;
 use crate::watcher::Watcher;
 use demo_words::Looks;
-use proxy_service::Record;
+use run_service::Record;
 use std::alloc::Global;
 use std::net::{Net, SocketAddr, TcpListener, TcpStream};
 use std::sync::Wait;

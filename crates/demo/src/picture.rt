@@ -2,13 +2,13 @@
 
 use crate::fault::DemoFault;
 use demo_words::names_of;
-use dispatch_log::Entry;
 use late_cert::Report;
-use log_drawing::{Subject, push_drawing};
+use log_entries::Entry;
 use std::alloc::{AllocError, Global};
 use std::fs;
 use std::rt::Files;
-use trace_lines::trace_of_window;
+use view_drawing::{Subject, push_drawing};
+use view_traces::trace_of_window;
 
 /// Draws a log and its reports into a file, as `dueproxy draw` does.
 pub(crate) fn write_picture<R: Files + AllocGlobal>(

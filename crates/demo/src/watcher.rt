@@ -1,7 +1,7 @@
 use crate::fault::DemoFault;
 use demo_words::{Looks, Teller, names_of};
-use dispatch_log::Entry;
-use proxy_service::Record;
+use log_entries::Entry;
+use run_service::Record;
 use std::alloc::Global;
 use std::sync::Wait;
 
@@ -39,7 +39,7 @@ impl<'a, R: Print + Wait> Watcher<'a, R> {
         let later = self.record.take(self.rt);
         let mut text = String::new(self.alloc);
         for entry in later.as_slice() {
-            self.teller.tell(&mut text, *entry)?;
+            self.teller.push_line(&mut text, *entry)?;
         }
         match self.rt.print(text.as_str()) {
             Ok(()) => Ok(later),

@@ -1,6 +1,6 @@
 //! The requests of the demo.
 
-use script::Names;
+use log_texts::Names;
 use std::alloc::{AllocError, Global};
 
 /// A request: its class, and its due date in milliseconds after its arrival.

@@ -1,8 +1,8 @@
 use crate::colour::{Looks, Tone};
 use crate::seconds::{push_moment, push_seconds};
-use dispatch_log::{Arrival, Entry, Queue};
 use due_key::{Key, Moment};
-use script::Names;
+use log_entries::{Arrival, Entry, Queue};
+use log_texts::Names;
 use std::alloc::{AllocError, Global};
 
 /// A request that came and isn't over.
@@ -35,7 +35,7 @@ impl Teller {
     }
 
     /// Takes the next entry, and appends its line, where it has one.
-    pub fn tell(&mut self, text: &mut String, entry: Entry) -> Result<(), AllocError> {
+    pub fn push_line(&mut self, text: &mut String, entry: Entry) -> Result<(), AllocError> {
         match entry {
             Entry::Arrive(moment, arrival) => self.come(moment, &arrival),
             Entry::Done(moment, _)

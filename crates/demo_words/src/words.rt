@@ -2,10 +2,10 @@
 
 use crate::colour::{Looks, Tone};
 use crate::seconds::{push_due, push_lateness, push_moment};
-use dispatch_log::Queue;
 use late_cert::{Report, Stay};
-use log_waits::Served;
-use script::Names;
+use log_entries::Queue;
+use log_stretches::Served;
+use log_texts::Names;
 use std::alloc::AllocError;
 
 /// Appends the table: a line for each slot, in the order in which they were given.

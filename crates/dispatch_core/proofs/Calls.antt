@@ -3,34 +3,34 @@ use Rattle.std.proofs.Common.{◌≡◌, ℕ, ◌+◌, ◌≤◌, true, false, [
 use Rattle.std.proofs.Common.{length, refl, ap, sym, ◌∙◌, subst, arith}
 use Rattle.std.specs.Option.{option_map_or, option_and_then}
 use Rattle.std.proofs.lemmas.Bool.Decides.{Decides-eqb}
-use Rattle.dispatch_log.specs.declared.entry.Entry.{Entry}
-use Rattle.dispatch_log.specs.declared.entry.Entry.TheVariants.{Done, Freed, Ended}
+use Rattle.log_entries.specs.declared.entry.Entry.{Entry}
+use Rattle.log_entries.specs.declared.entry.Entry.TheVariants.{Done, Freed, Ended}
 use Rattle.server_pick.specs.declared.placement.Placement.{Placement}
 use Rattle.server_pick.specs.declared.placement.Placement.TheVariants.{Slot, OwnQueue, BackendQueue, Nowhere}
 use Rattle.server_pick.specs.Picked.{IsPlacement}
-use Rattle.dispatch_log.specs.declared.row.Phase.{Phase}
-use Rattle.dispatch_log.specs.declared.row.Phase.TheVariants.{Loose, Waiting, Serving, Told}
-use Rattle.dispatch_log.specs.declared.row.Row.{Row}
-use Rattle.dispatch_log.specs.declared.setup.Setup.{Setup}
-use Rattle.dispatch_log.specs.Dispatch.{IsDispatched}
-use Rattle.dispatch_log.specs.Histories.{History, first_window, state_of, begins_event, refuses_done, start_of, end_of}
-use Rattle.dispatch_log.specs.Legal.{IsLegal, AddsEvent}
-use Rattle.dispatch_log.specs.Judgement.{Stage, returning, ending, granting, MayCome, next_stage, HasSlot, IsTold}
-use Rattle.dispatch_log.specs.Refusals.{is_waiting, lacks_room}
-use Rattle.dispatch_log.specs.Rows.{StandsAt, row_of, server_in, phase_is_served_by, phase_is_told}
-use Rattle.dispatch_log.specs.States.{State, after, point_of}
-use Rattle.dispatch_log.proofs.Accepted.{row_of_found, ticket_tests}
-use Rattle.dispatch_log.proofs.Consistency.{IsConsistent}
-use Rattle.dispatch_log.proofs.Dispatched.{dispatched, base_consistent}
-use Rattle.dispatch_log.proofs.Runs.{first_legal, adds_legally}
-use Rattle.dispatch_log.proofs.Judged.{after_all-push, stage_after-push, over_none, consistent_all, places_all}
+use Rattle.log_entries.specs.declared.row.Phase.{Phase}
+use Rattle.log_entries.specs.declared.row.Phase.TheVariants.{Loose, Waiting, Serving, Told}
+use Rattle.log_entries.specs.declared.row.Row.{Row}
+use Rattle.log_entries.specs.declared.setup.Setup.{Setup}
+use Rattle.log_entries.specs.Dispatch.{IsDispatched}
+use Rattle.log_entries.specs.Histories.{History, first_window, state_of, begins_event, refuses_done, start_of, end_of}
+use Rattle.log_entries.specs.Legal.{IsLegal, AddsEvent}
+use Rattle.log_entries.specs.Judgement.{Stage, returning, ending, granting, MayCome, next_stage, HasSlot, IsTold}
+use Rattle.log_entries.specs.Refusals.{is_waiting, lacks_room}
+use Rattle.log_entries.specs.Rows.{StandsAt, row_of, server_in, phase_is_served_by, phase_is_told}
+use Rattle.log_entries.specs.States.{State, after, point_of}
+use Rattle.log_entries.proofs.Accepted.{row_of_found, ticket_tests}
+use Rattle.log_entries.proofs.Consistency.{IsConsistent}
+use Rattle.log_entries.proofs.Dispatched.{dispatched, base_consistent}
+use Rattle.log_entries.proofs.Runs.{first_legal, adds_legally}
+use Rattle.log_entries.proofs.Judged.{after_all-push, stage_after-push, over_none, consistent_all, places_all}
 use Rattle.dispatch_core.specs.Steps.{IsReturn, Places, Leaves, Settles}
-use Rattle.dispatch_trace.specs.Histories.{with_entry, stage_of, scene_of, waiting_of, HasPlaces, MayComeNext, MayPut, IsFound}
-use Rattle.dispatch_trace.proofs.Placing.{entry_of, placed_stage}
+use Rattle.dispatch_state.specs.Histories.{with_entry, stage_of, scene_of, waiting_of, HasPlaces, MayComeNext, MayPut, IsFound}
+use Rattle.dispatch_state.proofs.Placing.{entry_of, placed_stage}
 use Rattle.dispatch_core.proofs.Going.{goes_entry, goes_more, room_left, begun_room, adds}
-use Rattle.dispatch_trace.proofs.Placing.{has_room, over_granting}
+use Rattle.dispatch_state.proofs.Placing.{has_room, over_granting}
 use Rattle.dispatch_core.proofs.Standing.{of_ticket}
-use Rattle.dispatch_trace.specs.declared.position.Ticketed.{Ticketed}
+use Rattle.dispatch_state.specs.declared.position.Ticketed.{Ticketed}
 
 -- an entry may come after another
 pub may_next : (h : History) (e next : Entry) (t : Stage) → next_stage (stage_of h) e ≡ t

@@ -6,35 +6,35 @@ use Rattle.std.proofs.lemmas.List.Elements.{All-head, All-tail}
 use Rattle.std.proofs.lemmas.Option.{slice_get_within, slice_get-get_or}
 use Rattle.check_state.specs.declared.health.Change.{Change}
 use Rattle.check_state.specs.Standing.{Standing, change_between}
-use Rattle.dispatch_log.specs.declared.entry.Entry.{Entry}
-use Rattle.dispatch_log.specs.declared.entry.Entry.TheVariants.{Arrive, Done, Fail, Abort, Tick, Check, Limit}
-use Rattle.dispatch_log.specs.declared.entry.Entry.TheVariants.{Direct, Joined, Granted, Moved, Freed, Retried, Left}
-use Rattle.dispatch_log.specs.declared.entry.Entry.TheVariants.{Health, Ended}
-use Rattle.dispatch_log.specs.declared.refusal.Refusal.TheVariants.{LogFull, NoSuchServer, WrongPhase}
-use Rattle.dispatch_log.specs.declared.setup.ServerSet.{ServerSet}
-use Rattle.dispatch_log.specs.declared.setup.Setup.{Setup}
-use Rattle.dispatch_log.specs.Health.{is_up_by, results_of, with_result, without_last}
-use Rattle.dispatch_log.proofs.Runs.{adds_legally, after_on}
-use Rattle.dispatch_log.proofs.Windows.{opening_base}
-use Rattle.dispatch_log.specs.Histories.{History, first_window, state_of, begins_event, refuses_check}
-use Rattle.dispatch_log.specs.Legal.{IsBase, IsLegal, AddsEvent}
-use Rattle.dispatch_log.specs.Judgement.{checking, granting, was_up}
-use Rattle.dispatch_log.specs.Refusals.{lacks_room, is_checked}
-use Rattle.dispatch_log.specs.States.{State, after, after_all, opening_state}
-use Rattle.dispatch_log.specs.Scenes.{is_up}
-use Rattle.dispatch_log.proofs.Accepted.{none_refuses}
-use Rattle.dispatch_log.proofs.Judged.{after_all-push, stage_after-push}
+use Rattle.log_entries.specs.declared.entry.Entry.{Entry}
+use Rattle.log_entries.specs.declared.entry.Entry.TheVariants.{Arrive, Done, Fail, Abort, Tick, Check, Limit}
+use Rattle.log_entries.specs.declared.entry.Entry.TheVariants.{Direct, Joined, Granted, Moved, Freed, Retried, Left}
+use Rattle.log_entries.specs.declared.entry.Entry.TheVariants.{Health, Ended}
+use Rattle.log_entries.specs.declared.refusal.Refusal.TheVariants.{LogFull, NoSuchServer, WrongPhase}
+use Rattle.log_entries.specs.declared.setup.ServerSet.{ServerSet}
+use Rattle.log_entries.specs.declared.setup.Setup.{Setup}
+use Rattle.log_entries.specs.Health.{is_up_by, results_of, with_result, without_last}
+use Rattle.log_entries.proofs.Runs.{adds_legally, after_on}
+use Rattle.log_entries.proofs.Windows.{opening_base}
+use Rattle.log_entries.specs.Histories.{History, first_window, state_of, begins_event, refuses_check}
+use Rattle.log_entries.specs.Legal.{IsBase, IsLegal, AddsEvent}
+use Rattle.log_entries.specs.Judgement.{checking, granting, was_up}
+use Rattle.log_entries.specs.Refusals.{lacks_room, is_checked}
+use Rattle.log_entries.specs.States.{State, after, after_all, opening_state}
+use Rattle.log_entries.specs.Scenes.{is_up}
+use Rattle.log_entries.proofs.Accepted.{none_refuses}
+use Rattle.log_entries.proofs.Judged.{after_all-push, stage_after-push}
 use Rattle.pend_queue.specs.Held.{Held}
 use Rattle.dispatch_core.specs.Checks.{AreHealths, IsHealthBy, IsCore, IsSpare}
 use Rattle.dispatch_core.specs.Steps.{HasEventRoom}
-use Rattle.dispatch_trace.specs.Traces.{is_up_at}
-use Rattle.dispatch_trace.specs.Histories.{with_entry, stage_of, scene_of}
+use Rattle.dispatch_state.specs.Traces.{is_up_at}
+use Rattle.dispatch_state.specs.Histories.{with_entry, stage_of, scene_of}
 use Rattle.dispatch_core.proofs.Calls.{new_legal, legal_places}
 use Rattle.dispatch_core.proofs.Going.{begun_room}
-use Rattle.dispatch_trace.proofs.Placing.{has_room}
-use Rattle.dispatch_trace.proofs.Placing.{same_setup}
+use Rattle.dispatch_state.proofs.Placing.{has_room}
+use Rattle.dispatch_state.proofs.Placing.{same_setup}
 use Rattle.dispatch_core.proofs.Healthy.{up_at, results_set}
-use Rattle.dispatch_trace.proofs.Healthy.{many_results}
+use Rattle.dispatch_state.proofs.Healthy.{many_results}
 
 -- inside an event no result comes
 no_result : (setup : Setup) (s : State) (e : Entry) → begins_event e ≡ false → (after setup s e).results ≡ s.results

@@ -1,23 +1,23 @@
 -- Aborts and ticks as compositions of entries.
 use Rattle.std.proofs.Common.{◌≡◌, ℕ, ◌+◌, ◌≤◌, not, Bool, None, length, refl, ap, sym, ◌∙◌, subst, arith}
 use Rattle.std.proofs.lemmas.Bool.{not-false}
-use Rattle.dispatch_log.specs.declared.entry.Entry.TheVariants.{Abort, Left}
-use Rattle.verdict.specs.declared.cause.Cause.TheVariants.{Aborted}
-use Rattle.dispatch_log.specs.declared.row.Phase.{Phase}
-use Rattle.dispatch_log.specs.Histories.{History, state_of, refuses_abort}
-use Rattle.dispatch_log.specs.Legal.{IsLegal, AddsEvent}
-use Rattle.dispatch_log.specs.Judgement.{Stage, aborting, granting, IsInPhase, next_stage}
-use Rattle.dispatch_log.specs.Refusals.{is_waiting, ticket_refusal}
-use Rattle.dispatch_log.specs.States.{State}
-use Rattle.dispatch_log.proofs.Accepted.{accepted_room, row_of_accepted}
-use Rattle.dispatch_log.proofs.Judged.{after_all-push, stage_after-push}
+use Rattle.log_entries.specs.declared.entry.Entry.TheVariants.{Abort, Left}
+use Rattle.base_verdict.specs.declared.cause.Cause.TheVariants.{Aborted}
+use Rattle.log_entries.specs.declared.row.Phase.{Phase}
+use Rattle.log_entries.specs.Histories.{History, state_of, refuses_abort}
+use Rattle.log_entries.specs.Legal.{IsLegal, AddsEvent}
+use Rattle.log_entries.specs.Judgement.{Stage, aborting, granting, IsInPhase, next_stage}
+use Rattle.log_entries.specs.Refusals.{is_waiting, ticket_refusal}
+use Rattle.log_entries.specs.States.{State}
+use Rattle.log_entries.proofs.Accepted.{accepted_room, row_of_accepted}
+use Rattle.log_entries.proofs.Judged.{after_all-push, stage_after-push}
 use Rattle.dispatch_core.specs.Steps.{Settles}
-use Rattle.dispatch_trace.specs.Histories.{with_entry, stage_of, waiting_of, MayComeNext, MayGrantNext, HasEntryRoom, IsFound}
-use Rattle.dispatch_trace.specs.declared.position.Ticketed.{Ticketed}
+use Rattle.dispatch_state.specs.Histories.{with_entry, stage_of, waiting_of, MayComeNext, MayGrantNext, HasEntryRoom, IsFound}
+use Rattle.dispatch_state.specs.declared.position.Ticketed.{Ticketed}
 use Rattle.dispatch_core.proofs.Standing.{of_ticket}
 use Rattle.dispatch_core.proofs.Calls.{may_next, legal_places}
 use Rattle.dispatch_core.proofs.Going.{goes_entry, room_left, begun_room, adds}
-use Rattle.dispatch_trace.proofs.Placing.{has_room, over_granting, may_granting}
+use Rattle.dispatch_state.proofs.Placing.{has_room, over_granting, may_granting}
 
 -- where no event of a ticket is refused, the log has room for it
 pub ticket_room : (wrong : Phase → Bool) (h : History) (t : ℕ) → ticket_refusal wrong h.setup (state_of h) (length h.log) t ≡ None → HasEntryRoom h

@@ -2,31 +2,31 @@
 use Rattle.std.proofs.Common.{◌≡◌, ℕ, ◌+◌, ◌<◌, ◌≤◌, false, [], ◌∷◌, ◌++◌, IsTrue, length, count_by, refl, ap, sym, ◌∙◌}
 use Rattle.std.proofs.Common.{subst, arith, length-append, Bool, true, Option, None, Some}
 use Rattle.std.proofs.lemmas.List.Sums.{sum_by-cons}
-use Rattle.dispatch_log.specs.declared.entry.Entry.{Entry}
-use Rattle.dispatch_log.specs.declared.entry.Entry.TheVariants.{Moved}
-use Rattle.dispatch_log.specs.declared.queue.Queue.{Queue}
-use Rattle.dispatch_log.specs.declared.queue.Queue.TheVariants.{Server}
-use Rattle.dispatch_log.specs.declared.row.Phase.{Phase}
-use Rattle.dispatch_log.specs.declared.row.Phase.TheVariants.{Loose, Waiting, Serving, Told}
-use Rattle.dispatch_log.specs.declared.row.Row.{Row}
-use Rattle.dispatch_log.specs.declared.setup.Setup.{Setup}
-use Rattle.dispatch_log.specs.Histories.{History, state_of}
-use Rattle.dispatch_log.specs.Judgement.{Stage, emptying, granting, next_stage}
-use Rattle.dispatch_log.specs.Refusals.{is_waiting}
-use Rattle.dispatch_log.specs.Rows.{Rows, queued, waits_in, phase_waits_in}
-use Rattle.dispatch_log.proofs.Judged.{stage_after-push}
-use Rattle.list_facts.proofs.Places.{tally}
+use Rattle.log_entries.specs.declared.entry.Entry.{Entry}
+use Rattle.log_entries.specs.declared.entry.Entry.TheVariants.{Moved}
+use Rattle.log_entries.specs.declared.queue.Queue.{Queue}
+use Rattle.log_entries.specs.declared.queue.Queue.TheVariants.{Server}
+use Rattle.log_entries.specs.declared.row.Phase.{Phase}
+use Rattle.log_entries.specs.declared.row.Phase.TheVariants.{Loose, Waiting, Serving, Told}
+use Rattle.log_entries.specs.declared.row.Row.{Row}
+use Rattle.log_entries.specs.declared.setup.Setup.{Setup}
+use Rattle.log_entries.specs.Histories.{History, state_of}
+use Rattle.log_entries.specs.Judgement.{Stage, emptying, granting, next_stage}
+use Rattle.log_entries.specs.Refusals.{is_waiting}
+use Rattle.log_entries.specs.Rows.{Rows, queued, waits_in, phase_waits_in}
+use Rattle.log_entries.proofs.Judged.{stage_after-push}
+use Rattle.base_lists.proofs.Places.{tally}
 use Rattle.dispatch_core.specs.Steps.{GoesOn, MovesAll}
 use Rattle.dispatch_core.proofs.Going.{goes_none, goes_more}
-use Rattle.dispatch_trace.proofs.Placing.{longer, same_setup}
-use Rattle.dispatch_trace.specs.Histories.{stage_of, waits, waiting_of, IsMove, IsEmptied}
+use Rattle.dispatch_state.proofs.Placing.{longer, same_setup}
+use Rattle.dispatch_state.specs.Histories.{stage_of, row_waits, waiting_of, IsMove, IsEmptied}
 
 one_of : (a b : Bool) → (a ≡ true → b ≡ true) → tally a ≤ tally b
 one_of true b h = let e : tally b ≡ 1 = ap tally (h refl) in omega arith
 one_of false b h = omega arith
 
 -- no more wait in one queue than in all
-waits_counted : (queue : Queue) (cell : Option Row) → waits_in queue cell ≡ true → waits cell ≡ true
+waits_counted : (queue : Queue) (cell : Option Row) → waits_in queue cell ≡ true → row_waits cell ≡ true
 waits_counted queue None e = cc
 waits_counted queue (Some row) e = by_phase row.phase e
   where
@@ -36,13 +36,13 @@ waits_counted queue (Some row) e = by_phase row.phase e
     by_phase (Serving v) h = cc
     by_phase (Told c) h = cc
 
-few_queued : (queue : Queue) (rows : Rows) → queued queue rows ≤ count_by waits rows
+few_queued : (queue : Queue) (rows : Rows) → queued queue rows ≤ count_by row_waits rows
 few_queued queue [] = omega arith
 few_queued queue (cell ∷ rows) =
-    let rest : queued queue rows ≤ count_by waits rows = few_queued queue rows in
-    let one = one_of (waits_in queue cell) (waits cell) (waits_counted queue cell) in
+    let rest : queued queue rows ≤ count_by row_waits rows = few_queued queue rows in
+    let one = one_of (waits_in queue cell) (row_waits cell) (waits_counted queue cell) in
     let a : queued queue (cell ∷ rows) ≡ tally (waits_in queue cell) + queued queue rows = sum_by-cons (λ x. tally (waits_in queue x)) cell rows in
-    let b : count_by waits (cell ∷ rows) ≡ tally (waits cell) + count_by waits rows = sum_by-cons (λ x. tally (waits x)) cell rows in
+    let b : count_by row_waits (cell ∷ rows) ≡ tally (row_waits cell) + count_by row_waits rows = sum_by-cons (λ x. tally (row_waits x)) cell rows in
     omega arith
 
 -- moves so far, and room for those that are left

@@ -3,16 +3,16 @@ use Rattle.std.proofs.Common.{◌≡◌, ℕ, ◌+◌, ◌≤◌, Bool, true, fa
 use Rattle.check_state.specs.declared.health.Change.{Change}
 use Rattle.check_state.specs.declared.health.Change.TheVariants.{Stay, WentDown, WentUp}
 use Rattle.check_state.specs.Standing.{change_between}
-use Rattle.dispatch_log.specs.declared.entry.Entry.TheVariants.{Health}
-use Rattle.dispatch_log.specs.declared.setup.Setup.{Setup}
-use Rattle.dispatch_log.specs.Histories.{History, state_of, end_of}
-use Rattle.dispatch_log.specs.Judgement.{Stage, checking, emptying, granting, IsOver, MayGrant, MayCome, was_up}
-use Rattle.dispatch_log.specs.Scenes.{is_up}
-use Rattle.dispatch_log.proofs.Judged.{stage_after-push}
+use Rattle.log_entries.specs.declared.entry.Entry.TheVariants.{Health}
+use Rattle.log_entries.specs.declared.setup.Setup.{Setup}
+use Rattle.log_entries.specs.Histories.{History, state_of, end_of}
+use Rattle.log_entries.specs.Judgement.{Stage, checking, emptying, granting, EventIsOver, MayGrant, MayCome, was_up}
+use Rattle.log_entries.specs.Scenes.{is_up}
+use Rattle.log_entries.proofs.Judged.{stage_after-push}
 use Rattle.dispatch_core.specs.Steps.{GoesOn, CarriesOn, MovesAll, HasEventRoom, HasMoveRoom}
-use Rattle.dispatch_trace.specs.Histories.{with_entry, stage_of, scene_of, waiting_of, MayComeNext}
+use Rattle.dispatch_state.specs.Histories.{with_entry, stage_of, scene_of, waiting_of, MayComeNext}
 use Rattle.dispatch_core.proofs.Going.{goes_none, goes_entry, goes_then, room_left, carries}
-use Rattle.dispatch_trace.proofs.Placing.{longer, same_setup, places_next, few_wait}
+use Rattle.dispatch_state.proofs.Placing.{longer, same_setup, places_next, few_wait}
 
 -- what a change says of before and after
 stay_same : (a b : Bool) → Stay ≡ change_between a b → a ≡ b
@@ -46,7 +46,7 @@ module _ (h : History) (server : ℕ) (stage : stage_of h ≡ checking server) w
       let same : was ≡ now = stay_same was now (sym stays ∙ is) in
       record {
         goes = goes_none h;
-        over = subst (λ (t : Stage). IsOver h.setup (state_of h) t) (sym stage) same;
+        over = subst (λ (t : Stage). EventIsOver h.setup (state_of h) t) (sym stage) same;
         may_grant = subst (λ (t : Stage). MayGrant h.setup (state_of h) t) (sym stage) same;
         room = room_left h h (goes_none h) 0 (omega arith) (omega arith) room.places;
       }
@@ -100,20 +100,20 @@ module _ (h : History) (server : ℕ) (stage : stage_of h ≡ emptying server) (
 
   pub carries_unmoved : h.setup.redispatch ≡ false → CarriesOn h h
   carries_unmoved stays =
-      let over : IsOver h.setup (state_of h) (emptying server) = λ moves row live waits. (let no : false ≡ true = sym stays ∙ moves in cc) in
+      let over : EventIsOver h.setup (state_of h) (emptying server) = λ moves row live waits. (let no : false ≡ true = sym stays ∙ moves in cc) in
       record {
         goes = goes_none h;
-        over = subst (λ (t : Stage). IsOver h.setup (state_of h) t) (sym stage) over;
+        over = subst (λ (t : Stage). EventIsOver h.setup (state_of h) t) (sym stage) over;
         may_grant = subst (λ (t : Stage). MayGrant h.setup (state_of h) t) (sym stage) over;
         room = moves_fit;
       }
 
   pub carries_moved : (two : History) → MovesAll server h two → CarriesOn h two
   carries_moved two moves =
-      let over : IsOver two.setup (state_of two) (emptying server) = λ moved row live waits. moves.none row live waits in
+      let over : EventIsOver two.setup (state_of two) (emptying server) = λ moved row live waits. moves.none row live waits in
       record {
         goes = moves.goes;
-        over = subst (λ (t : Stage). IsOver two.setup (state_of two) t) (sym moves.stage) over;
+        over = subst (λ (t : Stage). EventIsOver two.setup (state_of two) t) (sym moves.stage) over;
         may_grant = subst (λ (t : Stage). MayGrant two.setup (state_of two) t) (sym moves.stage) over;
         room =
             let few = moves.few in

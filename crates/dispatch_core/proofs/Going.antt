@@ -3,14 +3,14 @@ use Rattle.std.proofs.Common.{◌≡◌, ℕ, ◌+◌, ◌≤◌, false, true, L
 use Rattle.std.proofs.Common.{append_assoc, length-append}
 use Rattle.std.proofs.lemmas.List.{append-nil}
 use Rattle.std.proofs.lemmas.List.Elements.{All-cons, All-nil, All-append}
-use Rattle.dispatch_log.specs.declared.entry.Entry.{Entry}
-use Rattle.dispatch_log.specs.declared.setup.Setup.{Setup}
-use Rattle.dispatch_log.specs.Histories.{History, begins_event}
-use Rattle.dispatch_log.specs.Legal.{AddsEvent}
-use Rattle.dispatch_log.specs.Judgement.{granting}
-use Rattle.dispatch_log.proofs.Runs.{adds_piece}
-use Rattle.dispatch_trace.specs.Histories.{with_entry, stage_of, waiting_of, HasPlaces, IsOverNext, HasEntryRoom}
-use Rattle.dispatch_trace.proofs.Placing.{same_setup, same_base, longer, places_on, places_next, few_wait, over_granting, may_granting}
+use Rattle.log_entries.specs.declared.entry.Entry.{Entry}
+use Rattle.log_entries.specs.declared.setup.Setup.{Setup}
+use Rattle.log_entries.specs.Histories.{History, begins_event}
+use Rattle.log_entries.specs.Legal.{AddsEvent}
+use Rattle.log_entries.specs.Judgement.{granting}
+use Rattle.log_entries.proofs.Runs.{adds_piece}
+use Rattle.dispatch_state.specs.Histories.{with_entry, stage_of, waiting_of, HasPlaces, IsOverNext, HasEntryRoom}
+use Rattle.dispatch_state.proofs.Placing.{same_setup, same_base, longer, places_on, places_next, few_wait, over_granting, may_granting}
 use Rattle.dispatch_core.specs.Steps.{GoesOn, Places, Settles, CarriesOn, HasEventRoom}
 
 -- an entry that begins no event

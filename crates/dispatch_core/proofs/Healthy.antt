@@ -5,14 +5,14 @@ use Rattle.std.proofs.Math.ListN.{set, length-set, length-replicate}
 use Rattle.std.proofs.lemmas.List.{get_or-set_same, get_or-set_other, get_or_append_left, get_or_push}
 use Rattle.std.proofs.lemmas.Option.{same_Some, slice_get_within, slice_get-get_or, slice_get_read, get_or_from_slice_get}
 use Rattle.check_state.specs.declared.health.Change.{Change}
-use Rattle.check_state.specs.Results.{is_up}
+use Rattle.check_state.specs.Results.{is_up_after}
 use Rattle.check_state.specs.Standing.{Standing, IsHealthOf, change_between}
-use Rattle.dispatch_log.specs.declared.setup.ServerSet.{ServerSet}
-use Rattle.dispatch_log.specs.Health.{is_up_by, results_of, with_result}
-use Rattle.list_facts.proofs.Places.{same_or_other}
-use Rattle.list_facts.proofs.Replicated.{index-replicate}
+use Rattle.log_entries.specs.declared.setup.ServerSet.{ServerSet}
+use Rattle.log_entries.specs.Health.{is_up_by, results_of, with_result}
+use Rattle.base_lists.proofs.Places.{same_or_other}
+use Rattle.base_lists.proofs.Replicated.{index-replicate}
 use Rattle.dispatch_core.specs.Checks.{IsHealthBy, AreHealths}
-use Rattle.dispatch_trace.specs.Traces.{is_up_at}
+use Rattle.dispatch_state.specs.Traces.{is_up_at}
 
 -- one health more
 pub one_more : (servers : List ServerSet) (healths more : List (Option Standing)) (health : Option Standing) (n : ℕ) (it : ServerSet) → length healths ≡ n
@@ -149,7 +149,7 @@ healths_after servers results healths now server ok standing new are at written 
 -- a server's standing is told by its health
 pub up_is : (servers : List ServerSet) (results : List (List Bool)) (healths : List (Option Standing)) (server : ℕ) (standing : Standing) (up : Bool)
     → AreHealths servers results healths → slice_get healths server ≡ Some (Some standing)
-    → ((rise fall : ℕ) (l : List Bool) → IsHealthOf rise fall l standing → up ≡ is_up rise fall l) → up ≡ is_up_at servers results server
+    → ((rise fall : ℕ) (l : List Bool) → IsHealthOf rise fall l standing → up ≡ is_up_after rise fall l) → up ≡ is_up_at servers results server
 up_is servers results healths server standing up are at tells =
     let own = its_health servers results healths server standing are at in
     tells own.rise own.fall (results_of results server) own.health
@@ -159,14 +159,14 @@ up_is servers results healths server standing up are at tells =
 pub change_is : (servers : List ServerSet) (results : List (List Bool)) (healths : List (Option Standing)) (server : ℕ) (ok : Bool) (standing : Standing)
     (change : Change) → AreHealths servers results healths → slice_get healths server ≡ Some (Some standing)
     → ((rise fall : ℕ) (l : List Bool) → IsHealthOf rise fall l standing
-    → change ≡ change_between (is_up rise fall l) (is_up rise fall (l ++ ok ∷ [])))
+    → change ≡ change_between (is_up_after rise fall l) (is_up_after rise fall (l ++ ok ∷ [])))
     → change ≡ change_between (is_up_at servers results server) (is_up_at servers (with_result server ok results) server)
 change_is servers results healths server ok standing change are at tells =
     let own = its_health servers results healths server standing are at in
     let within : server < length healths = slice_get_within healths server (Some standing) at in
     let long : server < length results = (let a = are.many in let b = are.each_one in omega arith) in
     tells own.rise own.fall (results_of results server) own.health
-    ∙ ap (λ b. change_between b (is_up own.rise own.fall (results_of results server ++ ok ∷ [])))
+    ∙ ap (λ b. change_between b (is_up_after own.rise own.fall (results_of results server ++ ok ∷ [])))
     (sym (up_at servers results server own.it own.stands ∙ ap (λ (r : Option (ℕ × ℕ)). is_up_by r (results_of results server)) own.checked))
     ∙ ap (λ b. change_between (is_up_at servers results server) b)
     (sym (up_at servers (with_result server ok results) server own.it own.stands

@@ -1,21 +1,21 @@
 -- A new limit as a composition of entries.
 use Rattle.std.proofs.Common.{◌≡◌, ℕ, ◌+◌, ◌≤◌, ◌<◌, [], ◌∷◌, false, None, length, refl, ap, sym, ◌∙◌, subst, arith, nat_le}
 use Rattle.std.proofs.lemmas.Bool.Decides.{nat_tests}
-use Rattle.dispatch_log.specs.declared.allowance.Intake.{Intake}
-use Rattle.dispatch_log.specs.declared.entry.Entry.TheVariants.{Limit}
-use Rattle.dispatch_log.specs.declared.refusal.Refusal.TheVariants.{LogFull, NoSuchServer}
-use Rattle.dispatch_log.specs.declared.setup.Setup.{Setup}
-use Rattle.dispatch_log.specs.Histories.{History, refuses_limit}
-use Rattle.dispatch_log.specs.Judgement.{granting, limit_stage}
-use Rattle.dispatch_log.specs.Legal.{IsLegal}
-use Rattle.dispatch_log.specs.Refusals.{lacks_room}
-use Rattle.dispatch_log.proofs.Accepted.{none_refuses}
-use Rattle.dispatch_log.proofs.Judged.{stage_after-push}
+use Rattle.log_entries.specs.declared.allowance.Intake.{Intake}
+use Rattle.log_entries.specs.declared.entry.Entry.TheVariants.{Limit}
+use Rattle.log_entries.specs.declared.refusal.Refusal.TheVariants.{LogFull, NoSuchServer}
+use Rattle.log_entries.specs.declared.setup.Setup.{Setup}
+use Rattle.log_entries.specs.Histories.{History, refuses_limit}
+use Rattle.log_entries.specs.Judgement.{granting, limit_stage}
+use Rattle.log_entries.specs.Legal.{IsLegal}
+use Rattle.log_entries.specs.Refusals.{lacks_room}
+use Rattle.log_entries.proofs.Accepted.{none_refuses}
+use Rattle.log_entries.proofs.Judged.{stage_after-push}
 use Rattle.dispatch_core.specs.Steps.{HasEventRoom}
-use Rattle.dispatch_trace.specs.Histories.{with_entry, stage_of}
+use Rattle.dispatch_state.specs.Histories.{with_entry, stage_of}
 use Rattle.dispatch_core.proofs.Calls.{legal_places}
 use Rattle.dispatch_core.proofs.Going.{begun_room}
-use Rattle.dispatch_trace.proofs.Placing.{has_room, same_setup}
+use Rattle.dispatch_state.proofs.Placing.{has_room, same_setup}
 
 module _ (h : History) (server : ℕ) (accepted : refuses_limit h server ≡ None) where
   passes_room : lacks_room h.setup (length h.log) ≡ false

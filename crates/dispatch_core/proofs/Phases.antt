@@ -1,9 +1,9 @@
 -- What a row keeps when its phase changes.
 use Rattle.std.proofs.Common.{◌≡◌, ℕ, ◌==◌, Bool, true, false, cond, [], ◌∷◌, Option, None, Some, option_map, refl, ap, sym, ◌∙◌}
 use Rattle.std.specs.Option.{option_map_or, option_and_then}
-use Rattle.dispatch_log.specs.declared.row.Phase.{Phase}
-use Rattle.dispatch_log.specs.declared.row.Row.{Row}
-use Rattle.dispatch_log.specs.Rows.{Rows, changed, in_phase, row_of, pin_of, failures_of}
+use Rattle.log_entries.specs.declared.row.Phase.{Phase}
+use Rattle.log_entries.specs.declared.row.Row.{Row}
+use Rattle.log_entries.specs.Rows.{Rows, changed, in_phase, row_of, pin_of, failures_of}
 
 -- what doesn't look at the phase of a ticket's row stays, whoever's phase changes
 kept : {X : Type 0} (look : Row → X) → ((r : Row) (phase : Phase) → look (record r { phase = phase }) ≡ look r)

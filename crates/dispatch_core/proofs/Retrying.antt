@@ -4,32 +4,32 @@ use Rattle.std.proofs.Common.{option_map, IsTrue, length, refl, ap, sym, ◌∙�
 use Rattle.std.specs.Option.{option_map_or, option_and_then}
 use Rattle.std.proofs.Math.ListN.{set}
 use Rattle.std.proofs.lemmas.Bool.Decides.{Decides-eqb}
-use Rattle.verdict.specs.declared.cause.Cause.TheVariants.{Retries, NoServer}
-use Rattle.dispatch_log.specs.declared.entry.Entry.{Entry}
-use Rattle.dispatch_log.specs.declared.entry.Entry.TheVariants.{Fail, Direct, Joined, Freed, Retried, Left}
-use Rattle.dispatch_log.specs.declared.row.Phase.{Phase}
-use Rattle.dispatch_log.specs.declared.row.Phase.TheVariants.{Loose, Waiting, Serving, Told}
-use Rattle.dispatch_log.specs.declared.row.Row.{Row}
-use Rattle.dispatch_log.specs.declared.setup.Setup.{Setup}
-use Rattle.dispatch_log.specs.Histories.{History, state_of, refuses_failure, end_of}
-use Rattle.dispatch_log.specs.Legal.{IsLegal}
-use Rattle.dispatch_log.specs.Judgement.{IsPut, Stage, failing, freed_by_failure, granting, MayGrant, MayCome, next_stage, HasSlot}
-use Rattle.dispatch_log.specs.Refusals.{has_a_slot}
-use Rattle.dispatch_log.specs.Retries.{are_spent, are_redispatched, failed_row, failed}
-use Rattle.dispatch_log.specs.Rows.{Rows, StandsAt, changed, in_phase, row_of, server_in, phase_is_served_by, pin_of, failures_of}
-use Rattle.dispatch_log.specs.States.{State}
+use Rattle.base_verdict.specs.declared.cause.Cause.TheVariants.{Retries, NoServer}
+use Rattle.log_entries.specs.declared.entry.Entry.{Entry}
+use Rattle.log_entries.specs.declared.entry.Entry.TheVariants.{Fail, Direct, Joined, Freed, Retried, Left}
+use Rattle.log_entries.specs.declared.row.Phase.{Phase}
+use Rattle.log_entries.specs.declared.row.Phase.TheVariants.{Loose, Waiting, Serving, Told}
+use Rattle.log_entries.specs.declared.row.Row.{Row}
+use Rattle.log_entries.specs.declared.setup.Setup.{Setup}
+use Rattle.log_entries.specs.Histories.{History, state_of, refuses_failure, end_of}
+use Rattle.log_entries.specs.Legal.{IsLegal}
+use Rattle.log_entries.specs.Judgement.{IsPut, Stage, failing, freed_by_failure, granting, MayGrant, MayCome, next_stage, HasSlot}
+use Rattle.log_entries.specs.Refusals.{has_a_slot}
+use Rattle.log_entries.specs.Retries.{are_spent, are_redispatched, failed_row, failed}
+use Rattle.log_entries.specs.Rows.{Rows, StandsAt, changed, in_phase, row_of, server_in, phase_is_served_by, pin_of, failures_of}
+use Rattle.log_entries.specs.States.{State}
 use Rattle.std.proofs.lemmas.Option.{same_Some}
-use Rattle.dispatch_log.proofs.Accepted.{Accepted, row_of_accepted}
-use Rattle.dispatch_log.proofs.Judged.{after_all-push, stage_after-push}
-use Rattle.list_facts.proofs.Places.{get-set_same, get-set_cases}
-use Rattle.dispatch_log.proofs.RowLemmas.{HaveOwnTickets, changed_at, row_of_at}
+use Rattle.log_entries.proofs.Accepted.{Accepted, row_of_accepted}
+use Rattle.log_entries.proofs.Judged.{after_all-push, stage_after-push}
+use Rattle.base_lists.proofs.Places.{get-set_same, get-set_cases}
+use Rattle.log_entries.proofs.RowLemmas.{HaveOwnTickets, changed_at, row_of_at}
 use Rattle.dispatch_core.specs.Steps.{GoesOn, CarriesOn, Places, Settles, HasEventRoom}
-use Rattle.dispatch_trace.specs.Histories.{scene_of, with_entry, stage_of, waiting_of, MayComeNext, MayGrantNext, MayPut, IsFound}
+use Rattle.dispatch_state.specs.Histories.{scene_of, with_entry, stage_of, waiting_of, MayComeNext, MayGrantNext, MayPut, IsFound}
 use Rattle.dispatch_core.proofs.Calls.{legal_consistent, legal_places}
 use Rattle.dispatch_core.proofs.Dismissals.{ticket_room}
 use Rattle.dispatch_core.proofs.Going.{goes_entry, goes_then, goes_more, goes_places, goes_long, room_left, begun_room, carries}
-use Rattle.dispatch_trace.proofs.Placing.{same_setup, places_next, few_wait}
-use Rattle.dispatch_trace.specs.declared.position.Ticketed.{Ticketed}
+use Rattle.dispatch_state.proofs.Placing.{same_setup, places_next, few_wait}
+use Rattle.dispatch_state.specs.declared.position.Ticketed.{Ticketed}
 use Rattle.dispatch_core.proofs.Phases.{failures_stay, pins_stay}
 
 pub carries_retry : (h one : History) (t server k : ℕ) → stage_of h ≡ failing t → one ≡ with_entry h (Retried t server k) → HasEventRoom h

@@ -9,14 +9,14 @@ use Rattle.check_state.specs.Results.{run_at_end}
 use Rattle.check_state.specs.Shortened.{shortened}
 use Rattle.check_state.specs.Standing.{Standing, IsHealthOf}
 use Rattle.check_state.proofs.Shortened.{same_health}
-use Rattle.dispatch_log.specs.declared.setup.ServerSet.{ServerSet}
-use Rattle.dispatch_log.specs.Health.{results_of, shortened_by, shortened_all}
-use Rattle.dispatch_log.specs.Histories.{History, state_of, next_window}
-use Rattle.dispatch_log.specs.Setups.{IsSound, is_within, has_rise_and_fall}
-use Rattle.dispatch_log.specs.States.{State}
-use Rattle.dispatch_log.proofs.Windows.{next_legal, shortened_length}
+use Rattle.log_entries.specs.declared.setup.ServerSet.{ServerSet}
+use Rattle.log_entries.specs.Health.{results_of, shortened_by, shortened_all}
+use Rattle.log_entries.specs.Histories.{History, state_of, next_window}
+use Rattle.log_entries.specs.Setups.{IsSound, is_within, has_rise_and_fall}
+use Rattle.log_entries.specs.States.{State}
+use Rattle.log_entries.proofs.Windows.{next_legal, shortened_length}
 use Rattle.pend_queue.specs.Held.{Held}
-use Rattle.readable_log.specs.Bases.{results_by}
+use Rattle.log_reading.specs.Bases.{results_by}
 use Rattle.dispatch_core.specs.Checks.{AreHealths, IsHealthBy, IsCore, IsSpare}
 use Rattle.dispatch_core.proofs.Checking.{spare_base}
 

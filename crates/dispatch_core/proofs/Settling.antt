@@ -1,29 +1,29 @@
 -- Grants until all is settled.
 use Rattle.std.proofs.Common.{◌≡◌, ◌+◌, ℕ, ◌≤◌, [], ◌∷◌, ◌++◌, IsTrue, length, refl, ap, sym, ◌∙◌, subst, arith}
 use Rattle.std.proofs.Common.{length-append}
-use Rattle.dispatch_log.specs.declared.entry.Entry.{Entry}
-use Rattle.dispatch_log.specs.declared.entry.Entry.TheVariants.{Granted}
-use Rattle.dispatch_log.specs.Grants.{IsSettled}
-use Rattle.dispatch_log.specs.declared.queue.Queue.{Queue}
-use Rattle.dispatch_log.specs.declared.row.Phase.TheVariants.{Serving}
-use Rattle.dispatch_log.specs.declared.setup.Setup.{Setup}
-use Rattle.dispatch_log.specs.Histories.{History, state_of}
-use Rattle.dispatch_log.specs.Judgement.{Stage, freed_by_failure, telling, checking, emptying, granting, IsOver, MayGrant, next_stage}
-use Rattle.dispatch_log.specs.Retries.{are_redispatched}
-use Rattle.dispatch_log.specs.Rows.{pin_of, in_phase}
-use Rattle.dispatch_log.specs.States.{State, after}
-use Rattle.dispatch_log.proofs.Judged.{stage_after-push, after_all-push}
+use Rattle.log_entries.specs.declared.entry.Entry.{Entry}
+use Rattle.log_entries.specs.declared.entry.Entry.TheVariants.{Granted}
+use Rattle.log_entries.specs.Grants.{IsSettled}
+use Rattle.log_entries.specs.declared.queue.Queue.{Queue}
+use Rattle.log_entries.specs.declared.row.Phase.TheVariants.{Serving}
+use Rattle.log_entries.specs.declared.setup.Setup.{Setup}
+use Rattle.log_entries.specs.Histories.{History, state_of}
+use Rattle.log_entries.specs.Judgement.{Stage, freed_by_failure, telling, checking, emptying, granting, EventIsOver, MayGrant, next_stage}
+use Rattle.log_entries.specs.Retries.{are_redispatched}
+use Rattle.log_entries.specs.Rows.{pin_of, in_phase}
+use Rattle.log_entries.specs.States.{State, after}
+use Rattle.log_entries.proofs.Judged.{stage_after-push, after_all-push}
 use Rattle.dispatch_core.proofs.Phases.{failures_stay, pins_stay}
 use Rattle.dispatch_core.proofs.Standing.{at_changed, at_after}
-use Rattle.dispatch_trace.specs.declared.position.Ticketed.{Ticketed}
+use Rattle.dispatch_state.specs.declared.position.Ticketed.{Ticketed}
 use Rattle.dispatch_core.specs.Steps.{GoesOn, Settles}
 use Rattle.dispatch_core.proofs.Going.{goes_none, goes_more}
-use Rattle.dispatch_trace.proofs.Placing.{longer}
-use Rattle.dispatch_trace.specs.Histories.{with_entry, stage_of, scene_of, waiting_of, IsOverNext, MayGrantNext, IsGrant, IsJudged, IsAt}
+use Rattle.dispatch_state.proofs.Placing.{longer}
+use Rattle.dispatch_state.specs.Histories.{with_entry, stage_of, scene_of, waiting_of, IsOverNext, MayGrantNext, IsGrant, IsJudged, IsTicketAt}
 
 -- a grant owes nothing after it
-grant_over : (setup : Setup) (s : State) (t : Stage) (u v : ℕ) (q : Queue) → IsOver setup s t
-    → IsOver setup (after setup s (Granted u q v)) (next_stage t (Granted u q v))
+grant_over : (setup : Setup) (s : State) (t : Stage) (u v : ℕ) (q : Queue) → EventIsOver setup s t
+    → EventIsOver setup (after setup s (Granted u q v)) (next_stage t (Granted u q v))
 grant_over setup s granting u v q over = tt
 grant_over setup s telling u v q over = tt
 grant_over setup s (checking w) u v q over = tt
@@ -49,7 +49,7 @@ pub record GrantsSince (old now : History) : Type 0 where
   pub room : length now.log + waiting_of now ≤ now.setup.log
   pub counted : length goes.entries + waiting_of now ≡ waiting_of old
   pub pins : (ticket : ℕ) → pin_of ticket (state_of now).rows ≡ pin_of ticket (state_of old).rows
-  pub places : (it : Ticketed) → IsAt (state_of old).rows it → IsAt (state_of now).rows it
+  pub places : (it : Ticketed) → IsTicketAt (state_of old).rows it → IsTicketAt (state_of now).rows it
 
 pub since_none : (h : History) → MayGrantNext h → length h.log + waiting_of h ≤ h.setup.log → GrantsSince h h
 since_none h may_grant room = record {
@@ -68,7 +68,7 @@ since_more old now next since grant =
     let e : Entry = Granted grant.ticket grant.queue grant.server in
     record {
       goes = goes_more old now next e since.goes grant.grants refl;
-      over = λ over. goes_on IsOver (grant_over now.setup (state_of now) (stage_of now) grant.ticket grant.server grant.queue (since.over over));
+      over = λ over. goes_on EventIsOver (grant_over now.setup (state_of now) (stage_of now) grant.ticket grant.server grant.queue (since.over over));
       freed_by_failure =
           λ ticket server stage. ap stage_of grant.grants ∙ stage_after-push granting now.log e
           ∙ ap (λ (t : Stage). next_stage t e) (since.freed_by_failure ticket server stage);

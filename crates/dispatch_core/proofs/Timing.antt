@@ -7,35 +7,35 @@ use Rattle.std.proofs.lemmas.Bool.{true≢false}
 use Rattle.std.proofs.lemmas.Bool.Decides.{nat_tests, Decides-eqb}
 use Rattle.std.proofs.lemmas.Cmp.{nat_cmp_total}
 use Rattle.std.proofs.lemmas.Option.{same_Some, slice_get-map}
-use Rattle.dispatch_log.specs.declared.entry.Entry.TheVariants.{Tick, Left}
-use Rattle.verdict.specs.declared.cause.Cause.TheVariants.{Timeout}
-use Rattle.dispatch_log.specs.declared.row.Phase.{Phase}
-use Rattle.dispatch_log.specs.declared.row.Phase.TheVariants.{Told}
-use Rattle.dispatch_log.specs.declared.row.Row.{Row}
-use Rattle.dispatch_log.specs.declared.setup.Setup.{Setup}
-use Rattle.dispatch_log.specs.Histories.{History, SomeExpires, state_of, effective, end_of}
-use Rattle.dispatch_log.specs.Legal.{IsLegal, AddsEvent}
-use Rattle.dispatch_log.specs.Judgement.{Stage, telling, granting, HasExpired, IsExpired, IsFirstExpired, IsInPhase, IsOver, MayGrant, MayCome, next_stage}
-use Rattle.dispatch_log.specs.Refusals.{is_waiting}
-use Rattle.dispatch_log.specs.Rows.{Rows, StandsAt, with_change, changed, in_phase}
-use Rattle.dispatch_log.specs.Grants.{IsSettled}
-use Rattle.dispatch_log.specs.States.{State, scene}
-use Rattle.dispatch_log.specs.Scenes.{Scene}
-use Rattle.dispatch_log.proofs.Judged.{after_all-push, stage_after-push}
-use Rattle.list_facts.proofs.Places.{tally, count-set, nil_from_first}
-use Rattle.list_facts.proofs.Never.{false_true}
-use Rattle.dispatch_log.proofs.RowLemmas.{with_change_own, with_change_other}
+use Rattle.log_entries.specs.declared.entry.Entry.TheVariants.{Tick, Left}
+use Rattle.base_verdict.specs.declared.cause.Cause.TheVariants.{Timeout}
+use Rattle.log_entries.specs.declared.row.Phase.{Phase}
+use Rattle.log_entries.specs.declared.row.Phase.TheVariants.{Told}
+use Rattle.log_entries.specs.declared.row.Row.{Row}
+use Rattle.log_entries.specs.declared.setup.Setup.{Setup}
+use Rattle.log_entries.specs.Histories.{History, SomeExpires, state_of, effective, end_of}
+use Rattle.log_entries.specs.Legal.{IsLegal, AddsEvent}
+use Rattle.log_entries.specs.Judgement.{Stage, telling, granting, HasExpired, IsExpired, IsFirstExpired, IsInPhase, EventIsOver, MayGrant, MayCome, next_stage}
+use Rattle.log_entries.specs.Refusals.{is_waiting}
+use Rattle.log_entries.specs.Rows.{Rows, StandsAt, with_change, changed, in_phase}
+use Rattle.log_entries.specs.Grants.{IsSettled}
+use Rattle.log_entries.specs.States.{State, scene}
+use Rattle.log_entries.specs.Scenes.{Scene}
+use Rattle.log_entries.proofs.Judged.{after_all-push, stage_after-push}
+use Rattle.base_lists.proofs.Places.{tally, count-set, nil_from_first}
+use Rattle.base_lists.proofs.Never.{false_true}
+use Rattle.log_entries.proofs.RowLemmas.{with_change_own, with_change_other}
 use Rattle.pend_queue.specs.Pairs.{IsAscending}
 use Rattle.pend_queue.proofs.Ascending.{least_first, absent_from_rest, absent_at_member}
-use Rattle.list_facts.proofs.Members.{Contains-nil, Contains-head, Contains-tail, Contains-cases}
+use Rattle.base_lists.proofs.Members.{Contains-nil, Contains-head, Contains-tail, Contains-cases}
 use Rattle.dispatch_core.specs.Steps.{GoesOn, CarriesOn}
-use Rattle.dispatch_trace.specs.Histories.{with_entry, stage_of, scene_of, waits, waiting_of, IsJudged, MayComeNext, HasEntryRoom, IsAt}
-use Rattle.dispatch_trace.specs.Timeouts.{AreExpired}
+use Rattle.dispatch_state.specs.Histories.{with_entry, stage_of, scene_of, row_waits, waiting_of, IsJudged, MayComeNext, HasEntryRoom, IsTicketAt}
+use Rattle.dispatch_state.specs.Timeouts.{AreExpired}
 use Rattle.dispatch_core.proofs.Going.{goes_none, goes_more, room_left, begun_room}
-use Rattle.dispatch_trace.proofs.Placing.{longer, same_setup, same_base}
-use Rattle.dispatch_log.proofs.Runs.{adds_piece}
+use Rattle.dispatch_state.proofs.Placing.{longer, same_setup, same_base}
+use Rattle.log_entries.proofs.Runs.{adds_piece}
 use Rattle.dispatch_core.proofs.Calls.{legal_places}
-use Rattle.dispatch_trace.proofs.Expiring.{expired_since}
+use Rattle.dispatch_state.proofs.Expiring.{expired_since}
 
 told_not_expired : (setup : Setup) (now : ℕ) (r : Row) (phase : Phase) → HasExpired setup now r.phase → r.phase ≡ phase → is_waiting phase ≡ false
     → ⊥
@@ -72,11 +72,11 @@ module _ (setup : Setup) (rows : Rows) (now t : ℕ) (phase : Phase) (idle : is_
       ∙ ap Some (with_change_other t (in_phase phase) r other)
 
 -- a request that waits is counted
-some_waits : (rows : Rows) (t : ℕ) → IsInPhase is_waiting rows t → 0 < count_by waits rows
+some_waits : (rows : Rows) (t : ℕ) → IsInPhase is_waiting rows t → 0 < count_by row_waits rows
 some_waits rows t it =
-    let count : count_by waits (set rows it.live.0 None) + tally (waits (Some it.row)) ≡ count_by waits rows + tally (waits None) =
-    count-set waits rows it.live.0 (Some it.row) None it.live.1 in
-    let one : tally (waits (Some it.row)) ≡ 1 = ap tally it.phase in
+    let count : count_by row_waits (set rows it.live.0 None) + tally (row_waits (Some it.row)) ≡ count_by row_waits rows + tally (row_waits None) =
+    count-set row_waits rows it.live.0 (Some it.row) None it.live.1 in
+    let one : tally (row_waits (Some it.row)) ≡ 1 = ap tally it.phase in
     omega arith
 
 -- timeouts so far, and the tickets of those that are left
@@ -119,7 +119,7 @@ module _ (old now : History) (tickets : List (ℕ × ℕ)) (t u : ℕ) (since : 
   its_row : (row : Row) × StandsAt (state_of now).rows u row × HasExpired now.setup (state_of now).moment row.phase × (row.key.ticket ≡ t)
   its_row = (since.expired t u).0 (subst (λ (l : List (ℕ × ℕ)). Contains l (t, u)) (sym tickets_are) (Contains-head (t, u) (drop 1 tickets)))
 
-  pub its_place : IsAt (state_of now).rows (record { place = u; ticket = t })
+  pub its_place : IsTicketAt (state_of now).rows (record { place = u; ticket = t })
   its_place = (its_row.0, its_row.1, its_row.3)
 
   -- the first of them is told next
@@ -221,7 +221,7 @@ module _ (old now : History) (tickets : List (ℕ × ℕ)) (t u : ℕ) (since : 
 pub times_out : (old now : History) (tickets : List (ℕ × ℕ)) → TellsSince old now tickets → None ≡ slice_get tickets 0 → CarriesOn old now
 times_out old now tickets since none = record {
   goes = since.goes;
-  over = subst (λ (x : Stage). IsOver now.setup (state_of now) x) (sym since.stage) over;
+  over = subst (λ (x : Stage). EventIsOver now.setup (state_of now) x) (sym since.stage) over;
   may_grant = subst (λ (x : Stage). MayGrant now.setup (state_of now) x) (sym since.stage) over;
   room = since.room;
 }
@@ -255,7 +255,7 @@ module _ (h one : History) (m : ℕ) (begun : one ≡ with_entry h (Tick m)) whe
     lawful = adds_piece h one (Tick m) [] refl (same_setup h one (Tick m) begun) (same_base h one (Tick m) begun) (ap (λ (x : History). x.log) begun) (record {
       judged = judged.judged;
       whole =
-          subst (λ (x : Stage). IsOver one.setup (state_of one) x) (sym tick_tells)
+          subst (λ (x : Stage). EventIsOver one.setup (state_of one) x) (sym tick_tells)
           (λ row expired. none (row, expired.0, subst (λ n. HasExpired one.setup n row.phase) (sym same_moment) expired.1));
       settled = subst (λ (x : Scene). IsSettled x) (sym same_scene) legal.lawful.settled;
     });

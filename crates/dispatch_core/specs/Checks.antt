@@ -1,12 +1,12 @@
 -- The healths of servers, by the results of their checks.
 use Rattle.std.specs.Prelude.{◌≡◌, ℕ, ◌≤◌, Bool, List, [], Option, None, Some, MatchOption, length, slice_get, slice_index_or}
 use Rattle.check_state.specs.Standing.{Standing, IsHealthOf}
-use Rattle.dispatch_log.specs.declared.setup.ServerSet.{ServerSet}
-use Rattle.dispatch_log.specs.declared.setup.Setup.{Setup}
-use Rattle.dispatch_log.specs.Health.{results_of}
-use Rattle.dispatch_log.specs.Histories.{History, state_of}
-use Rattle.dispatch_log.specs.Legal.{IsLegal}
-use Rattle.dispatch_log.specs.States.{State}
+use Rattle.log_entries.specs.declared.setup.ServerSet.{ServerSet}
+use Rattle.log_entries.specs.declared.setup.Setup.{Setup}
+use Rattle.log_entries.specs.Health.{results_of}
+use Rattle.log_entries.specs.Histories.{History, state_of}
+use Rattle.log_entries.specs.Legal.{IsLegal}
+use Rattle.log_entries.specs.States.{State}
 use Rattle.pend_queue.specs.Held.{Held}
 
 -- the health of a server that is checked with rise and fall is that of its results; a server that

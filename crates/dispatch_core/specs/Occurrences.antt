@@ -1,9 +1,9 @@
 -- Events but arrivals: what refuses one, and which entry of the log it becomes.
 use Rattle.std.specs.Prelude.{Option}
-use Rattle.dispatch_log.specs.declared.entry.Entry.{Entry}
-use Rattle.dispatch_log.specs.declared.entry.Entry.TheVariants as entries
-use Rattle.dispatch_log.specs.declared.refusal.Refusal.{Refusal}
-use Rattle.dispatch_log.specs.Histories.{History, effective, refuses_done, refuses_failure, refuses_abort, refuses_tick, refuses_check, refuses_limit}
+use Rattle.log_entries.specs.declared.entry.Entry.{Entry}
+use Rattle.log_entries.specs.declared.entry.Entry.TheVariants as entries
+use Rattle.log_entries.specs.declared.refusal.Refusal.{Refusal}
+use Rattle.log_entries.specs.Histories.{History, effective, refuses_done, refuses_failure, refuses_abort, refuses_tick, refuses_check, refuses_limit}
 use Rattle.dispatch_core.specs.declared.event.Event.{Event}
 use Rattle.dispatch_core.specs.declared.event.Event.TheVariants.{Done, Fail, Abort, Tick, Check, Limit}
 

@@ -1,13 +1,13 @@
 -- What the parts of an event add to a history.
 use Rattle.std.specs.Prelude.{◌≡◌, ℕ, ◌+◌, ◌*◌, ◌≤◌, List, ◌++◌, Option, None, Some, length, All, false}
-use Rattle.dispatch_log.specs.declared.entry.Entry.{Entry}
-use Rattle.dispatch_log.specs.declared.setup.Setup.{Setup}
-use Rattle.dispatch_log.specs.Grants.{IsSettled}
-use Rattle.dispatch_log.specs.Histories.{History, state_of, begins_event}
-use Rattle.dispatch_log.specs.Judgement.{HasSlot, IsTold, granting, freed_by_failure, emptying}
-use Rattle.dispatch_log.specs.Rows.{Rows, pin_of}
-use Rattle.dispatch_trace.specs.declared.position.Ticketed.{Ticketed}
-use Rattle.dispatch_trace.specs.Histories.{with_entry, stage_of, scene_of, waiting_of, HasPlaces, IsAt, IsEmptied, IsJudged, IsOverNext, MayGrantNext}
+use Rattle.log_entries.specs.declared.entry.Entry.{Entry}
+use Rattle.log_entries.specs.declared.setup.Setup.{Setup}
+use Rattle.log_entries.specs.Grants.{IsSettled}
+use Rattle.log_entries.specs.Histories.{History, state_of, begins_event}
+use Rattle.log_entries.specs.Judgement.{HasSlot, IsTold, granting, freed_by_failure, emptying}
+use Rattle.log_entries.specs.Rows.{Rows, pin_of}
+use Rattle.dispatch_state.specs.declared.position.Ticketed.{Ticketed}
+use Rattle.dispatch_state.specs.Histories.{with_entry, stage_of, scene_of, waiting_of, HasPlaces, IsTicketAt, IsEmptied, IsJudged, IsOverNext, MayGrantNext}
 
 -- the room for all entries that may follow the first one of an event: each place's request is moved
 -- or granted once and granted once more, and three entries are for the request or server of the
@@ -40,7 +40,7 @@ pub record Settles (old new : History) : Type 0 where
   pub may_grant : MayGrantNext new
   pub few : length goes.entries ≤ waiting_of old
   pub pins : (ticket : ℕ) → pin_of ticket (state_of new).rows ≡ pin_of ticket (state_of old).rows
-  pub places : (it : Ticketed) → IsAt (state_of old).rows it → IsAt (state_of new).rows it
+  pub places : (it : Ticketed) → IsTicketAt (state_of old).rows it → IsTicketAt (state_of new).rows it
   pub judged : IsJudged new
   pub settled : IsSettled (scene_of new)
 

@@ -1,25 +1,25 @@
 ghost use Rattle.std.specs.Prelude.{◌≡◌, ◌≤◌, ◌↔◌, [], length, IfOk, IfErr, OnOk, OnErr, IsTrue, MatchOption, Some, None, option_map, pos, ◌+ℤ◌};
-ghost use Rattle.dispatch_log.specs.declared.entry.Entry.TheVariants.{Arrive, Done, Fail, Abort, Tick, Check, Limit};
-ghost use Rattle.dispatch_log.specs.Dispatch.{IsDispatched};
-ghost use Rattle.dispatch_log.specs.Histories.{History, first_window, next_window, state_of, effective, refuses_arrival, refuses_done, refuses_failure, refuses_abort, refuses_tick, refuses_check, refuses_limit, SomeExpires, RefusedOrNoMemory};
-ghost use Rattle.dispatch_log.specs.Legal.{IsLegal, AddsEvent};
-ghost use Rattle.dispatch_log.specs.Scenes.{is_up};
-ghost use Rattle.dispatch_log.specs.Rows.{row_of, served, queued};
-ghost use Rattle.dispatch_log.specs.Setups.{IsSound};
-ghost use Rattle.dispatch_trace.specs.Histories.{scene_of, IsAt, HasEntryRoom};
+ghost use Rattle.log_entries.specs.declared.entry.Entry.TheVariants.{Arrive, Done, Fail, Abort, Tick, Check, Limit};
+ghost use Rattle.log_entries.specs.Dispatch.{IsDispatched};
+ghost use Rattle.log_entries.specs.Histories.{History, first_window, next_window, state_of, effective, refuses_arrival, refuses_done, refuses_failure, refuses_abort, refuses_tick, refuses_check, refuses_limit, SomeExpires, RefusedOrNoMemory};
+ghost use Rattle.log_entries.specs.Legal.{IsLegal, AddsEvent};
+ghost use Rattle.log_entries.specs.Scenes.{is_up};
+ghost use Rattle.log_entries.specs.Rows.{row_of, served, queued};
+ghost use Rattle.log_entries.specs.Setups.{IsSound};
+ghost use Rattle.dispatch_state.specs.Histories.{scene_of, IsTicketAt, HasEntryRoom};
 ghost use Rattle.dispatch_core.specs.Occurrences.{refuses, entry_of};
 
 use crate::event::Event;
 use crate::events::Events;
 use crate::healths::Healths;
-use dispatch_log::{Intake, Phase, Queue, Refusal, Setup};
-use dispatch_trace::{Ticketed, Trace};
+use base_verdict::Cause;
+use dispatch_state::{DispatchState, Ticketed};
 use due_key::{Class, Key, Moment, Offset};
+use log_entries::{Intake, Phase, Queue, Refusal, Setup};
+use log_reading::{Base, Log};
 use pend_queue::{ListQueue, PendQueue};
-use readable_log::{Base, Log};
 use std::alloc::{AllocError, Global};
 use std::marker::Model;
-use verdict::Cause;
 
 /// A dispatcher. Each accepted call adds one event to its log, which is legal after every call; a
 /// refused call changes nothing.
@@ -34,7 +34,7 @@ pub struct Core<Q: PendQueue<Key, usize>> {
 }
 
 impl<Q: PendQueue<Key, usize>> Model for Core<Q> {
-    ghost use Rattle.dispatch_log.specs.Histories.{History};
+    ghost use Rattle.log_entries.specs.Histories.{History};
     ghost use Rattle.dispatch_core.specs.Checks.{IsCore};
 
     ghost Value = { History };
@@ -56,7 +56,7 @@ impl<Q: PendQueue<Key, usize>> Core<Q> {
         let spare = Base::opening(alloc, &setup)?;
         Ok(Core {
             events: Events {
-                trace: Trace::new(alloc, setup)?,
+                trace: DispatchState::new(alloc, setup)?,
             },
             healths,
             expiring,
@@ -315,7 +315,7 @@ impl<Q: PendQueue<Key, usize>> Core<Q> {
     /// Returns the place of the request with this ticket, which it has until its end; `None` where
     /// no live request has it. `O(log n)`.
     pub fn place(&self, ticket: u64) -> Option<usize>
-        ensures { MatchOption result (row_of ticket (state_of self.now).rows ≡ None) (λ place. IsAt (state_of self.now).rows (record { place = place; ticket = ticket })) }
+        ensures { MatchOption result (row_of ticket (state_of self.now).rows ≡ None) (λ place. IsTicketAt (state_of self.now).rows (record { place = place; ticket = ticket })) }
     {
         match self.events.trace.find(ticket) {
             None => None,

@@ -1,5 +1,5 @@
-use dispatch_log::Intake;
 use due_key::Moment;
+use log_entries::Intake;
 
 /// An event of a dispatcher, and the moment that it is handed in with: each but an arrival, which is a call of its own, since it
 /// takes memory and answers a ticket. Tickets name requests; servers are numbered from 0 in file order.

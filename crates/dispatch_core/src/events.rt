@@ -1,31 +1,31 @@
 ghost use Rattle.std.specs.Prelude.{◌≡◌, ◌+◌, ◌<◌, ◌≤◌, [], length, IsTrue, None, true, false};
 ghost use Rattle.check_state.specs.Standing.{change_between};
-ghost use Rattle.dispatch_log.specs.Histories.{state_of};
-ghost use Rattle.dispatch_log.specs.Judgement.{returning, failing, checking, emptying, telling, limit_stage, was_up, HasSlot};
-ghost use Rattle.dispatch_log.specs.Scenes.{is_up};
-ghost use Rattle.dispatch_log.specs.Retries.{are_spent, are_redispatched};
-ghost use Rattle.dispatch_log.specs.Rows.{pin_of, failures_of};
+ghost use Rattle.log_entries.specs.Histories.{state_of};
+ghost use Rattle.log_entries.specs.Judgement.{returning, failing, checking, emptying, telling, limit_stage, was_up, HasSlot};
+ghost use Rattle.log_entries.specs.Scenes.{is_up};
+ghost use Rattle.log_entries.specs.Retries.{are_spent, are_redispatched};
+ghost use Rattle.log_entries.specs.Rows.{pin_of, failures_of};
 ghost use Rattle.dispatch_core.specs.Steps.{IsReturn, Places, Leaves, Settles, CarriesOn, MovesAll, HasEventRoom, HasMoveRoom};
-ghost use Rattle.dispatch_trace.specs.Histories.{stage_of, scene_of, waiting_of, IsAt, MayPut, MayGrantNext};
+ghost use Rattle.dispatch_state.specs.Histories.{stage_of, scene_of, waiting_of, IsTicketAt, MayPut, MayGrantNext};
 
+use base_verdict::Cause;
 use check_state::Change;
-use dispatch_log::{Intake, Queue};
-use dispatch_trace::{Fate, Ticketed, Trace};
+use dispatch_state::{DispatchState, Fate, Ticketed};
 use due_key::Key;
+use log_entries::{Intake, Queue};
 use pend_queue::{ListQueue, PendQueue};
 use server_pick::Placement;
-use verdict::Cause;
 
 /// A trace that goes on by the parts of events, each of which is several entries.
 #[derive(Drop)]
 pub(crate) struct Events<Q: PendQueue<Key, usize>> {
-    pub(crate) trace: Trace<Q>,
+    pub(crate) trace: DispatchState<Q>,
 }
 
 impl<Q: PendQueue<Key, usize>> Events<Q> {
     /// Puts a request without a phase on a server or into a queue, or tells it that no server could take it.
     pub(crate) fn place(&mut self, it: Ticketed, pin: Option<usize>, avoid: Option<usize>)
-        requires at { IsAt (state_of self.old.trace).rows it }
+        requires at { IsTicketAt (state_of self.old.trace).rows it }
         requires may_put { MayPut self.old.trace pin avoid it.ticket }
         requires pin { pin_of it.ticket (state_of self.old.trace).rows ≡ pin }
         requires room { length self.old.trace.log < self.old.trace.setup.log }
@@ -42,7 +42,7 @@ impl<Q: PendQueue<Key, usize>> Events<Q> {
 
     /// Ends a request, and returns its slot where it has one.
     pub(crate) fn leave(&mut self, it: Ticketed, server: Option<usize>)
-        requires at { IsAt (state_of self.old.trace).rows it }
+        requires at { IsTicketAt (state_of self.old.trace).rows it }
         requires returning { stage_of self.old.trace ≡ returning it.ticket }
         requires row { IsReturn (state_of self.old.trace).rows it.ticket server }
         requires room { length self.old.trace.log + 2 ≤ self.old.trace.setup.log }
@@ -56,7 +56,7 @@ impl<Q: PendQueue<Key, usize>> Events<Q> {
 
     /// Returns a request's slot, and ends the request.
     fn give_back(&mut self, it: Ticketed, server: usize)
-        requires at { IsAt (state_of self.old.trace).rows it }
+        requires at { IsTicketAt (state_of self.old.trace).rows it }
         requires returning { stage_of self.old.trace ≡ returning it.ticket }
         requires slot { HasSlot (state_of self.old.trace).rows it.ticket server }
         requires room { length self.old.trace.log + 2 ≤ self.old.trace.setup.log }
@@ -68,7 +68,7 @@ impl<Q: PendQueue<Key, usize>> Events<Q> {
 
     /// Tries a request again whose connection failed, or tells it that its retries are spent.
     pub(crate) fn carry_on(&mut self, it: Ticketed, server: usize, failures: u32)
-        requires at { IsAt (state_of self.old.trace).rows it }
+        requires at { IsTicketAt (state_of self.old.trace).rows it }
         requires failing { stage_of self.old.trace ≡ failing it.ticket }
         requires slot { HasSlot (state_of self.old.trace).rows it.ticket server }
         requires failures { failures_of it.ticket (state_of self.old.trace).rows ≡ failures }
@@ -85,7 +85,7 @@ impl<Q: PendQueue<Key, usize>> Events<Q> {
 
     /// Returns a request's slot, and tells it that its retries are spent.
     fn give_up(&mut self, it: Ticketed, server: usize)
-        requires at { IsAt (state_of self.old.trace).rows it }
+        requires at { IsTicketAt (state_of self.old.trace).rows it }
         requires failing { stage_of self.old.trace ≡ failing it.ticket }
         requires slot { HasSlot (state_of self.old.trace).rows it.ticket server }
         requires spent { IsTrue (are_spent self.old.trace.setup (failures_of it.ticket (state_of self.old.trace).rows)) }
@@ -99,7 +99,7 @@ impl<Q: PendQueue<Key, usize>> Events<Q> {
     /// Returns a request's slot, which others may take first, and places the request again, at
     /// another server where that can be.
     fn redispatch(&mut self, it: Ticketed, server: usize)
-        requires at { IsAt (state_of self.old.trace).rows it }
+        requires at { IsTicketAt (state_of self.old.trace).rows it }
         requires failing { stage_of self.old.trace ≡ failing it.ticket }
         requires slot { HasSlot (state_of self.old.trace).rows it.ticket server }
         requires redispatched { IsTrue (are_redispatched self.old.trace.setup (failures_of it.ticket (state_of self.old.trace).rows)) }

@@ -1,13 +1,13 @@
 ghost use Rattle.std.specs.Prelude.{◌≡◌, ◌<◌, List, Bool, IsTrue, IfOk, All, Some, [], length, replicate, slice_get};
 ghost use Rattle.check_state.specs.Standing.{Standing, change_between};
-ghost use Rattle.dispatch_log.specs.declared.setup.ServerSet.{ServerSet};
-ghost use Rattle.dispatch_log.specs.Health.{with_result};
-ghost use Rattle.dispatch_log.specs.Setups.{is_within};
+ghost use Rattle.log_entries.specs.declared.setup.ServerSet.{ServerSet};
+ghost use Rattle.log_entries.specs.Health.{with_result};
+ghost use Rattle.log_entries.specs.Setups.{is_within};
 ghost use Rattle.dispatch_core.specs.Checks.{AreHealths, IsHealthBy};
-ghost use Rattle.dispatch_trace.specs.Traces.{is_up_at};
+ghost use Rattle.dispatch_state.specs.Traces.{is_up_at};
 
 use check_state::{Change, Health};
-use dispatch_log::ServerSet;
+use log_entries::ServerSet;
 use std::alloc::{AllocError, Global};
 use std::marker::Model;
 

@@ -10,6 +10,6 @@ mod healths;
 
 pub use crate::dispatcher::Core;
 pub use crate::event::Event;
-pub use dispatch_log::{Phase, Queue, Refusal, ServerSet, Servers, Setup};
-pub use dispatch_trace::Ticketed;
-pub use readable_log::Log;
+pub use dispatch_state::Ticketed;
+pub use log_entries::{Phase, Queue, Refusal, ServerSet, Servers, Setup};
+pub use log_reading::Log;

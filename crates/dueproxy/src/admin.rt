@@ -1,8 +1,8 @@
 //! The admin listener that the options ask for.
 
-use admin_http::Admin;
-use command_words::{AdminFault, AdminWords, admin_address};
-use file_reasons::address_remedy;
+use config_command::{AdminFault, AdminWords, admin_address};
+use config_files::address_remedy;
+use run_admin::Admin;
 use std::io::Error;
 use std::net::{Net, SocketAddr, TcpListener, TcpStream};
 

@@ -1,7 +1,7 @@
 //! The controls that the options ask for.
 
-use command_words::ControlWords;
-use control_socket::{Controls, bound_at};
+use config_command::ControlWords;
+use run_control::{Controls, bound_at};
 use std::fs;
 use std::net::Net;
 use std::rt::Files;

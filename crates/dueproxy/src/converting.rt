@@ -1,9 +1,9 @@
 //! `dueproxy convert`.
 
 use crate::reasons::say_unopened;
-use command_words::Sections;
-use config_check::read_file;
+use config_command::Sections;
 use config_convert::{Conversion, convert, push_note, status_of};
+use config_files::read_file;
 use std::alloc::{AllocError, Global};
 use std::io::Write;
 

@@ -1,6 +1,6 @@
 //! The input that a script or a trace is read from.
 
-use command_words::Input;
+use config_command::Input;
 use std::fs::File;
 use std::io::{IsTerminal, Read, Stdin};
 use std::{fs, io};

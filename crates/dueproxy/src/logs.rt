@@ -1,10 +1,10 @@
 //! The logs that the options ask for.
 
 use crate::reasons::say_unopened;
-use command_words::LogWords;
-use line_sink::{Sink, Way};
-use request_lines::Format;
-use request_log::{Access, Logs};
+use config_command::LogWords;
+use log_lines::Format;
+use log_requests::{Access, Logs};
+use log_sink::{Sink, Way};
 use std::alloc::AllocError;
 use std::sync::{Arc, Wait};
 use std::thread;

@@ -16,12 +16,12 @@ mod serve;
 mod show;
 mod viewing;
 
-use command_words::{Asked, ask};
-use config_check::{Beside, check, check_in_full};
-use control_socket::ask as tell_proxy;
+use config_command::{Subcommand, parse};
+use config_files::{Beside, check, check_in_full};
 use converting::convert_file;
 use demo::Looks;
 use replaying::replay_input;
+use run_control::ask as tell_proxy;
 use serve::serve_file;
 use show::show;
 use std::env;
@@ -42,17 +42,17 @@ fn main(rt: HostRuntime) -> ExitCode {
         let _ = rt.eprintln("no memory");
         return ExitCode::from(NO_MEMORY);
     };
-    let status = match ask(&rt, &words) {
-        Asked::Run(file, numbers, words) => serve_file(rt, &rt, &file, numbers, words),
-        Asked::Demo(keep) => show(&rt, looks_of(&rt), keep),
-        Asked::Replay(input) => replay_input(&rt, &input),
-        Asked::Check(file) => check(&rt, &file, beside_of(&rt)),
-        Asked::Explain(file) => check_in_full(&rt, &file),
-        Asked::Draw(input, only) => draw_input(&rt, &input, &only),
-        Asked::Tell(input, ticket) => tell_input(&rt, &input, ticket),
-        Asked::Convert(sections) => convert_file(&rt, &sections),
-        Asked::Control(order) => tell_proxy(&rt, &order.path, &order.words),
-        Asked::Nothing(status) => status,
+    let status = match parse(&rt, &words) {
+        Subcommand::Run(file, numbers, words) => serve_file(rt, &rt, &file, numbers, words),
+        Subcommand::Demo(keep) => show(&rt, looks_of(&rt), keep),
+        Subcommand::Replay(input) => replay_input(&rt, &input),
+        Subcommand::Check(file) => check(&rt, &file, beside_of(&rt)),
+        Subcommand::Explain(file) => check_in_full(&rt, &file),
+        Subcommand::Draw(input, only) => draw_input(&rt, &input, &only),
+        Subcommand::Tell(input, ticket) => tell_input(&rt, &input, ticket),
+        Subcommand::Convert(sections) => convert_file(&rt, &sections),
+        Subcommand::Control(order) => tell_proxy(&rt, &order.path, &order.words),
+        Subcommand::Nothing(status) => status,
     };
     ExitCode::from(status)
 }

@@ -1,10 +1,10 @@
 //! The advice below the line of a fault of a script or of a trace.
 
-use file_reasons::say_reason;
+use base_advice::{Kept, explain_script_line, explain_trace_line};
+use config_files::say_reason;
 use replay::Fault;
-use script_advice::{Kept, explain_script_line, explain_trace_line};
 use std::io::{Error, ErrorKind, Read};
-use trace_views::InputFault;
+use view_files::InputFault;
 
 /// The kind of a fault, for further advice.
 #[derive(Clone, Copy)]

@@ -5,9 +5,9 @@ ghost use Rattle.replay.specs.Statuses.{status_of};
 
 use crate::inputs::{name_of, open};
 use crate::reasons::{say_unopened, say_why, why_of};
-use command_words::Input;
+use base_advice::Kept;
+use config_command::Input;
 use replay::{Fault, replay, status_of};
-use script_advice::Kept;
 use std::io::{Read, Write};
 
 /// Replays a script to standard output, and returns the exit status.

@@ -4,11 +4,10 @@ use crate::admin::admin_of;
 use crate::controls::{controls_of, end_controls};
 use crate::logs::logs_of;
 use crate::reasons::say_unopened;
-use command_words::{AdminWords, Beside, ControlWords, LogWords, Numbers, RANGES};
-use config_check::{read_file, say_faults};
-use file_reasons::say_address_reason;
-use proxy_run::{RunFault, RunOptions, ServeFault, run, status_of};
-use run_sizes::Sizes;
+use config_command::{AdminWords, Beside, ControlWords, LogWords, Numbers, RANGES};
+use config_files::{read_file, say_address_reason, say_faults};
+use run_parts::RunLimits;
+use run_service::{RunFault, RunOptions, ServeFault, run, status_of};
 use std::io::Error;
 use std::net::{Net, TcpListener, TcpStream};
 use std::rt::Files;
@@ -57,8 +56,8 @@ pub(crate) fn serve_file<
     status_of(ended)
 }
 
-fn sizes_of(numbers: Numbers) -> Option<Sizes> {
-    Sizes::new(
+fn sizes_of(numbers: Numbers) -> Option<RunLimits> {
+    RunLimits::new(
         numbers.workers,
         numbers.loops,
         numbers.waiting,

@@ -2,10 +2,10 @@
 
 use crate::inputs::{name_of, open};
 use crate::reasons::{say_unopened, say_why, why_of_input};
-use command_words::{Input, Only};
-use script_advice::Kept;
+use base_advice::Kept;
+use config_command::{Input, Only};
 use std::io::{Read, Write};
-use trace_views::{DrawFault, InputFault, TellFault, draw, tell, waits_in};
+use view_files::{DrawFault, InputFault, StoryFault, draw, waits_in, write_story};
 
 /// The exit status for arguments that ask for something that isn't there.
 const USAGE: u8 = 2;
@@ -68,13 +68,13 @@ fn tell_stream<R: Read, W: Write>(
     ticket: u64,
 ) -> u8 {
     let mut kept = Kept::new(rt.alloc(), input);
-    let Err(fault) = tell(rt.alloc(), &mut kept, output, ticket) else {
+    let Err(fault) = write_story(rt.alloc(), &mut kept, output, ticket) else {
         return 0;
     };
     let _ = rt.eprintln(fault);
     match fault {
-        TellFault::Input(fault) => end(rt, name, &kept, fault),
-        TellFault::NoTicket => USAGE,
+        StoryFault::Input(fault) => end(rt, name, &kept, fault),
+        StoryFault::NoTicket => USAGE,
     }
 }
 

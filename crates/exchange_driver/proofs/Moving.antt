@@ -4,14 +4,14 @@ use Rattle.std.proofs.Math.Seq.{drop-nil}
 use Rattle.std.proofs.lemmas.List.{take-append-drop}
 use Rattle.std.specs.Io.KnownBytes.{Consumes, Appends}
 use Rattle.std.proofs.KnownBytes.{Consumes-nil, Appends-nil, Consumes-trans, Appends-trans}
-use Rattle.exchange_machine.specs.Histories.{History, client_came, client_got, server_came, server_got, signed}
+use Rattle.exchange_machine.specs.Histories.{ExchangeHistory, client_came, client_got, server_came, server_got, signed}
 use Rattle.exchange_machine.specs.declared.signs.Sign.{Sign}
-use Rattle.mixed_exchange.proofs.PassLemmas.{passes_stay}
-use Rattle.mixed_exchange.specs.Passes.{held_by, gone_with}
-use Rattle.mixed_exchange.specs.Steps.{IsAt, ended}
-use Rattle.mixed_exchange.specs.declared.exchange.Exchange.{Exchange}
-use Rattle.mixed_exchange.specs.declared.exchange.Outcome.{Outcome}
-use Rattle.mixed_exchange.specs.declared.exchange.Outcome.TheVariants.{Quiet}
+use Rattle.exchange_events.proofs.PassLemmas.{passes_stay}
+use Rattle.exchange_events.specs.Passes.{held_by, gone_with}
+use Rattle.exchange_events.specs.Steps.{IsAtItsStage, ended}
+use Rattle.exchange_events.specs.declared.exchange.Exchange.{Exchange}
+use Rattle.exchange_events.specs.declared.exchange.Outcome.{Outcome}
+use Rattle.exchange_events.specs.declared.exchange.Outcome.TheVariants.{Quiet}
 use Rattle.exchange_driver.specs.Drives.{AreSameTerms, Drives}
 use Rattle.exchange_driver.specs.Wires.{Wire, Carries}
 
@@ -132,11 +132,11 @@ carries_on a b c came1 came2 came3 sent1 sent2 sent3 first second one two =
       still = λ e none. two.still (one.same ∙ e) (one.still e none);
     }
 
-same_terms : (h : History) → AreSameTerms h h
+same_terms : (h : ExchangeHistory) → AreSameTerms h h
 same_terms h = record { grants = refl; posts = refl; tries = refl; adds = refl }
 
 -- nothing was done
-pub drives_none : (client server : Wire) (h : History) (x : Exchange) → IsAt x h → Drives client client server server false false h x Quiet
+pub drives_none : (client server : Wire) (h : ExchangeHistory) (x : Exchange) → IsAtItsStage x h → Drives client client server server false false h x Quiet
 drives_none client server h x is = record {
   now = h;
   client = carries_same client h.client_in h.to_client;
@@ -146,8 +146,8 @@ drives_none client server h x is = record {
 }
 
 -- two moves, one after the other
-pub drives_on : (c0 c1 c2 s0 s1 s2 : Wire) (a1 a2 b1 b2 : Bool) (h : History) (x y : Exchange) (outcome : Outcome) → Drives c0 c1 s0 s1 a1 b1 h x Quiet
-    → ((g : History) → IsAt x g → Drives c1 c2 s1 s2 a2 b2 g y outcome) → Drives c0 c2 s0 s2 (a1 || a2) (b1 || b2) h y outcome
+pub drives_on : (c0 c1 c2 s0 s1 s2 : Wire) (a1 a2 b1 b2 : Bool) (h : ExchangeHistory) (x y : Exchange) (outcome : Outcome) → Drives c0 c1 s0 s1 a1 b1 h x Quiet
+    → ((g : ExchangeHistory) → IsAtItsStage x g → Drives c1 c2 s1 s2 a2 b2 g y outcome) → Drives c0 c2 s0 s2 (a1 || a2) (b1 || b2) h y outcome
 drives_on c0 c1 c2 s0 s1 s2 a1 a2 b1 b2 h x y outcome one more =
     let two = more one.now one.at in
     record {
@@ -164,14 +164,14 @@ drives_on c0 c1 c2 s0 s1 s2 a1 a2 b1 b2 h x y outcome one more =
     }
 
 -- passes that came go on
-pub driven_passes : (c0 c1 s0 s1 : Wire) (a b : Bool) (h : History) (x y : Exchange) (outcome : Outcome) → IsAt x h → Drives c0 c1 s0 s1 a b h y outcome
+pub driven_passes : (c0 c1 s0 s1 : Wire) (a b : Bool) (h : ExchangeHistory) (x y : Exchange) (outcome : Outcome) → IsAtItsStage x h → Drives c0 c1 s0 s1 a b h y outcome
     → held_by x ≡ gone_with outcome ++ held_by y
 driven_passes c0 c1 s0 s1 a b h x y outcome is it = passes_stay x y h it.now outcome is it.same.grants it.same.posts it.at
 
 -- a move at the client's side
-at_client_side : (c0 c1 s : Wire) (h now : History) (y : Exchange) (outcome : Outcome) (moved : Bool)
+at_client_side : (c0 c1 s : Wire) (h now : ExchangeHistory) (y : Exchange) (outcome : Outcome) (moved : Bool)
     → Carries c0 c1 h.client_in now.client_in h.to_client now.to_client moved → now.server_in ≡ h.server_in → now.to_server ≡ h.to_server
-    → AreSameTerms h now → IsAt y (ended outcome now) → Drives c0 c1 s s moved false h y outcome
+    → AreSameTerms h now → IsAtItsStage y (ended outcome now) → Drives c0 c1 s s moved false h y outcome
 at_client_side c0 c1 s h now y outcome moved carries came sent same at = record {
   now = now;
   client = carries;
@@ -182,9 +182,9 @@ at_client_side c0 c1 s h now y outcome moved carries came sent same at = record 
 }
 
 -- a move at the server's
-at_server_side : (c s0 s1 : Wire) (h now : History) (y : Exchange) (outcome : Outcome) (moved : Bool)
+at_server_side : (c s0 s1 : Wire) (h now : ExchangeHistory) (y : Exchange) (outcome : Outcome) (moved : Bool)
     → Carries s0 s1 h.server_in now.server_in h.to_server now.to_server moved → now.client_in ≡ h.client_in → now.to_client ≡ h.to_client
-    → AreSameTerms h now → IsAt y (ended outcome now) → Drives c c s0 s1 false moved h y outcome
+    → AreSameTerms h now → IsAtItsStage y (ended outcome now) → Drives c c s0 s1 false moved h y outcome
 at_server_side c s0 s1 h now y outcome moved carries came sent same at = record {
   now = now;
   client = subst (λ l. Carries c c h.client_in l h.to_client now.to_client false) (sym came)
@@ -194,68 +194,68 @@ at_server_side c s0 s1 h now y outcome moved carries came sent same at = record 
   at = at;
 }
 
-pub client_kept : (c0 c1 s : Wire) (h : History) (x : Exchange) → Consumes c0.left c1.left [] → Appends c0.taken c1.taken [] → c1.waits ≡ c0.waits
-    → c1.there ≡ c0.there → IsAt x h → Drives c0 c1 s s false false h x Quiet
+pub client_kept : (c0 c1 s : Wire) (h : ExchangeHistory) (x : Exchange) → Consumes c0.left c1.left [] → Appends c0.taken c1.taken [] → c1.waits ≡ c0.waits
+    → c1.there ≡ c0.there → IsAtItsStage x h → Drives c0 c1 s s false false h x Quiet
 client_kept c0 c1 s h x left taken waits there is =
     at_client_side c0 c1 s h h x Quiet false (carries_none c0 c1 h.client_in h.to_client left taken waits there) refl refl (same_terms h) is
 
-pub client_signed : (c0 c1 s : Wire) (h : History) (sign : Sign) (y : Exchange) (outcome : Outcome) → Consumes c0.left c1.left [] → Appends c0.taken c1.taken []
-    → c1.waits ≡ c0.waits → c1.there ≡ c0.there → IsAt y (ended outcome (signed h sign)) → Drives c0 c1 s s false false h y outcome
+pub client_signed : (c0 c1 s : Wire) (h : ExchangeHistory) (sign : Sign) (y : Exchange) (outcome : Outcome) → Consumes c0.left c1.left [] → Appends c0.taken c1.taken []
+    → c1.waits ≡ c0.waits → c1.there ≡ c0.there → IsAtItsStage y (ended outcome (signed h sign)) → Drives c0 c1 s s false false h y outcome
 client_signed c0 c1 s h sign y outcome left taken waits there is =
     at_client_side c0 c1 s h (signed h sign) y outcome false (carries_none c0 c1 h.client_in h.to_client left taken waits there) refl refl
     (record { grants = refl; posts = refl; tries = refl; adds = refl }) is
 
-pub client_sent : (c0 c1 s : Wire) (h : History) (bytes : List ℕ) (count : ℕ) (y : Exchange) (outcome : Outcome) → c1.left ≡ c0.left
+pub client_sent : (c0 c1 s : Wire) (h : ExchangeHistory) (bytes : List ℕ) (count : ℕ) (y : Exchange) (outcome : Outcome) → c1.left ≡ c0.left
     → Appends c0.taken c1.taken (take count bytes) → c1.waits ≡ c0.waits → 0 < count → count ≤ length bytes
-    → c1.there ≡ c0.there → (c0.there ≡ false → count ≡ 0) → IsAt y (ended outcome (client_got h (take count bytes))) → Drives c0 c1 s s true false h y outcome
+    → c1.there ≡ c0.there → (c0.there ≡ false → count ≡ 0) → IsAtItsStage y (ended outcome (client_got h (take count bytes))) → Drives c0 c1 s s true false h y outcome
 client_sent c0 c1 s h bytes count y outcome left taken waits some within there never is =
     at_client_side c0 c1 s h (client_got h (take count bytes)) y outcome true
     (carries_sent c0 c1 h.client_in h.to_client bytes count left taken waits some within there never) refl refl
     (record { grants = refl; posts = refl; tries = refl; adds = refl }) is
 
-pub client_used : (c0 c1 s : Wire) (h : History) (used : ℕ) (y : Exchange) (outcome : Outcome) → c1.left ≡ c0.left → c1.taken ≡ c0.taken
-    → c1.waits ≡ drop used c0.waits → c1.there ≡ c0.there → IsAt y (ended outcome (client_came h (take used c0.waits))) → Drives c0 c1 s s false false h y outcome
+pub client_used : (c0 c1 s : Wire) (h : ExchangeHistory) (used : ℕ) (y : Exchange) (outcome : Outcome) → c1.left ≡ c0.left → c1.taken ≡ c0.taken
+    → c1.waits ≡ drop used c0.waits → c1.there ≡ c0.there → IsAtItsStage y (ended outcome (client_came h (take used c0.waits))) → Drives c0 c1 s s false false h y outcome
 client_used c0 c1 s h used y outcome left taken waits there is =
     at_client_side c0 c1 s h (client_came h (take used c0.waits)) y outcome false (carries_used c0 c1 h.client_in h.to_client used left taken waits there) refl refl
     (record { grants = refl; posts = refl; tries = refl; adds = refl }) is
 
-pub client_heard : (c0 c1 s : Wire) (h : History) (bytes : List ℕ) (used : ℕ) (y : Exchange) (outcome : Outcome) → Consumes c0.left c1.left bytes
+pub client_heard : (c0 c1 s : Wire) (h : ExchangeHistory) (bytes : List ℕ) (used : ℕ) (y : Exchange) (outcome : Outcome) → Consumes c0.left c1.left bytes
     → c1.taken ≡ c0.taken → c0.waits ≡ [] → c1.waits ≡ drop used bytes → 0 < length bytes
-    → c1.there ≡ c0.there → (c0.there ≡ false → length bytes ≡ 0) → IsAt y (ended outcome (client_came h (take used bytes)))
+    → c1.there ≡ c0.there → (c0.there ≡ false → length bytes ≡ 0) → IsAtItsStage y (ended outcome (client_came h (take used bytes)))
     → Drives c0 c1 s s true false h y outcome
 client_heard c0 c1 s h bytes used y outcome left taken none waits some there never is =
     at_client_side c0 c1 s h (client_came h (take used bytes)) y outcome true
     (carries_heard c0 c1 h.client_in h.to_client bytes used left taken none waits some there never) refl refl
     (record { grants = refl; posts = refl; tries = refl; adds = refl }) is
 
-pub server_kept : (c s0 s1 : Wire) (h : History) (x : Exchange) → Consumes s0.left s1.left [] → Appends s0.taken s1.taken [] → s1.waits ≡ s0.waits
-    → s1.there ≡ s0.there → IsAt x h → Drives c c s0 s1 false false h x Quiet
+pub server_kept : (c s0 s1 : Wire) (h : ExchangeHistory) (x : Exchange) → Consumes s0.left s1.left [] → Appends s0.taken s1.taken [] → s1.waits ≡ s0.waits
+    → s1.there ≡ s0.there → IsAtItsStage x h → Drives c c s0 s1 false false h x Quiet
 server_kept c s0 s1 h x left taken waits there is =
     at_server_side c s0 s1 h h x Quiet false (carries_none s0 s1 h.server_in h.to_server left taken waits there) refl refl (same_terms h) is
 
-pub server_signed : (c s0 s1 : Wire) (h : History) (sign : Sign) (y : Exchange) (outcome : Outcome) → Consumes s0.left s1.left [] → Appends s0.taken s1.taken []
-    → s1.waits ≡ s0.waits → s1.there ≡ s0.there → IsAt y (ended outcome (signed h sign)) → Drives c c s0 s1 false false h y outcome
+pub server_signed : (c s0 s1 : Wire) (h : ExchangeHistory) (sign : Sign) (y : Exchange) (outcome : Outcome) → Consumes s0.left s1.left [] → Appends s0.taken s1.taken []
+    → s1.waits ≡ s0.waits → s1.there ≡ s0.there → IsAtItsStage y (ended outcome (signed h sign)) → Drives c c s0 s1 false false h y outcome
 server_signed c s0 s1 h sign y outcome left taken waits there is =
     at_server_side c s0 s1 h (signed h sign) y outcome false (carries_none s0 s1 h.server_in h.to_server left taken waits there) refl refl
     (record { grants = refl; posts = refl; tries = refl; adds = refl }) is
 
-pub server_sent : (c s0 s1 : Wire) (h : History) (bytes : List ℕ) (count : ℕ) (y : Exchange) (outcome : Outcome) → s1.left ≡ s0.left
+pub server_sent : (c s0 s1 : Wire) (h : ExchangeHistory) (bytes : List ℕ) (count : ℕ) (y : Exchange) (outcome : Outcome) → s1.left ≡ s0.left
     → Appends s0.taken s1.taken (take count bytes) → s1.waits ≡ s0.waits → 0 < count → count ≤ length bytes
-    → s1.there ≡ s0.there → (s0.there ≡ false → count ≡ 0) → IsAt y (ended outcome (server_got h (take count bytes))) → Drives c c s0 s1 false true h y outcome
+    → s1.there ≡ s0.there → (s0.there ≡ false → count ≡ 0) → IsAtItsStage y (ended outcome (server_got h (take count bytes))) → Drives c c s0 s1 false true h y outcome
 server_sent c s0 s1 h bytes count y outcome left taken waits some within there never is =
     at_server_side c s0 s1 h (server_got h (take count bytes)) y outcome true
     (carries_sent s0 s1 h.server_in h.to_server bytes count left taken waits some within there never) refl refl
     (record { grants = refl; posts = refl; tries = refl; adds = refl }) is
 
-pub server_used : (c s0 s1 : Wire) (h : History) (used : ℕ) (y : Exchange) (outcome : Outcome) → s1.left ≡ s0.left → s1.taken ≡ s0.taken
-    → s1.waits ≡ drop used s0.waits → s1.there ≡ s0.there → IsAt y (ended outcome (server_came h (take used s0.waits))) → Drives c c s0 s1 false false h y outcome
+pub server_used : (c s0 s1 : Wire) (h : ExchangeHistory) (used : ℕ) (y : Exchange) (outcome : Outcome) → s1.left ≡ s0.left → s1.taken ≡ s0.taken
+    → s1.waits ≡ drop used s0.waits → s1.there ≡ s0.there → IsAtItsStage y (ended outcome (server_came h (take used s0.waits))) → Drives c c s0 s1 false false h y outcome
 server_used c s0 s1 h used y outcome left taken waits there is =
     at_server_side c s0 s1 h (server_came h (take used s0.waits)) y outcome false (carries_used s0 s1 h.server_in h.to_server used left taken waits there) refl refl
     (record { grants = refl; posts = refl; tries = refl; adds = refl }) is
 
-pub server_heard : (c s0 s1 : Wire) (h : History) (bytes : List ℕ) (used : ℕ) (y : Exchange) (outcome : Outcome) → Consumes s0.left s1.left bytes
+pub server_heard : (c s0 s1 : Wire) (h : ExchangeHistory) (bytes : List ℕ) (used : ℕ) (y : Exchange) (outcome : Outcome) → Consumes s0.left s1.left bytes
     → s1.taken ≡ s0.taken → s0.waits ≡ [] → s1.waits ≡ drop used bytes → 0 < length bytes
-    → s1.there ≡ s0.there → (s0.there ≡ false → length bytes ≡ 0) → IsAt y (ended outcome (server_came h (take used bytes)))
+    → s1.there ≡ s0.there → (s0.there ≡ false → length bytes ≡ 0) → IsAtItsStage y (ended outcome (server_came h (take used bytes)))
     → Drives c c s0 s1 false true h y outcome
 server_heard c s0 s1 h bytes used y outcome left taken none waits some there never is =
     at_server_side c s0 s1 h (server_came h (take used bytes)) y outcome true

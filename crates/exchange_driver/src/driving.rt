@@ -1,16 +1,16 @@
 ghost use Rattle.std.specs.Prelude.{◌≡◌, ◌<◌, ◌||◌, ◌++◌, length, false, is_some};
 ghost use Rattle.exchange_driver.specs.Drives.{Drives, IsSame, IsDownAtRest, IsUpAtRest, at_client, at_server};
-ghost use Rattle.exchange_machine.specs.Histories.{History};
-ghost use Rattle.mixed_exchange.specs.Passes.{held_by, gone_with};
-ghost use Rattle.mixed_exchange.specs.Steps.{IsAt, IsOwn, HasHistory};
+ghost use Rattle.exchange_machine.specs.Histories.{ExchangeHistory};
+ghost use Rattle.exchange_events.specs.Passes.{held_by, gone_with};
+ghost use Rattle.exchange_events.specs.Steps.{IsAtItsStage, IsOwn, HasHistory};
 
 use crate::line::Line;
 use crate::moved::Moved;
 use crate::moves::{
-    Did, Turned, hear_client, hear_server, say_client, say_server, use_client, use_server,
+    Did, Turned, read_client, read_server, use_client, use_server, write_client, write_server,
 };
 use crate::socket::Socket;
-use mixed_exchange::{Exchange, Outcome, Rules};
+use exchange_events::{Exchange, Outcome, Rules};
 use std::alloc::Global;
 
 /// The settings with which an exchange is driven.
@@ -59,7 +59,7 @@ pub fn drive<C: Socket, S: Socket>(
     buffer: &mut [u8],
 ) -> Driven
     requires { 0 < length buffer.old }
-    ensures at { (h : History) → IsAt exchange h
+    ensures at { (h : ExchangeHistory) → IsAtItsStage exchange h
         → Drives client.old client.new server.old server.new (is_some result.client) (is_some result.server) h result.exchange result.outcome }
     ensures history { HasHistory exchange → HasHistory result.exchange }
     ensures passes { HasHistory exchange → held_by exchange ≡ gone_with result.outcome ++ held_by result.exchange }
@@ -78,7 +78,7 @@ fn drive_on<C: Socket, S: Socket>(
     buffer: &mut [u8],
 ) -> Driven
     requires { 0 < length buffer.old }
-    ensures at { (h : History) → IsAt exchange h
+    ensures at { (h : ExchangeHistory) → IsAtItsStage exchange h
         → Drives client.old client.new server.old server.new (is_some result.client) (is_some result.server) h result.exchange result.outcome }
     ensures own { IsOwn result.outcome }
     ensures down { result.rest ≡ Rest.Waits → IsDownAtRest result.exchange client.new server.new }
@@ -186,7 +186,7 @@ fn move_down<C: Socket, S: Socket>(
     buffer: &mut [u8],
 ) -> Turned
     requires { 0 < length buffer.old }
-    ensures at { (h : History) → IsAt exchange h → Drives client.old client.new server.old server.new (at_client result.did) (at_server result.did) h result.exchange result.outcome }
+    ensures at { (h : ExchangeHistory) → IsAtItsStage exchange h → Drives client.old client.new server.old server.new (at_client result.did) (at_server result.did) h result.exchange result.outcome }
     ensures own { IsOwn result.outcome }
     ensures rests { result.did ≡ Did.Rests → IsSame exchange result.exchange client.old client.new server.old server.new }
     ensures quiet { result.did ≡ Did.Rests → IsDownAtRest exchange client.old server.old }
@@ -194,7 +194,7 @@ fn move_down<C: Socket, S: Socket>(
 {
     let wants = exchange.wants();
     if wants.writes_client && !client.is_full() {
-        return say_client(exchange, settings, client, server);
+        return write_client(exchange, settings, client, server);
     }
     if !wants.reads_server {
         return rests(exchange);
@@ -206,7 +206,7 @@ fn move_down<C: Socket, S: Socket>(
         return rests(exchange);
     }
     let most = exchange.answer_room().clamp(1, buffer.len());
-    hear_server(exchange, settings, client, server, &mut buffer[..most])
+    read_server(exchange, settings, client, server, &mut buffer[..most])
 }
 
 // Writes what waits for the server, or else reads more of the request.
@@ -218,7 +218,7 @@ fn move_up<C: Socket, S: Socket>(
     buffer: &mut [u8],
 ) -> Turned
     requires { 0 < length buffer.old }
-    ensures at { (h : History) → IsAt exchange h → Drives client.old client.new server.old server.new (at_client result.did) (at_server result.did) h result.exchange result.outcome }
+    ensures at { (h : ExchangeHistory) → IsAtItsStage exchange h → Drives client.old client.new server.old server.new (at_client result.did) (at_server result.did) h result.exchange result.outcome }
     ensures own { IsOwn result.outcome }
     ensures rests { result.did ≡ Did.Rests → IsSame exchange result.exchange client.old client.new server.old server.new }
     ensures quiet { result.did ≡ Did.Rests → IsUpAtRest exchange client.old server.old }
@@ -226,7 +226,7 @@ fn move_up<C: Socket, S: Socket>(
 {
     let wants = exchange.wants();
     if wants.writes_server && !server.is_full() {
-        return say_server(exchange, settings, client, server);
+        return write_server(exchange, settings, client, server);
     }
     if !wants.reads_client {
         return rests(exchange);
@@ -238,5 +238,5 @@ fn move_up<C: Socket, S: Socket>(
         return rests(exchange);
     }
     let most = exchange.request_room().clamp(1, buffer.len());
-    hear_client(exchange, settings, client, server, &mut buffer[..most])
+    read_client(exchange, settings, client, server, &mut buffer[..most])
 }

@@ -141,7 +141,7 @@ impl<S: Socket> Line<S> {
 
     /// Reads once into the buffer, all of which may have to wait. Where there is no memory for
     /// that, the read counts as failed.
-    pub(crate) fn hear(&mut self, buffer: &mut [u8]) -> Heard
+    pub(crate) fn read_now(&mut self, buffer: &mut [u8]) -> Heard
         requires { 0 < length buffer.old }
         ensures within { came result ≤ length buffer.new }
         ensures length { length buffer.new ≡ length buffer.old }
@@ -159,7 +159,7 @@ impl<S: Socket> Line<S> {
         }
         match &mut self.socket {
             None => Heard::Nothing,
-            Some(socket) => socket.hear(buffer),
+            Some(socket) => socket.read_now(buffer),
         }
     }
 
@@ -178,7 +178,7 @@ impl<S: Socket> Line<S> {
     }
 
     /// Writes once.
-    pub(crate) fn say(&mut self, bytes: &[u8]) -> Said
+    pub(crate) fn write_now(&mut self, bytes: &[u8]) -> Said
         requires { 0 < length bytes.now }
         ensures within { went result ≤ length bytes.now }
         ensures some { (count : ℕ) → result ≡ Said.Bytes count → 0 < count }
@@ -191,7 +191,7 @@ impl<S: Socket> Line<S> {
     {
         match &mut self.socket {
             None => Said::Full,
-            Some(socket) => socket.say(bytes),
+            Some(socket) => socket.write_now(bytes),
         }
     }
 }

@@ -2,13 +2,13 @@
 
 ghost use Rattle.std.specs.Prelude.{◌≡◌, ◌≢◌, ◌<◌, [], length};
 ghost use Rattle.exchange_driver.specs.Drives.{Drives, at_client, at_server};
-ghost use Rattle.exchange_machine.specs.Histories.{History};
-ghost use Rattle.mixed_exchange.specs.Steps.{IsAt, IsOwn, to_client, to_server};
+ghost use Rattle.exchange_machine.specs.Histories.{ExchangeHistory};
+ghost use Rattle.exchange_events.specs.Steps.{IsAtItsStage, IsOwn, to_client, to_server};
 
 use crate::driving::Settings;
 use crate::line::Line;
 use crate::socket::{Heard, Said, Socket};
-use mixed_exchange::{Event, Exchange, Outcome, Step};
+use exchange_events::{Event, Exchange, Outcome, Step};
 
 /// The effect of a move.
 #[derive(Clone, Copy, Debug, PartialEq, Eq)]
@@ -60,18 +60,18 @@ fn unmoved(exchange: Exchange) -> Turned
 }
 
 /// Writes to the client once.
-pub(crate) fn say_client<C: Socket, S: Socket>(
+pub(crate) fn write_client<C: Socket, S: Socket>(
     exchange: Exchange,
     settings: Settings,
     client: &mut Line<C>,
     server: &Line<S>,
 ) -> Turned
     requires { to_client exchange ≢ [] }
-    ensures at { (h : History) → IsAt exchange h → Drives client.old client.new server.now server.now (at_client result.did) (at_server result.did) h result.exchange result.outcome }
+    ensures at { (h : ExchangeHistory) → IsAtItsStage exchange h → Drives client.old client.new server.now server.now (at_client result.did) (at_server result.did) h result.exchange result.outcome }
     ensures own { IsOwn result.outcome }
     ensures moves { result.did ≢ Did.Rests }
 {
-    let said = client.say(exchange.to_client());
+    let said = client.write_now(exchange.to_client());
     match said {
         Said::Full => unmoved(exchange),
         Said::Failed => behind(
@@ -86,18 +86,18 @@ pub(crate) fn say_client<C: Socket, S: Socket>(
 }
 
 /// Writes to the server once.
-pub(crate) fn say_server<C: Socket, S: Socket>(
+pub(crate) fn write_server<C: Socket, S: Socket>(
     exchange: Exchange,
     settings: Settings,
     client: &Line<C>,
     server: &mut Line<S>,
 ) -> Turned
     requires { to_server exchange ≢ [] }
-    ensures at { (h : History) → IsAt exchange h → Drives client.now client.now server.old server.new (at_client result.did) (at_server result.did) h result.exchange result.outcome }
+    ensures at { (h : ExchangeHistory) → IsAtItsStage exchange h → Drives client.now client.now server.old server.new (at_client result.did) (at_server result.did) h result.exchange result.outcome }
     ensures own { IsOwn result.outcome }
     ensures moves { result.did ≢ Did.Rests }
 {
-    let said = server.say(exchange.to_server());
+    let said = server.write_now(exchange.to_server());
     match said {
         Said::Full => unmoved(exchange),
         Said::Failed => behind(
@@ -118,7 +118,7 @@ pub(crate) fn use_client<C: Socket, S: Socket>(
     client: &mut Line<C>,
     server: &Line<S>,
 ) -> Turned
-    ensures at { (h : History) → IsAt exchange h → Drives client.old client.new server.now server.now (at_client result.did) (at_server result.did) h result.exchange result.outcome }
+    ensures at { (h : ExchangeHistory) → IsAtItsStage exchange h → Drives client.old client.new server.now server.now (at_client result.did) (at_server result.did) h result.exchange result.outcome }
     ensures own { IsOwn result.outcome }
     ensures moves { result.did ≢ Did.Rests }
 {
@@ -138,7 +138,7 @@ pub(crate) fn use_server<C: Socket, S: Socket>(
     client: &Line<C>,
     server: &mut Line<S>,
 ) -> Turned
-    ensures at { (h : History) → IsAt exchange h → Drives client.now client.now server.old server.new (at_client result.did) (at_server result.did) h result.exchange result.outcome }
+    ensures at { (h : ExchangeHistory) → IsAtItsStage exchange h → Drives client.now client.now server.old server.new (at_client result.did) (at_server result.did) h result.exchange result.outcome }
     ensures own { IsOwn result.outcome }
     ensures moves { result.did ≢ Did.Rests }
 {
@@ -152,7 +152,7 @@ pub(crate) fn use_server<C: Socket, S: Socket>(
 }
 
 /// Reads from the client once.
-pub(crate) fn hear_client<C: Socket, S: Socket>(
+pub(crate) fn read_client<C: Socket, S: Socket>(
     exchange: Exchange,
     settings: Settings,
     client: &mut Line<C>,
@@ -161,12 +161,12 @@ pub(crate) fn hear_client<C: Socket, S: Socket>(
 ) -> Turned
     requires some { 0 < length buffer.old }
     requires first { client.old.waits ≡ [] }
-    ensures at { (h : History) → IsAt exchange h → Drives client.old client.new server.now server.now (at_client result.did) (at_server result.did) h result.exchange result.outcome }
+    ensures at { (h : ExchangeHistory) → IsAtItsStage exchange h → Drives client.old client.new server.now server.now (at_client result.did) (at_server result.did) h result.exchange result.outcome }
     ensures own { IsOwn result.outcome }
     ensures moves { result.did ≢ Did.Rests }
     ensures buffer { length buffer.new ≡ length buffer.old }
 {
-    match client.hear(buffer) {
+    match client.read_now(buffer) {
         Heard::Nothing => unmoved(exchange),
         Heard::Ended { well: true } => behind(
             exchange.step(settings.alloc, settings.rules, Event::ClientEnd),
@@ -186,7 +186,7 @@ pub(crate) fn hear_client<C: Socket, S: Socket>(
 }
 
 /// Reads from the server once.
-pub(crate) fn hear_server<C: Socket, S: Socket>(
+pub(crate) fn read_server<C: Socket, S: Socket>(
     exchange: Exchange,
     settings: Settings,
     client: &Line<C>,
@@ -195,12 +195,12 @@ pub(crate) fn hear_server<C: Socket, S: Socket>(
 ) -> Turned
     requires some { 0 < length buffer.old }
     requires first { server.old.waits ≡ [] }
-    ensures at { (h : History) → IsAt exchange h → Drives client.now client.now server.old server.new (at_client result.did) (at_server result.did) h result.exchange result.outcome }
+    ensures at { (h : ExchangeHistory) → IsAtItsStage exchange h → Drives client.now client.now server.old server.new (at_client result.did) (at_server result.did) h result.exchange result.outcome }
     ensures own { IsOwn result.outcome }
     ensures moves { result.did ≢ Did.Rests }
     ensures buffer { length buffer.new ≡ length buffer.old }
 {
-    match server.hear(buffer) {
+    match server.read_now(buffer) {
         Heard::Nothing => unmoved(exchange),
         Heard::Ended { well: true } => behind(
             exchange.step(settings.alloc, settings.rules, Event::ServerEnd),

@@ -38,7 +38,7 @@ pub trait Socket: Drop {
     /// Its last write answered that it is full, and nothing was reported since.
     ghost full: { Self → Bool };
 
-    fn hear(&mut self, buffer: &mut [u8]) -> Heard
+    fn read_now(&mut self, buffer: &mut [u8]) -> Heard
         requires { 0 < length buffer.old }
         ensures within { came result ≤ length buffer.new }
         ensures length { length buffer.new ≡ length buffer.old }
@@ -48,7 +48,7 @@ pub trait Socket: Drop {
         ensures taken { taken self.new ≡ taken self.old }
         ensures full { full self.new ≡ full self.old };
 
-    fn say(&mut self, bytes: &[u8]) -> Said
+    fn write_now(&mut self, bytes: &[u8]) -> Said
         requires { 0 < length bytes.now }
         ensures within { went result ≤ length bytes.now }
         ensures some { (count : ℕ) → result ≡ Said.Bytes count → 0 < count }

@@ -93,14 +93,14 @@ impl<R: Read + Drop, W: Write + Drop> Socket for Duplex<R, W> {
 
     ghost full = { λ side. side.is_full };
 
-    fn hear(&mut self, buffer: &mut [u8]) -> Heard {
-        let heard = hear(&mut self.reads, buffer);
+    fn read_now(&mut self, buffer: &mut [u8]) -> Heard {
+        let heard = read_ready(&mut self.reads, buffer);
         self.is_dry = heard.is_nothing();
         heard
     }
 
-    fn say(&mut self, bytes: &[u8]) -> Said {
-        let said = say(&mut self.writes, bytes);
+    fn write_now(&mut self, bytes: &[u8]) -> Said {
+        let said = write_ready(&mut self.writes, bytes);
         self.is_full = said.is_full();
         said
     }
@@ -130,15 +130,15 @@ impl Socket for Live {
 
     ghost full = { λ live. live.is_full };
 
-    fn hear(&mut self, buffer: &mut [u8]) -> Heard {
-        let heard = hear(&mut self.stream, buffer);
+    fn read_now(&mut self, buffer: &mut [u8]) -> Heard {
+        let heard = read_ready(&mut self.stream, buffer);
         self.is_dry = heard.is_nothing();
         self.note_heard(heard);
         heard
     }
 
-    fn say(&mut self, bytes: &[u8]) -> Said {
-        let said = say(&mut self.stream, bytes);
+    fn write_now(&mut self, bytes: &[u8]) -> Said {
+        let said = write_ready(&mut self.stream, bytes);
         self.is_full = said.is_full();
         self.note_said(said, bytes);
         said
@@ -183,7 +183,7 @@ impl Said {
 }
 
 // Reads once, and again where a signal interrupted it.
-fn hear<R: Read>(reads: &mut R, buffer: &mut [u8]) -> Heard
+fn read_ready<R: Read>(reads: &mut R, buffer: &mut [u8]) -> Heard
     ensures within { came result ≤ length buffer.new }
     ensures length { length buffer.new ≡ length buffer.old }
     ensures some { (count : ℕ) → result ≡ Heard.Bytes count → 0 < count }
@@ -204,7 +204,7 @@ fn hear<R: Read>(reads: &mut R, buffer: &mut [u8]) -> Heard
 }
 
 // Writes once, and again where a signal interrupted it.
-fn say<W: Write>(writes: &mut W, bytes: &[u8]) -> Said
+fn write_ready<W: Write>(writes: &mut W, bytes: &[u8]) -> Said
     ensures within { went result ≤ length bytes.now }
     ensures some { (count : ℕ) → result ≡ Said.Bytes count → 0 < count }
     ensures taken { Appends (W.contents writes.old) (W.contents writes.new) (take (went result) bytes.now) }

@@ -1,22 +1,22 @@
 -- Answers that were read whole.
 use Rattle.std.proofs.Common.{◌≡◌, ◌∙◌, ◌&&◌, ℕ, Bool, true, false, true≢false, cond, List, [], ◌∷◌, ◌++◌, refl, sym, ap, append_assoc, append-nil, subst}
 use Rattle.httparse.specs.Grammar.{print_response}
-use Rattle.relay_body.specs.Framings.{IsBody}
-use Rattle.relay_body.specs.declared.framing.Framing as Framed
+use Rattle.http_bodies.specs.Framings.{IsBody}
+use Rattle.http_bodies.specs.declared.framing.Framing as Framed
 use Rattle.http_texts.specs.Messages.{print_heads}
 use Rattle.http_texts.specs.Persistences.{is_delimited}
 use Rattle.http_texts.specs.Replies.{leave_text}
 use Rattle.http_texts.specs.Texts.{framed_for}
 use Rattle.req_view.specs.Request.{request_of}
-use Rattle.body_coder.specs.Parts.{next, told as given_for, is_over}
-use Rattle.body_coder.specs.Readings.{Feeds, Reading, behind, reading, read_parts, start_of}
-use Rattle.body_coder.specs.Stops.{is_done}
-use Rattle.body_coder.specs.declared.coding.Coding.{Coding}
-use Rattle.body_coder.specs.declared.coding.Coding.TheVariants.{Length, ToEnd, Chunked}
-use Rattle.body_coder.specs.declared.coding.Part.{Part}
-use Rattle.body_coder.specs.declared.coding.Part.TheVariants.{Digits}
+use Rattle.http_bodies.specs.Parts.{next, told as given_for, is_over}
+use Rattle.http_bodies.specs.Readings.{Feeds, Reading, behind, reading, read_parts, start_of}
+use Rattle.http_bodies.specs.Stops.{is_done}
+use Rattle.http_bodies.specs.declared.coding.Coding.{Coding}
+use Rattle.http_bodies.specs.declared.coding.Coding.TheVariants.{Length, ToEnd, Chunked}
+use Rattle.http_bodies.specs.declared.coding.Part.{Part}
+use Rattle.http_bodies.specs.declared.coding.Part.TheVariants.{Digits}
 use Rattle.exchange_machine.specs.Answerings.{TellsAnswer, is_read_at}
-use Rattle.exchange_machine.specs.Histories.{History}
+use Rattle.exchange_machine.specs.Histories.{ExchangeHistory}
 use Rattle.exchange_machine.specs.Reasons.{Shows}
 use Rattle.exchange_machine.specs.Settlings.{IsSettling}
 use Rattle.exchange_machine.specs.Sides.{AtBody}
@@ -68,7 +68,7 @@ both_first : (a b : Bool) → (a && b) ≡ true → a ≡ true
 both_first true b is = refl
 both_first false b is = is
 
-tells : (p : Passing) (h : History) → (is : IsPassing p h)
+tells : (p : Passing) (h : ExchangeHistory) → (is : IsPassing p h)
     → (a : AtBody p.says p.kept p.view.method (framed_for p.view.version) p.down.coding p.down_held.items h.server_in is.answer)
     → IsBody a.plan.body (framed_for p.view.version) a.taken a.passed → (a.plan.body ≡ Framed.Framing.ToEnd → Shows h.signs ServerEnded)
     → TellsAnswer h.signs h.client_in h.server_in (leave_text p.view ++ is.answer)
@@ -103,7 +103,7 @@ tells p h is a body ends =
     }
 
 -- what a client is told where the answer was read whole
-pub passing_tells : (p : Passing) (h : History) (phase : Down) (c : Coding) → (is : IsPassing p h) → p.phase ≡ phase → p.down.coding ≡ c
+pub passing_tells : (p : Passing) (h : ExchangeHistory) (phase : Down) (c : Coding) → (is : IsPassing p h) → p.phase ≡ phase → p.down.coding ≡ c
     → is_read_at phase c (p.well && is_none p.down_held.items) ≡ true
     → TellsAnswer h.signs h.client_in h.server_in (leave_text p.view ++ is.answer)
 passing_tells p h (Heads count) c is at coding whole = absurd (true≢false (sym whole))
@@ -126,7 +126,7 @@ passing_tells p h Body (Chunked fr part) is at coding whole =
     (λ e. absurd (true≢false (sym (end_stays a.plan.body framed p.down.coding a.taken a.passed a.feeds e) ∙ ap is_end coding)))
 
 -- whose messages were whole was told a whole answer
-pub settling_tells : (s : Settling) (h : History) → (is : IsSettling s h) → TellsAnswer h.signs h.client_in h.server_in (told is.whole)
+pub settling_tells : (s : Settling) (h : ExchangeHistory) → (is : IsSettling s h) → TellsAnswer h.signs h.client_in h.server_in (told is.whole)
 settling_tells s h is =
     let w = is.whole in
     let framed = framed_for (request_of w.head).version in

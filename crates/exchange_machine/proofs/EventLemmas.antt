@@ -2,8 +2,8 @@
 use Rattle.std.proofs.Common.{◌≡◌, ◌∙◌, ℕ, ◌≢◌, inl, inr, true, false, List, [], ◌∷◌, ◌++◌, take, drop, refl, sym, ap, append_assoc, subst}
 use Rattle.std.proofs.lemmas.List.{take-append-drop, map-append}
 use Rattle.std.specs.List.{AllByRecursion}
-use Rattle.list_facts.proofs.Fronts.{front_nil, front_as}
-use Rattle.list_facts.proofs.Members.{all_append}
+use Rattle.base_lists.proofs.Fronts.{front_nil, front_as}
+use Rattle.base_lists.proofs.Members.{all_append}
 use Rattle.http_texts.specs.Framings.{answer_plan}
 use Rattle.http_texts.specs.Replies.{refusal_text}
 use Rattle.http_texts.specs.declared.fault.Fault.{Fault}
@@ -12,20 +12,20 @@ use Rattle.http_texts.specs.declared.refusals.Code.{Code}
 use Rattle.http_texts.specs.declared.refusals.Code.TheVariants.{BadGateway, BadRequest, Unavailable}
 use Rattle.req_view.specs.AnswerHeads.{SaysAnswer, NeverHasAnswer}
 use Rattle.req_view.specs.Request.{Request}
-use Rattle.verdict.specs.declared.Ending.TheVariants.{Done}
+use Rattle.base_verdict.specs.declared.Ending.TheVariants.{Done}
 use Rattle.exchange_machine.specs.Answerings.{TellsAnswer}
 use Rattle.exchange_machine.specs.Headline.{AreTries, ClientText, IsFair, Sound, ToServer}
 use Rattle.exchange_machine.specs.Headline.ArePosted.{all_posted}
 use Rattle.exchange_machine.specs.Headline.AreTries.{none as untried, of_request as some_tries}
 use Rattle.exchange_machine.specs.Headline.ToServer.{nothing, of_request}
 use Rattle.exchange_machine.specs.Headline.ClientText.{silent, refused_unread, late, starved, unserved, refused, answered}
-use Rattle.exchange_machine.specs.Histories.{History, Post, nothing_yet, client_came, client_got, signed, passes_of, posted, reached_by}
+use Rattle.exchange_machine.specs.Histories.{ExchangeHistory, Post, nothing_yet, client_came, client_got, signed, passes_of, posted, reached_by}
 use Rattle.exchange_machine.specs.Reasons.{HasEnded, Shows, NoneFollows, LacksAnswer, Reason}
 use Rattle.exchange_machine.specs.Reasons.Reason.{of_sign, bad_answer, broken_answer, broken_request}
 use Rattle.exchange_machine.specs.Reasons.NoneFollows.{never, unplanned, ninth}
 use Rattle.exchange_machine.specs.Findings.{NoneStands}
 use Rattle.exchange_machine.specs.Settlings.{IsSettling}
-use Rattle.exchange_machine.specs.Stages.{IsFresh, IsUnread, IsAsking, IsWaiting, IsDialing, IsPassing, IsLeaving, IsTelling, IsOver}
+use Rattle.exchange_machine.specs.Stages.{HistoryIsFresh, IsUnread, IsAsking, IsWaiting, IsDialing, IsPassing, IsLeaving, IsTelling, IsOver}
 use Rattle.exchange_machine.specs.declared.sides.Down.TheVariants.{Heads}
 use Rattle.exchange_machine.specs.declared.signs.Sign.{Sign}
 use Rattle.exchange_machine.specs.declared.signs.Sign.TheVariants.{ClientOver, NoMemory, ServerEnded}
@@ -80,7 +80,7 @@ reason_more signs r behind answer code t (bad_answer lacks) = bad_answer lacks
 reason_more signs r behind answer code t (broken_answer breaks) = broken_answer breaks
 reason_more signs r behind answer code t (broken_request breaks) = broken_request breaks
 
-signed_client : (h : History) (s : Sign) (text : List ℕ) → ClientText h text → ClientText (signed h s) text
+signed_client : (h : ExchangeHistory) (s : Sign) (text : List ℕ) → ClientText h text → ClientText (signed h s) text
 signed_client h s text silent = silent
 signed_client h s text (refused_unread fault other why) = refused_unread fault other why
 signed_client h s text (late shows none grants) = late (shows_more h.signs ClientOver s shows) none grants
@@ -89,15 +89,15 @@ signed_client h s text (unserved r behind code asked why) = unserved r behind co
 signed_client h s text (refused r behind code asked why) = refused r behind code asked (reason_more h.signs r behind h.server_in code s why)
 signed_client h s text (answered says r behind t asked part) = answered says r behind t asked part
 
-signed_server : (h : History) (s : Sign) → ToServer h → ToServer (signed h s)
+signed_server : (h : ExchangeHistory) (s : Sign) → ToServer h → ToServer (signed h s)
 signed_server h s (nothing none) = nothing none
 signed_server h s (of_request r behind asked part) = of_request r behind asked part
 
-signed_tried : (h : History) (s : Sign) → AreTries h → AreTries (signed h s)
+signed_tried : (h : ExchangeHistory) (s : Sign) → AreTries h → AreTries (signed h s)
 signed_tried h s (untried is) = untried is
 signed_tried h s (some_tries r behind asked tries) = some_tries r behind asked tries
 
-fresh_signed : (h : History) (s : Sign) → IsFresh h → IsFresh (signed h s)
+fresh_signed : (h : ExchangeHistory) (s : Sign) → HistoryIsFresh h → HistoryIsFresh (signed h s)
 fresh_signed h s is = record {
   unsent = record { server = is.unsent.server; answer = is.unsent.answer };
   silent = is.silent;
@@ -106,10 +106,10 @@ fresh_signed h s is = record {
   untried = is.untried;
 }
 
-pub asking_signed : (a : Asking) (h : History) (s : Sign) → IsAsking a h → IsAsking a (signed h s)
+pub asking_signed : (a : Asking) (h : ExchangeHistory) (s : Sign) → IsAsking a h → IsAsking a (signed h s)
 asking_signed a h s is = record { fresh = fresh_signed h s is.fresh; held = is.held; none = is.none }
 
-pub waiting_signed : (w : Waiting) (h : History) (s : Sign) → IsWaiting w h → IsWaiting w (signed h s)
+pub waiting_signed : (w : Waiting) (h : ExchangeHistory) (s : Sign) → IsWaiting w h → IsWaiting w (signed h s)
 waiting_signed w h s is = record {
   unsent = record { server = is.unsent.server; answer = is.unsent.answer };
   asked = record { asked = is.asked.asked; framed = is.asked.framed };
@@ -119,7 +119,7 @@ waiting_signed w h s is = record {
   tries = is.tries;
 }
 
-pub dialing_signed : (d : Dialing) (h : History) (s : Sign) → IsDialing d h → IsDialing d (signed h s)
+pub dialing_signed : (d : Dialing) (h : ExchangeHistory) (s : Sign) → IsDialing d h → IsDialing d (signed h s)
 dialing_signed d h s is = record {
   unsent = record { server = is.unsent.server; answer = is.unsent.answer };
   asked = record { asked = is.asked.asked; framed = is.asked.framed };
@@ -130,7 +130,7 @@ dialing_signed d h s is = record {
   unreached = is.unreached;
 }
 
-pub passing_signed : (p : Passing) (h : History) (s : Sign) → IsPassing p h → IsPassing p (signed h s)
+pub passing_signed : (p : Passing) (h : ExchangeHistory) (s : Sign) → IsPassing p h → IsPassing p (signed h s)
 passing_signed p h s is = record {
   behind = is.behind;
   asked = is.asked;
@@ -153,7 +153,7 @@ passing_signed p h s is = record {
 }
 
 -- nor does what is left of an exchange whose messages were whole
-ends_signed : (h : History) (s : Sign) (w : Whole) (behind out unsent extra : List ℕ) → Ends h w behind out unsent extra
+ends_signed : (h : ExchangeHistory) (s : Sign) (w : Whole) (behind out unsent extra : List ℕ) → Ends h w behind out unsent extra
     → Ends (signed h s) w behind out unsent extra
 ends_signed h s w behind out unsent extra is = record {
   is = is.is;
@@ -164,7 +164,7 @@ ends_signed h s w behind out unsent extra is = record {
   answers = is.answers;
 }
 
-clean_signed : (h : History) (s : Sign) (out : List ℕ) → EndsClean h out → EndsClean (signed h s) out
+clean_signed : (h : ExchangeHistory) (s : Sign) (out : List ℕ) → EndsClean h out → EndsClean (signed h s) out
 clean_signed h s out is = record {
   whole = is.whole;
   behind = is.behind;
@@ -174,7 +174,7 @@ clean_signed h s out is = record {
   bare = is.bare;
 }
 
-pub settling_signed : (t : Settling) (h : History) (s : Sign) → IsSettling t h → IsSettling t (signed h s)
+pub settling_signed : (t : Settling) (h : ExchangeHistory) (s : Sign) → IsSettling t h → IsSettling t (signed h s)
 settling_signed t h s is = record {
   whole = is.whole;
   unsent = is.unsent;
@@ -189,7 +189,7 @@ settling_signed t h s is = record {
   tried = signed_tried h s is.tried;
 }
 
-pub leaving_signed : (l : Leaving) (h : History) (s : Sign) → IsLeaving l h → IsLeaving l (signed h s)
+pub leaving_signed : (l : Leaving) (h : ExchangeHistory) (s : Sign) → IsLeaving l h → IsLeaving l (signed h s)
 leaving_signed l h s is = record {
   server = signed_server h s is.server;
   text = is.text;
@@ -202,7 +202,7 @@ leaving_signed l h s is = record {
   tried = signed_tried h s is.tried;
 }
 
-pub telling_signed : (t : Telling) (h : History) (s : Sign) → IsTelling t h → IsTelling t (signed h s)
+pub telling_signed : (t : Telling) (h : ExchangeHistory) (s : Sign) → IsTelling t h → IsTelling t (signed h s)
 telling_signed t h s is = record {
   server = signed_server h s is.server;
   text = is.text;
@@ -213,7 +213,7 @@ telling_signed t h s is = record {
   tried = signed_tried h s is.tried;
 }
 
-pub over_signed : (h : History) (s : Sign) → IsOver h → IsOver (signed h s)
+pub over_signed : (h : ExchangeHistory) (s : Sign) → IsOver h → IsOver (signed h s)
 over_signed h s is = record {
   server = signed_server h s is.server;
   client = record { text = is.client.text; is = signed_client h s is.client.text is.client.is; front = is.client.front };
@@ -223,7 +223,7 @@ over_signed h s is = record {
 }
 
 -- more of the client came
-fresh_came : (h : History) (bytes : List ℕ) → IsFresh h → IsFresh (client_came h bytes)
+fresh_came : (h : ExchangeHistory) (bytes : List ℕ) → HistoryIsFresh h → HistoryIsFresh (client_came h bytes)
 fresh_came h bytes is = record {
   unsent = record { server = is.unsent.server; answer = is.unsent.answer };
   silent = is.silent;
@@ -233,7 +233,7 @@ fresh_came h bytes is = record {
 }
 
 -- which ends no line
-pub asking_dry : (a b : Asking) (h : History) (bytes : List ℕ) → IsAsking a h → b.held.items ≡ a.held.items ++ bytes → has_feed bytes ≡ false
+pub asking_dry : (a b : Asking) (h : ExchangeHistory) (bytes : List ℕ) → IsAsking a h → b.held.items ≡ a.held.items ++ bytes → has_feed bytes ≡ false
     → IsAsking b (client_came h bytes)
 asking_dry a b h bytes is held dry = record {
   fresh = fresh_came h bytes is.fresh;
@@ -242,8 +242,8 @@ asking_dry a b h bytes is held dry = record {
 }
 
 -- and what then is held
-pub asking_wet : (a : Asking) (h : History) (bytes held : List ℕ) → IsAsking a h → held ≡ a.held.items ++ bytes
-    → IsFresh (client_came h bytes) × (h.client_in ++ bytes ≡ held)
+pub asking_wet : (a : Asking) (h : ExchangeHistory) (bytes held : List ℕ) → IsAsking a h → held ≡ a.held.items ++ bytes
+    → HistoryIsFresh (client_came h bytes) × (h.client_in ++ bytes ≡ held)
 asking_wet a h bytes held is same = (fresh_came h bytes is.fresh, ap (λ l. l ++ bytes) is.held ∙ sym same)
 
 pub asking_new : (a : Asking) → a.held.items ≡ [] → IsAsking a nothing_yet
@@ -259,7 +259,7 @@ took to rest next text count is left =
     is ∙ ap (λ l. to ++ l) (sym (take-append-drop count rest)) ∙ sym (append_assoc to (take count rest) (drop count rest))
     ∙ ap (λ l. (to ++ take count rest) ++ l) (sym left)
 
-pub leaving_took : (l m : Leaving) (h : History) (count : ℕ) → IsLeaving l h → m.out.out ≡ drop count l.out.out → m.whole ≡ l.whole → m.clean ≡ l.clean
+pub leaving_took : (l m : Leaving) (h : ExchangeHistory) (count : ℕ) → IsLeaving l h → m.out.out ≡ drop count l.out.out → m.whole ≡ l.whole → m.clean ≡ l.clean
     → IsLeaving m (client_got h (take count l.out.out))
 leaving_took l m h count is left same also = record {
   server = got_server h (take count l.out.out) is.server;
@@ -273,7 +273,7 @@ leaving_took l m h count is left same also = record {
   tried = got_tried h (take count l.out.out) is.tried;
 }
 
-pub telling_took : (l m : Telling) (h : History) (count : ℕ) → IsTelling l h → m.rest.now ≡ drop count l.rest.now
+pub telling_took : (l m : Telling) (h : ExchangeHistory) (count : ℕ) → IsTelling l h → m.rest.now ≡ drop count l.rest.now
     → IsTelling m (client_got h (take count l.rest.now))
 telling_took l m h count is left = record {
   server = got_server h (take count l.rest.now) is.server;
@@ -286,7 +286,7 @@ telling_took l m h count is left = record {
 }
 
 -- refusals before a server was reached
-fresh_told : (t : Telling) (h : History) (code : Code) → IsFresh h → ClientText h (refusal_text code) → t.rest.now ≡ refusal_text code → IsTelling t h
+fresh_told : (t : Telling) (h : ExchangeHistory) (code : Code) → HistoryIsFresh h → ClientText h (refusal_text code) → t.rest.now ≡ refusal_text code → IsTelling t h
 fresh_told t h code is text rest = record {
   server = nothing is.unsent.server;
   text = refusal_text code;
@@ -297,10 +297,10 @@ fresh_told t h code is text rest = record {
   tried = untried is.untried;
 }
 
-pub asking_late : (a : Asking) (t : Telling) (h : History) → IsAsking a h → Shows h.signs ClientOver → t.rest.now ≡ refusal_text BadRequest → IsTelling t h
+pub asking_late : (a : Asking) (t : Telling) (h : ExchangeHistory) → IsAsking a h → Shows h.signs ClientOver → t.rest.now ≡ refusal_text BadRequest → IsTelling t h
 asking_late a t h is shows rest = fresh_told t h BadRequest is.fresh (late shows is.none is.fresh.grants) rest
 
-pub waiting_refused : (w : Waiting) (t : Telling) (h : History) (code : Code) → IsWaiting w h → Reason h.signs w.asked.view w.asked.held.items h.server_in code
+pub waiting_refused : (w : Waiting) (t : Telling) (h : ExchangeHistory) (code : Code) → IsWaiting w h → Reason h.signs w.asked.view w.asked.held.items h.server_in code
     → t.rest.now ≡ refusal_text code → IsTelling t h
 waiting_refused w t h code is why rest = record {
   server = nothing is.unsent.server;
@@ -312,15 +312,15 @@ waiting_refused w t h code is why rest = record {
   tried = some_tries w.asked.view w.asked.held.items is.asked.asked is.tries;
 }
 
-pub fault_told : (t : Telling) (fault : Fault) (h : History) → fault ≢ Faulty.NoMemory → IsUnread fault h → t.rest.now ≡ refusal_text BadRequest → IsTelling t h
+pub fault_told : (t : Telling) (fault : Fault) (h : ExchangeHistory) → fault ≢ Faulty.NoMemory → IsUnread fault h → t.rest.now ≡ refusal_text BadRequest → IsTelling t h
 fault_told t fault h other is rest = fresh_told t h BadRequest is.fresh (refused_unread fault other is.reason) rest
 
-pub starved_told : (t : Telling) (fault : Fault) (h : History) → IsUnread fault h → t.rest.now ≡ refusal_text Unavailable → IsTelling t (signed h NoMemory)
+pub starved_told : (t : Telling) (fault : Fault) (h : ExchangeHistory) → IsUnread fault h → t.rest.now ≡ refusal_text Unavailable → IsTelling t (signed h NoMemory)
 starved_told t fault h is rest =
     fresh_told t (signed h NoMemory) Unavailable (fresh_signed h NoMemory is.fresh) (starved (shows_last h.signs NoMemory) is.fresh.grants) rest
 
 -- what is left at any time
-pub asking_over : (a : Asking) (h : History) → IsAsking a h → IsOver h
+pub asking_over : (a : Asking) (h : ExchangeHistory) → IsAsking a h → IsOver h
 asking_over a h is =
     let fresh = is.fresh in
     record {
@@ -331,7 +331,7 @@ asking_over a h is =
       tried = untried fresh.untried;
     }
 
-pub waiting_over : (w : Waiting) (h : History) → IsWaiting w h → IsOver h
+pub waiting_over : (w : Waiting) (h : ExchangeHistory) → IsWaiting w h → IsOver h
 waiting_over w h is = record {
   server = nothing is.unsent.server;
   client = record { text = []; is = silent; front = front_as (sym is.silent) refl (front_nil []) };
@@ -340,7 +340,7 @@ waiting_over w h is = record {
   tried = some_tries w.asked.view w.asked.held.items is.asked.asked is.tries;
 }
 
-pub leaving_over : (l : Leaving) (h : History) → IsLeaving l h → IsOver h
+pub leaving_over : (l : Leaving) (h : ExchangeHistory) → IsLeaving l h → IsOver h
 leaving_over l h is = record {
   server = is.server;
   client = record { text = is.text; is = is.client; front = record { rest = l.out.out; is = is.told } };
@@ -349,7 +349,7 @@ leaving_over l h is = record {
   tried = is.tried;
 }
 
-pub telling_over : (t : Telling) (h : History) → IsTelling t h → IsOver h
+pub telling_over : (t : Telling) (h : ExchangeHistory) → IsTelling t h → IsOver h
 telling_over t h is = record {
   server = is.server;
   client = record { text = is.text; is = is.client; front = record { rest = t.rest.now; is = is.told } };
@@ -358,7 +358,7 @@ telling_over t h is = record {
   tried = is.tried;
 }
 
-pub settling_over : (s : Settling) (h : History) → IsSettling s h → IsOver h
+pub settling_over : (s : Settling) (h : ExchangeHistory) → IsSettling s h → IsOver h
 settling_over s h is = record {
   server = is.server;
   client = record { text = told is.whole; is = is.client; front = record { rest = s.out.out; is = is.ends.tells } };
@@ -367,16 +367,16 @@ settling_over s h is = record {
   tried = is.tried;
 }
 
-pub over_sound : (h : History) → IsOver h → Sound h
+pub over_sound : (h : ExchangeHistory) → IsOver h → Sound h
 over_sound h is = record { server = is.server; client = is.client; once = all_posted is.grants; fair = is.fair; tried = is.tried }
 
 -- the client has gone
-pub passing_left : (p : Passing) (h : History) → IsPassing p h → IsOver (posted h p.pass Done)
+pub passing_left : (p : Passing) (h : ExchangeHistory) → IsPassing p h → IsOver (posted h p.pass Done)
 passing_left p h is =
     leaving_over (record { out = p.down; whole = false; clean = false }) (posted h p.pass Done)
     (passing_ends p h Done false false is (λ e. absurd cc) (λ on. absurd cc) (λ on. absurd cc))
 
-pub dialing_left : (d : Dialing) (h : History) → IsDialing d h → IsOver (posted h d.pass Done)
+pub dialing_left : (d : Dialing) (h : ExchangeHistory) → IsDialing d h → IsOver (posted h d.pass Done)
 dialing_left d h is = record {
   server = nothing is.unsent.server;
   client = record { text = []; is = silent; front = front_as (sym is.silent) refl (front_nil []) };
@@ -386,7 +386,7 @@ dialing_left d h is = record {
 }
 
 -- no answer follows the heads that came
-pub passing_lacks : (p : Passing) (h : History) (count : ℕ) → IsPassing p h → p.phase ≡ Heads count → NoneFollows p.view.method count p.down_held.items
+pub passing_lacks : (p : Passing) (h : ExchangeHistory) (count : ℕ) → IsPassing p h → p.phase ≡ Heads count → NoneFollows p.view.method count p.down_held.items
     → LacksAnswer p.view.method h.server_in
 passing_lacks p h count is phase none =
     let at = down_as {p = p} {h = h} (Heads count) phase is in
@@ -398,7 +398,7 @@ passing_lacks p h count is phase none =
       lacks = subst (λ (n : ℕ). NoneFollows p.view.method n p.down_held.items) at.count_is none;
     }
 
-pub head_refused : (p : Passing) (h : History) (count : ℕ) (held method : List ℕ) (why : Fault) → method ≡ p.view.method → held ≡ p.down_held.items
+pub head_refused : (p : Passing) (h : ExchangeHistory) (count : ℕ) (held method : List ℕ) (why : Fault) → method ≡ p.view.method → held ≡ p.down_held.items
     → IsPassing p h → p.phase ≡ Heads count
     → NoneStands method count held why → why ≢ Faulty.NoMemory → LacksAnswer p.view.method h.server_in
 head_refused p h count held method Faulty.Head same all is phase none other =
@@ -418,7 +418,7 @@ head_refused p h count held method Faulty.Closed same all is phase none other = 
 pub ended_reason : (signs : List Sign) (r : Request) (behind answer : List ℕ) → HasEnded signs → Reason signs r behind answer BadGateway
 ended_reason signs r behind answer is = of_sign is.sign BadGateway is.shows is.tells
 
-pub passing_ended : (p q : Passing) (h : History) → IsPassing p h → HasEnded h.signs → (q.well ≡ true → Shows h.signs ServerEnded)
+pub passing_ended : (p q : Passing) (h : ExchangeHistory) → IsPassing p h → HasEnded h.signs → (q.well ≡ true → Shows h.signs ServerEnded)
     → q ≡ record p { ended = true; well = q.well } → IsPassing q h
 passing_ended p q h is ends ends_well same = subst (λ (r : Passing). IsPassing r h) (sym same) (record {
   behind = is.behind;
@@ -441,7 +441,7 @@ passing_ended p q h is ends ends_well same = subst (λ (r : Passing). IsPassing 
   leave = is.leave;
 })
 
-pub passing_marked : (p q : Passing) (h : History) → IsPassing p h → q ≡ record p { cut = q.cut; fresh = q.fresh; dialing = q.dialing } → IsPassing q h
+pub passing_marked : (p q : Passing) (h : ExchangeHistory) → IsPassing p h → q ≡ record p { cut = q.cut; fresh = q.fresh; dialing = q.dialing } → IsPassing q h
 passing_marked p q h is same = subst (λ (r : Passing). IsPassing r h) (sym same) (record {
   behind = is.behind;
   asked = is.asked;

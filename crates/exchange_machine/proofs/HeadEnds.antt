@@ -6,7 +6,7 @@ use Rattle.std.proofs.lemmas.List.Folds.{list_any-append}
 use Rattle.httparse.specs.Grammar.{LineEnd, RequestHead, print_blank, print_end, print_field, print_request, print_section, print_version}
 use Rattle.httparse.specs.Grammar.LineEnd.{crlf, lf}
 use Rattle.httparse.specs.Ascii.{space}
-use Rattle.list_facts.proofs.Fronts.{two_fronts}
+use Rattle.base_lists.proofs.Fronts.{two_fronts}
 use Rattle.req_view.specs.Heads.{HasHead, HasNoHead}
 
 abbrev pub has_feed : List ℕ → Bool

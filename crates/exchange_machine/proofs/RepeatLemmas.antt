@@ -4,21 +4,21 @@ use Rattle.std.proofs.lemmas.Bool.Decides.{nat_tests}
 use Rattle.std.proofs.lemmas.Grind.{flat_map-append}
 use Rattle.std.specs.List.{flat_map}
 use Rattle.httparse.specs.Grammar.{ResponseHead}
-use Rattle.list_facts.proofs.Members.{all_append}
-use Rattle.relay_body.specs.declared.framing.Framing.{Framing}
-use Rattle.relay_body.specs.declared.framing.Framing.TheVariants.{Empty, Length as Sized, Chunked as InChunks, ToEnd as UpToEnd}
+use Rattle.base_lists.proofs.Members.{all_append}
+use Rattle.http_bodies.specs.declared.framing.Framing.{Framing}
+use Rattle.http_bodies.specs.declared.framing.Framing.TheVariants.{Empty, Length as Sized, Chunked as InChunks, ToEnd as UpToEnd}
 use Rattle.http_texts.specs.Framings.{request_framing}
 use Rattle.http_texts.specs.Messages.{print_heads}
 use Rattle.http_texts.specs.Replies.{leave_text, has_body, expects}
 use Rattle.http_texts.specs.Texts.{framed_for, request_text}
 use Rattle.req_view.specs.Request.{Request, values_of}
 use Rattle.std.specs.Prelude.{codes}
-use Rattle.body_coder.specs.Readings.{Reading, Feeds, start_of}
-use Rattle.body_coder.specs.declared.coding.Coding.{Coding}
-use Rattle.body_coder.specs.declared.coding.Coding.TheVariants.{Length}
-use Rattle.body_coder.proofs.Running.{read_nothing}
+use Rattle.http_bodies.specs.Readings.{Reading, Feeds, start_of}
+use Rattle.http_bodies.specs.declared.coding.Coding.{Coding}
+use Rattle.http_bodies.specs.declared.coding.Coding.TheVariants.{Length}
+use Rattle.http_bodies.proofs.Running.{read_nothing}
 use Rattle.exchange_machine.specs.Requests.{IsAskedBy}
-use Rattle.exchange_machine.specs.Histories.{History, retried, reached_by}
+use Rattle.exchange_machine.specs.Histories.{ExchangeHistory, retried, reached_by}
 use Rattle.exchange_machine.specs.Repeatables.{IsRepeatable, IsUntouched}
 use Rattle.exchange_machine.specs.Repeats.{is_bare, IsTry}
 use Rattle.exchange_machine.specs.Repeats.IsTry.{unsent, repeated}
@@ -80,21 +80,21 @@ right_nil [] ys e = e
 right_nil (x ∷ xs) ys e = absurd cc
 
 -- nothing came of the server of which no head was read and nothing is held
-none_came : (p : Passing) (h : History) → IsPassing p h → p.phase ≡ Heads 0 → p.down_held.items ≡ [] → h.server_in ≡ []
+none_came : (p : Passing) (h : ExchangeHistory) → IsPassing p h → p.phase ≡ Heads 0 → p.down_held.items ≡ [] → h.server_in ≡ []
 none_came p h is heads none =
     let at = down_as {p = p} {h = h} (Heads 0) heads is in
     at.came_is ∙ ap (λ l. print_heads at.interims ++ l) none ∙ append-nil (print_heads at.interims) ∙ no_heads at.interims at.count_is
 
 -- a connection more is among those that broke, and no byte more reached a server
-all_reached : (h : History) → reached_by (retried h) ≡ reached_by h
+all_reached : (h : ExchangeHistory) → reached_by (retried h) ≡ reached_by h
 all_reached h =
     append-nil (flat_map (λ (t : List ℕ). t) (h.tries ++ h.to_server ∷ [])) ∙ flat_map-append (λ (t : List ℕ). t) h.tries (h.to_server ∷ [])
     ∙ ap (λ l. flat_map (λ (t : List ℕ). t) h.tries ++ l) (append-nil h.to_server)
 
-none_sent : (h : History) → reached_by h ≡ [] → h.to_server ≡ []
+none_sent : (h : ExchangeHistory) → reached_by h ≡ [] → h.to_server ≡ []
 none_sent h none = right_nil (flat_map (λ (t : List ℕ). t) h.tries) h.to_server none
 
-pub passing_again : (p : Passing) (h : History) → IsPassing p h → IsRepeatable p
+pub passing_again : (p : Passing) (h : ExchangeHistory) → IsPassing p h → IsRepeatable p
     → (h.server_in ≡ []) × IsDialing
     (record { waiting = record { asked = record { view = p.view; framing = p.framing; held = p.up_held } }; pass = p.pass; reached = p.reached })
     (retried h)
@@ -129,7 +129,7 @@ passing_again p h is may =
       },
     )
 
-pub passing_redialed : (p q : Passing) (h : History) → IsPassing p h → IsUntouched p → q ≡ record p { cut = q.cut; ended = false; well = false; dialing = q.dialing }
+pub passing_redialed : (p q : Passing) (h : ExchangeHistory) → IsPassing p h → IsUntouched p → q ≡ record p { cut = q.cut; ended = false; well = false; dialing = q.dialing }
     → (h.server_in ≡ []) × IsPassing q (retried h)
 passing_redialed p q h is may same =
     let silent_server = none_came p h is may.heads may.none in

@@ -11,16 +11,16 @@ use Rattle.http_texts.specs.declared.persistence.Persistence.{Persistence}
 use Rattle.http_texts.specs.declared.persistence.Persistence.TheVariants.{Close, Persist, KeepAlive}
 use Rattle.req_view.specs.Answer.{answer_of}
 use Rattle.req_view.specs.Request.{Request}
-use Rattle.verdict.specs.declared.Ending.{Ending}
-use Rattle.verdict.specs.declared.Ending.TheVariants.{Failed}
-use Rattle.body_coder.specs.Stops.{is_done}
-use Rattle.body_coder.specs.declared.coding.Coding.{Coding}
+use Rattle.base_verdict.specs.declared.Ending.{Ending}
+use Rattle.base_verdict.specs.declared.Ending.TheVariants.{Failed}
+use Rattle.http_bodies.specs.Stops.{is_done}
+use Rattle.http_bodies.specs.declared.coding.Coding.{Coding}
 use Rattle.exchange_machine.specs.Headline.{AreTries, ClientText, Sound, ToServer}
 use Rattle.exchange_machine.specs.Headline.ArePosted.{all_posted}
 use Rattle.exchange_machine.specs.Headline.AreTries.{none as untried, of_request as some_tries}
 use Rattle.exchange_machine.specs.Headline.ToServer.{nothing, of_request}
 use Rattle.exchange_machine.specs.Headline.ClientText.{silent, refused_unread, late, starved, unserved, refused, answered}
-use Rattle.exchange_machine.specs.Histories.{History, client_got, posted, reached_by}
+use Rattle.exchange_machine.specs.Histories.{ExchangeHistory, client_got, posted, reached_by}
 use Rattle.exchange_machine.specs.Repeats.{is_bare}
 use Rattle.exchange_machine.specs.Settlings.{IsSettling, asks_to_stay, is_clean, is_done_at}
 use Rattle.exchange_machine.specs.Stages.{IsPassing}
@@ -33,7 +33,7 @@ use Rattle.exchange_machine.specs.declared.settling.Settling.{Settling}
 use Rattle.exchange_machine.proofs.SideLemmas.{up_whole, down_whole, down_as, passing_server, passing_client, passing_ends, posted_client, posted_server}
 
 -- the exchange, where its messages were whole: this is its request's body, and this its answer
-abbrev whole_of : (p : Passing) (h : History) → IsPassing p h → List ℕ → List ℕ → Whole
+abbrev whole_of : (p : Passing) (h : ExchangeHistory) → IsPassing p h → List ℕ → List ℕ → Whole
 whole_of p h is body answer = record {
   pass = p.pass;
   head = is.asked.head;
@@ -46,7 +46,7 @@ whole_of p h is body answer = record {
   text = is.answer;
 }
 
-whole_ends : (p : Passing) (h : History) (ending : Ending) → (is : IsPassing p h) → p.phase ≡ Body → is_done p.up.coding ≡ true → is_done p.down.coding ≡ true
+whole_ends : (p : Passing) (h : ExchangeHistory) (ending : Ending) → (is : IsPassing p h) → p.phase ≡ Body → is_done p.up.coding ≡ true → is_done p.down.coding ≡ true
     → (body : List ℕ) × (answer : List ℕ) × Ends (posted h p.pass ending) (whole_of p h is body answer) p.up_held.items p.down.out p.up.out p.down_held.items
 whole_ends p h ending is at asked_whole answer_whole =
     let up = up_whole p.adds p.view p.up.coding p.up_held.items is.behind is.request is.up asked_whole in
@@ -122,11 +122,11 @@ clean_is p is =
       bare = six.1;
     }
 
-bare_of : (p : Passing) (h : History) → (is : IsPassing p h) → is_bare p.framing ≡ true → (body answer : List ℕ) → IsBare (whole_of p h is body answer)
+bare_of : (p : Passing) (h : ExchangeHistory) → (is : IsPassing p h) → is_bare p.framing ≡ true → (body answer : List ℕ) → IsBare (whole_of p h is body answer)
 bare_of p h is bare body answer = record { framing = p.framing; framed = ap request_framing (sym is.asked.request_is) ∙ is.framed; bare = bare }
 
 -- whose client is left
-pub passing_clean : (p : Passing) (h : History) (ending : Ending) → IsPassing p h → is_clean p ≡ true → EndsClean (posted h p.pass ending) p.down.out
+pub passing_clean : (p : Passing) (h : ExchangeHistory) (ending : Ending) → IsPassing p h → is_clean p ≡ true → EndsClean (posted h p.pass ending) p.down.out
 passing_clean p h ending is clean =
     let all = clean_is p clean in
     let it = whole_ends p h ending is all.answer.0 all.request all.answer.1 in
@@ -141,7 +141,7 @@ passing_clean p h ending is clean =
       bare = bare_of p h is all.bare it.0 it.1;
     }
 
-pub passing_settles : (p : Passing) (h : History) (ending : Ending) (clean : Bool) → IsPassing p h
+pub passing_settles : (p : Passing) (h : ExchangeHistory) (ending : Ending) (clean : Bool) → IsPassing p h
     → (p.phase ≡ Body) × (is_done p.up.coding ≡ true) × (is_done p.down.coding ≡ true) × (p.says ≢ Close)
     → (clean ≡ true → is_clean p ≡ true) → (ending ≡ Failed → p.reached ≡ false)
     → IsSettling (record { out = p.down; behind = p.up_held; clean = clean }) (posted h p.pass ending)
@@ -165,7 +165,7 @@ passing_settles p h ending clean is done rests fair =
       tried = over.tried;
     }
 
-pub got_client : (h : History) (bytes text : List ℕ) → ClientText h text → ClientText (client_got h bytes) text
+pub got_client : (h : ExchangeHistory) (bytes text : List ℕ) → ClientText h text → ClientText (client_got h bytes) text
 got_client h bytes text silent = silent
 got_client h bytes text (refused_unread fault other why) = refused_unread fault other why
 got_client h bytes text (late shows none grants) = late shows none grants
@@ -174,16 +174,16 @@ got_client h bytes text (unserved r behind code asked why) = unserved r behind c
 got_client h bytes text (refused r behind code asked why) = refused r behind code asked why
 got_client h bytes text (answered says r behind t asked part) = answered says r behind t asked part
 
-pub got_server : (h : History) (bytes : List ℕ) → ToServer h → ToServer (client_got h bytes)
+pub got_server : (h : ExchangeHistory) (bytes : List ℕ) → ToServer h → ToServer (client_got h bytes)
 got_server h bytes (nothing none) = nothing none
 got_server h bytes (of_request r behind asked part) = of_request r behind asked part
 
-pub got_tried : (h : History) (bytes : List ℕ) → AreTries h → AreTries (client_got h bytes)
+pub got_tried : (h : ExchangeHistory) (bytes : List ℕ) → AreTries h → AreTries (client_got h bytes)
 got_tried h bytes (untried is) = untried is
 got_tried h bytes (some_tries r behind asked tries) = some_tries r behind asked tries
 
 -- the client took more bytes, this many, and the rest waits
-ends_took : (h : History) (w : Whole) (behind out left unsent extra : List ℕ) (count : ℕ) → Ends h w behind out unsent extra → left ≡ drop count out
+ends_took : (h : ExchangeHistory) (w : Whole) (behind out left unsent extra : List ℕ) (count : ℕ) → Ends h w behind out unsent extra → left ≡ drop count out
     → Ends (client_got h (take count out)) w behind left unsent extra
 ends_took h w behind out left unsent extra count is rest =
     let front = take count out in
@@ -198,7 +198,7 @@ ends_took h w behind out left unsent extra count is rest =
       answers = is.answers;
     }
 
-pub clean_took : (h : History) (out left : List ℕ) (count : ℕ) → EndsClean h out → left ≡ drop count out → EndsClean (client_got h (take count out)) left
+pub clean_took : (h : ExchangeHistory) (out left : List ℕ) (count : ℕ) → EndsClean h out → left ≡ drop count out → EndsClean (client_got h (take count out)) left
 clean_took h out left count is rest = record {
   whole = is.whole;
   behind = is.behind;
@@ -208,7 +208,7 @@ clean_took h out left count is rest = record {
   bare = is.bare;
 }
 
-pub settling_took : (s t : Settling) (h : History) (count : ℕ) → IsSettling s h → t ≡ record s { out = t.out } → t.out.out ≡ drop count s.out.out
+pub settling_took : (s t : Settling) (h : ExchangeHistory) (count : ℕ) → IsSettling s h → t ≡ record s { out = t.out } → t.out.out ≡ drop count s.out.out
     → IsSettling t (client_got h (take count s.out.out))
 settling_took s t h count is same out =
     let front = take count s.out.out in
@@ -226,7 +226,7 @@ settling_took s t h count is same out =
       tried = got_tried h front is.tried;
     })
 
-pub settling_sound : (s : Settling) (h : History) → IsSettling s h → Sound h
+pub settling_sound : (s : Settling) (h : ExchangeHistory) → IsSettling s h → Sound h
 settling_sound s h is = record {
   server = is.server;
   client = record { text = told is.whole; is = is.client; front = record { rest = s.out.out; is = is.ends.tells } };

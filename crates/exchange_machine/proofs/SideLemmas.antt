@@ -2,9 +2,9 @@
 use Rattle.std.proofs.Common.{cond, ◌&&◌, ◌≡◌, ◌≢◌, ◌∙◌, ℕ, ◌+◌, ◌-◌, ◌<◌, ◌≤◌, Bool, true, false, true≢false, Some, IsSome, List, [], ◌∷◌, ◌++◌, length, take, drop, refl, sym, ap, arith, append_assoc, append-nil, length-append, length-drop, subst, inr}
 use Rattle.httparse.specs.Grammar.{ResponseHead, print_response}
 use Rattle.http_texts.specs.declared.refusals.Code.{Code}
-use Rattle.list_facts.specs.Fronts.{IsFront}
-use Rattle.relay_body.specs.Framings.{IsBody, LacksBody}
-use Rattle.relay_body.specs.declared.framing.Framing as Framed
+use Rattle.base_lists.specs.Fronts.{IsFront}
+use Rattle.http_bodies.specs.Framings.{IsBody, LacksBody}
+use Rattle.http_bodies.specs.declared.framing.Framing as Framed
 use Rattle.http_texts.specs.Messages.{PartOfForwarded, PartOfAnswered, IsForwarded, IsAnswered, print_heads, interims_text, IsInterim}
 use Rattle.http_texts.specs.Messages.PartOfForwarded.{head_and_body as forwards}
 use Rattle.http_texts.specs.Messages.PartOfAnswered.{some_heads, head_and_body as answers}
@@ -29,16 +29,16 @@ use Rattle.http_texts.specs.declared.fault.Fault.TheVariants as Faulty
 use Rattle.std.specs.Prelude.{None}
 use Rattle.std.proofs.lemmas.Grind.{flat_map-append}
 use Rattle.req_view.specs.Request.{Request}
-use Rattle.body_coder.specs.Readings.{Feeds, read, start_of}
-use Rattle.body_coder.specs.Runs.{IsLongest, IsSent}
-use Rattle.body_coder.specs.Stops.{is_bad, is_done}
-use Rattle.body_coder.specs.declared.coding.Coding.{Coding}
-use Rattle.body_coder.proofs.Derivatives.{feeds_nil}
-use Rattle.body_coder.proofs.Meanings.{bad}
-use Rattle.body_coder.proofs.Running.{run_text, run_done, run_bad}
+use Rattle.http_bodies.specs.Readings.{Feeds, read, start_of}
+use Rattle.http_bodies.specs.Runs.{IsLongest, IsSent}
+use Rattle.http_bodies.specs.Stops.{is_bad, is_done}
+use Rattle.http_bodies.specs.declared.coding.Coding.{Coding}
+use Rattle.http_bodies.proofs.Derivatives.{feeds_nil}
+use Rattle.http_bodies.proofs.Meanings.{bad}
+use Rattle.http_bodies.proofs.Running.{run_text, run_done, run_bad}
 use Rattle.std.specs.List.{AllByRecursion}
 use Rattle.httparse.specs.Grammar.{print_request}
-use Rattle.list_facts.proofs.Fronts.{front_same, front_nil, front_as, behind}
+use Rattle.base_lists.proofs.Fronts.{front_same, front_nil, front_as, behind}
 use Rattle.http_texts.specs.Replies.{leave_text, refusal_text}
 use Rattle.http_texts.specs.Texts.{framed_for}
 use Rattle.exchange_machine.specs.Repeats.{IsTry}
@@ -50,14 +50,14 @@ use Rattle.exchange_machine.specs.Headline.{AreTries, IsOfPart, IsFair, ClientTe
 use Rattle.exchange_machine.specs.Headline.ToServer.{nothing, of_request}
 use Rattle.exchange_machine.specs.Headline.ClientText.{silent, refused_unread, late, starved, unserved, refused, answered}
 use Rattle.exchange_machine.specs.Headline.ArePosted.{all_posted, one_held}
-use Rattle.exchange_machine.specs.Histories.{Post, History, client_came, server_came, client_got, connected_on, posted, passes_of, reached_by}
+use Rattle.exchange_machine.specs.Histories.{Post, ExchangeHistory, client_came, server_came, client_got, connected_on, posted, passes_of, reached_by}
 use Rattle.exchange_machine.specs.Requests.{IsAskedBy, BreaksBody, IsNoRequest, LacksHead}
-use Rattle.exchange_machine.specs.Stages.{IsFresh, IsAsking, IsWaiting, IsDialing, IsPassing, IsLeaving, HasLeave}
+use Rattle.exchange_machine.specs.Stages.{HistoryIsFresh, IsAsking, IsWaiting, IsDialing, IsPassing, IsLeaving, HasLeave}
 use Rattle.exchange_machine.specs.declared.leaving.Leaving.{Leaving}
 use Rattle.grant_board.specs.Views.{Grant}
-use Rattle.verdict.specs.declared.Ending.{Ending}
-use Rattle.verdict.specs.declared.Ending.TheVariants.{Failed}
-use Rattle.list_facts.proofs.Members.{all_append}
+use Rattle.base_verdict.specs.declared.Ending.{Ending}
+use Rattle.base_verdict.specs.declared.Ending.TheVariants.{Failed}
+use Rattle.base_lists.proofs.Members.{all_append}
 use Rattle.std.proofs.lemmas.List.{map-append, take-append-drop, take-append-le, drop-append-le}
 use Rattle.std.proofs.Math.Seq.{take-append_seam}
 use Rattle.exchange_machine.specs.declared.asking.Asking.{Asking}
@@ -231,7 +231,7 @@ leave_left {count} {leave} {went} {out} is =
     is.leave_is
     ∙ ap (λ l. went ++ l) (sym (ap (λ n. take n out) is.count_is ∙ ap (take (length is.left)) is.out_is ∙ take-append_seam is.left is.behind))
 
-pub passing_more : (p : Passing) (way : Way) (h : History) (bytes : List ℕ) → IsPassing p h → p.up_held.items ≡ []
+pub passing_more : (p : Passing) (way : Way) (h : ExchangeHistory) (bytes : List ℕ) → IsPassing p h → p.up_held.items ≡ []
     → ((start : Coding) (text x y : List ℕ) → Hears start p.up.coding text p.up.out x y → Hears start way.coding text way.out (x ++ bytes) y)
     → IsPassing (record p { up = way }) (client_came h bytes)
 passing_more p way h bytes is none step =
@@ -323,7 +323,7 @@ front_part {sent = sent} waiting is o = record {
 }
 
 -- the law, at each stage
-pub fresh_sound : (h : History) → IsFresh h → Sound h
+pub fresh_sound : (h : ExchangeHistory) → HistoryIsFresh h → Sound h
 fresh_sound h is = record {
   server = nothing is.unsent.server;
   client = record {
@@ -336,10 +336,10 @@ fresh_sound h is = record {
   tried = untried is.untried;
 }
 
-pub asking_sound : (a : Asking) (h : History) → IsAsking a h → Sound h
+pub asking_sound : (a : Asking) (h : ExchangeHistory) → IsAsking a h → Sound h
 asking_sound a h is = fresh_sound h is.fresh
 
-pub waiting_sound : (w : Waiting) (h : History) → IsWaiting w h → Sound h
+pub waiting_sound : (w : Waiting) (h : ExchangeHistory) → IsWaiting w h → Sound h
 waiting_sound w h is = record {
   server = nothing is.unsent.server;
   client = record {
@@ -352,7 +352,7 @@ waiting_sound w h is = record {
   tried = some_tries w.asked.view w.asked.held.items is.asked.asked is.tries;
 }
 
-pub dialing_sound : (d : Dialing) (h : History) → IsDialing d h → Sound h
+pub dialing_sound : (d : Dialing) (h : ExchangeHistory) → IsDialing d h → Sound h
 dialing_sound d h is = record {
   server = nothing is.unsent.server;
   client = record {
@@ -366,7 +366,7 @@ dialing_sound d h is = record {
 }
 
 -- the server was reached: the request's head goes out, and its body begins
-pub dialing_passes : (d : Dialing) (p : Passing) (h : History) → IsDialing d h → p.view ≡ d.waiting.asked.view → p.pass ≡ d.pass → p.reached ≡ d.reached
+pub dialing_passes : (d : Dialing) (p : Passing) (h : ExchangeHistory) → IsDialing d h → p.view ≡ d.waiting.asked.view → p.pass ≡ d.pass → p.reached ≡ d.reached
     → p.framing ≡ d.waiting.asked.framing
     → p.up.coding ≡ start_of d.waiting.asked.framing true → p.up.out ≡ request_text p.adds d.waiting.asked.view d.waiting.asked.framing
     → p.up_held.items ≡ d.waiting.asked.held.items → p.phase ≡ Heads 0 → p.down_held.items ≡ []
@@ -417,22 +417,22 @@ dialing_passes d p h is view pass reach framing coding out held phase empty leav
       };
     }
 
-pub passing_server : (p : Passing) (h : History) → IsPassing p h → ToServer h
+pub passing_server : (p : Passing) (h : ExchangeHistory) → IsPassing p h → ToServer h
 passing_server p h is =
     of_request p.view is.behind is.asked
     (front_part p.up.out is.sent
     (subst (λ (a : Additions). IsOfPart (PartOfForwarded a p.view) is.behind is.request) is.adds
     (up_part p.adds p.view p.up.coding p.up_held.items is.behind is.request is.up)))
 
-pub passing_client : (p : Passing) (h : History) → (is : IsPassing p h) → ClientText h (leave_text p.view ++ is.answer)
+pub passing_client : (p : Passing) (h : ExchangeHistory) → (is : IsPassing p h) → ClientText h (leave_text p.view ++ is.answer)
 passing_client p h is =
     answered p.says p.view is.behind is.answer is.asked
     (down_part p.says p.kept p.view.method (framed_for p.view.version) p.phase p.down.coding p.down_held.items h.server_in is.answer is.down)
 
-pub passing_tried : (p : Passing) (h : History) → IsPassing p h → AreTries h
+pub passing_tried : (p : Passing) (h : ExchangeHistory) → IsPassing p h → AreTries h
 passing_tried p h is = some_tries p.view is.behind is.asked is.tries
 
-pub passing_sound : (p : Passing) (h : History) → IsPassing p h → Sound h
+pub passing_sound : (p : Passing) (h : ExchangeHistory) → IsPassing p h → Sound h
 passing_sound p h is = record {
   server = passing_server p h is;
   client = record { text = leave_text p.view ++ is.answer; is = passing_client p h is; front = record { rest = p.down.out; is = is.told } };
@@ -441,7 +441,7 @@ passing_sound p h is = record {
   tried = passing_tried p h is;
 }
 
-pub leaving_sound : (l : Leaving) (h : History) → IsLeaving l h → Sound h
+pub leaving_sound : (l : Leaving) (h : ExchangeHistory) → IsLeaving l h → Sound h
 leaving_sound l h is = record {
   server = is.server;
   client = record { text = is.text; is = is.client; front = record { rest = l.out.out; is = is.told } };
@@ -451,7 +451,7 @@ leaving_sound l h is = record {
 }
 
 -- a client text doesn't look at the posts
-pub posted_client : (h : History) (pass : Grant) (ending : Ending) (text : List ℕ) → ClientText h text → ClientText (posted h pass ending) text
+pub posted_client : (h : ExchangeHistory) (pass : Grant) (ending : Ending) (text : List ℕ) → ClientText h text → ClientText (posted h pass ending) text
 posted_client h pass ending text silent = silent
 posted_client h pass ending text (refused_unread fault other why) = refused_unread fault other why
 posted_client h pass ending text (late shows none grants) = late shows none grants
@@ -460,15 +460,15 @@ posted_client h pass ending text (unserved r behind code asked why) = unserved r
 posted_client h pass ending text (refused r behind code asked why) = refused r behind code asked why
 posted_client h pass ending text (answered says r behind t asked part) = answered says r behind t asked part
 
-pub posted_server : (h : History) (pass : Grant) (ending : Ending) → ToServer h → ToServer (posted h pass ending)
+pub posted_server : (h : ExchangeHistory) (pass : Grant) (ending : Ending) → ToServer h → ToServer (posted h pass ending)
 posted_server h pass ending (nothing none) = nothing none
 posted_server h pass ending (of_request r behind asked part) = of_request r behind asked part
 
-pub posted_tried : (h : History) (pass : Grant) (ending : Ending) → AreTries h → AreTries (posted h pass ending)
+pub posted_tried : (h : ExchangeHistory) (pass : Grant) (ending : Ending) → AreTries h → AreTries (posted h pass ending)
 posted_tried h pass ending (untried is) = untried is
 posted_tried h pass ending (some_tries r behind asked tries) = some_tries r behind asked tries
 
-pub passing_ends : (p : Passing) (h : History) (ending : Ending) (whole clean : Bool) → (is : IsPassing p h) → (ending ≡ Failed → p.reached ≡ false)
+pub passing_ends : (p : Passing) (h : ExchangeHistory) (ending : Ending) (whole clean : Bool) → (is : IsPassing p h) → (ending ≡ Failed → p.reached ≡ false)
     → (whole ≡ true → TellsAnswer h.signs h.client_in h.server_in (leave_text p.view ++ is.answer))
     → (clean ≡ true → EndsClean (posted h p.pass ending) p.down.out)
     → IsLeaving (record { out = p.down; whole = whole; clean = clean }) (posted h p.pass ending)
@@ -523,12 +523,12 @@ body_more says kept method framed c d out out' held came given lead sent bytes n
       sym (whole after.given) ∙ after.sent,
     )
 
-pub down_as : {p : Passing} {h : History} (phase : Down) → p.phase ≡ phase → (is : IsPassing p h)
+pub down_as : {p : Passing} {h : ExchangeHistory} (phase : Down) → p.phase ≡ phase → (is : IsPassing p h)
     → IsDown p.says p.kept p.view.method (framed_for p.view.version) phase p.down.coding p.down_held.items h.server_in is.answer
 down_as {p} {h} phase e is =
     subst (λ (d : Down). IsDown p.says p.kept p.view.method (framed_for p.view.version) d p.down.coding p.down_held.items h.server_in is.answer) e is.down
 
-pub passing_answer : (p : Passing) (way : Way) (h : History) (bytes : List ℕ) → IsPassing p h → p.phase ≡ Body → p.down_held.items ≡ []
+pub passing_answer : (p : Passing) (way : Way) (h : ExchangeHistory) (bytes : List ℕ) → IsPassing p h → p.phase ≡ Body → p.down_held.items ≡ []
     → ((start : Coding) (text x y : List ℕ) → Hears start p.down.coding text p.down.out x y → Hears start way.coding text way.out (x ++ bytes) y)
     → IsFront p.down.out way.out → IsPassing (record p { down = way }) (server_came h bytes)
 passing_answer p way h bytes is body none step grows =
@@ -644,7 +644,7 @@ said_wished willing r plan says is other =
     let both = said_agreed willing (is_delimited (framed_for r.version) plan.body) (wished r) (λ closed. other (is ∙ closed)) in
     (both.0, both.1 ∙ sym is)
 
-pub passing_final : (p : Passing) (way : Way) (held : List ℕ) (h : History) (count : ℕ) (a : Answer) (len : ℕ) (plan : Plan) (q : Passing) → IsPassing p h
+pub passing_final : (p : Passing) (way : Way) (held : List ℕ) (h : ExchangeHistory) (count : ℕ) (a : Answer) (len : ℕ) (plan : Plan) (q : Passing) → IsPassing p h
     → p.phase ≡ Heads count
     → SaysAnswer p.down_held.items a len → answer_plan p.view.method a ≡ Some plan → is_interim a.status ≡ false
     → q.says ≡ answer_says p.willing p.view plan → q.kept ≡ is_kept_by_server a plan
@@ -683,7 +683,7 @@ passing_final p way held h count a len plan q is phase stood planned final told 
       leave = λ none. leave_grows (record { rest = text; is = out }) (is.leave none);
     })
 
-pub passing_interim : (p : Passing) (way : Way) (held : List ℕ) (h : History) (count : ℕ) (a : Answer) (len : ℕ) (q : Passing) → IsPassing p h
+pub passing_interim : (p : Passing) (way : Way) (held : List ℕ) (h : ExchangeHistory) (count : ℕ) (a : Answer) (len : ℕ) (q : Passing) → IsPassing p h
     → p.phase ≡ Heads count
     → SaysAnswer p.down_held.items a len → IsSome (answer_plan p.view.method a) → is_interim a.status ≡ true → count < 8
     → way.out ≡ p.down.out ++ interim_text (framed_for p.view.version) a
@@ -730,9 +730,9 @@ asked_at r v seen held rest len begins same view left =
     }
 
 -- a request's head stands in what came
-pub look_whole : (w : Waiting) (h : History) (v : Request) (held : List ℕ) (len : ℕ) → BeginsWith held v len
+pub look_whole : (w : Waiting) (h : ExchangeHistory) (v : Request) (held : List ℕ) (len : ℕ) → BeginsWith held v len
     → request_framing w.asked.view ≡ Some w.asked.framing → w.asked.view ≡ v → w.asked.held.items ≡ drop len held
-    → IsFresh h → h.client_in ≡ held → IsWaiting w h
+    → HistoryIsFresh h → h.client_in ≡ held → IsWaiting w h
 look_whole w h v held len begins framed view rest fresh came = record {
   unsent = fresh.unsent;
   asked = record {
@@ -747,7 +747,7 @@ look_whole w h v held len begins framed view rest fresh came = record {
 }
 
 -- and what came behind it is none of its bodies
-pub look_broken : (w : Waiting) (h : History) → IsWaiting w h → is_bad (read (start_of w.asked.framing true) w.asked.held.items).coding ≡ true
+pub look_broken : (w : Waiting) (h : ExchangeHistory) → IsWaiting w h → is_bad (read (start_of w.asked.framing true) w.asked.held.items).coding ≡ true
     → IsNoRequest Faulty.Framing h.client_in
 look_broken w h is broken = inr (record {
   request = w.asked.view;
@@ -761,7 +761,7 @@ look_broken w h is broken = inr (record {
 })
 
 -- what is held is taken in part
-pub passing_used : (p : Passing) (way : Way) (q : Passing) (h : History) (used : ℕ) (seen : List ℕ) → IsPassing p h → seen ≡ p.up_held.items
+pub passing_used : (p : Passing) (way : Way) (q : Passing) (h : ExchangeHistory) (used : ℕ) (seen : List ℕ) → IsPassing p h → seen ≡ p.up_held.items
     → ((start : Coding) (text x y : List ℕ) → Hears start p.up.coding text p.up.out x y → Hears start way.coding text way.out (x ++ take used seen) y)
     → q.up_held.items ≡ drop used p.up_held.items → q ≡ record p { up = way; up_held = q.up_held } → IsPassing q h
 passing_used p way q h used seen is same step rest here =
@@ -841,7 +841,7 @@ body_used says kept method framed c d out out' held rest came given lead sent se
       sym (whole after.given) ∙ after.sent,
     )
 
-pub passing_answer_used : (p : Passing) (way : Way) (q : Passing) (h : History) (used : ℕ) (seen : List ℕ) → IsPassing p h → p.phase ≡ Body
+pub passing_answer_used : (p : Passing) (way : Way) (q : Passing) (h : ExchangeHistory) (used : ℕ) (seen : List ℕ) → IsPassing p h → p.phase ≡ Body
     → seen ≡ p.down_held.items
     → ((start : Coding) (text x y : List ℕ) → Hears start p.down.coding text p.down.out x y → Hears start way.coding text way.out (x ++ take used seen) y)
     → IsFront p.down.out way.out
@@ -876,7 +876,7 @@ pub no_interims : (hs : List ResponseHead) (framed : Bool) → 0 ≡ length hs �
 no_interims [] framed none = refl
 no_interims (h ∷ hs) framed none = absurd (omega (arith, none))
 
-pub nothing_answered : (p : Passing) (h : History) → (is : IsPassing p h) → ClientText h (leave_text p.view)
+pub nothing_answered : (p : Passing) (h : ExchangeHistory) → (is : IsPassing p h) → ClientText h (leave_text p.view)
 nothing_answered p h is =
     subst (λ (l : List ℕ). ClientText h l) (append-nil (leave_text p.view))
     (answered p.says p.view is.behind [] is.asked (record {
@@ -889,7 +889,7 @@ nothing_answered p h is =
     }))
 
 -- a refusal takes the place of what waits behind the leave; where there is no room for it, nothing does
-pub passing_refused : (p : Passing) (l : Leaving) (way : Way) (h : History) (code : Code) (pass : Grant) (ending : Ending) (fits : Bool) → (is : IsPassing p h)
+pub passing_refused : (p : Passing) (l : Leaving) (way : Way) (h : ExchangeHistory) (code : Code) (pass : Grant) (ending : Ending) (fits : Bool) → (is : IsPassing p h)
     → IsLeaving l (posted h pass ending) → l.out ≡ p.down → p.begun ≡ false → Reason h.signs p.view is.behind h.server_in code
     → (fits ≡ true → way.out ≡ take p.leave_left l.out.out ++ refusal_text code) → (fits ≡ false → way.out ≡ take p.leave_left l.out.out)
     → IsLeaving (record { out = way; whole = false; clean = false }) (posted h pass ending)
@@ -920,7 +920,7 @@ passing_refused p l way h code pass ending false is over same none why out full 
 }
 
 -- the client took more of what waits
-pub passing_told : (p q : Passing) (h : History) (count : ℕ) → IsPassing p h → q.down.out ≡ drop count p.down.out → q.down.coding ≡ p.down.coding
+pub passing_told : (p q : Passing) (h : ExchangeHistory) (count : ℕ) → IsPassing p h → q.down.out ≡ drop count p.down.out → q.down.coding ≡ p.down.coding
     → (q.begun ≡ false → (p.begun ≡ false) × (count ≤ p.leave_left) × (q.leave_left ≡ p.leave_left - count))
     → q ≡ record p { down = q.down; begun = q.begun; leave_left = q.leave_left } → IsPassing q (client_got h (take count p.down.out))
 passing_told p q h count is out coding still same =
@@ -983,7 +983,7 @@ down_held_more says kept method framed Body c held came given bytes a =
       given_is = a.given_is;
     }
 
-pub passing_held : (p q : Passing) (h : History) (bytes : List ℕ) → IsPassing p h → q.down_held.items ≡ p.down_held.items ++ bytes
+pub passing_held : (p q : Passing) (h : ExchangeHistory) (bytes : List ℕ) → IsPassing p h → q.down_held.items ≡ p.down_held.items ++ bytes
     → q ≡ record p { down_held = q.down_held; looks = q.looks } → IsPassing q (server_came h bytes)
 passing_held p q h bytes is held same =
     subst (λ (r : Passing). IsPassing r (server_came h bytes)) (sym same) (record {
@@ -1028,7 +1028,7 @@ look_lacks HeadFault fault bytes never is = subst (λ (f : Fault). LacksHead f b
 look_lacks NoMemory fault bytes never is = subst (λ (f : Fault). LacksHead f bytes) (sym is) tt
 
 -- what came behind a head is none of its bodies
-pub passing_breaks : (p : Passing) (h : History) → (is : IsPassing p h) → is_bad p.up.coding ≡ true → BreaksBody p.view is.behind
+pub passing_breaks : (p : Passing) (h : ExchangeHistory) → (is : IsPassing p h) → is_bad p.up.coding ≡ true → BreaksBody p.view is.behind
 passing_breaks p h is broken =
     let u = is.up in
     record {
@@ -1041,7 +1041,7 @@ passing_breaks p h is broken =
           (run_bad u.framing true ((u.taken, u.passed) ∷ []) p.up.coding (p.up.coding, u.feeds, refl) (p.up_held.items ++ more) broken);
     }
 
-pub passing_answers_badly : (p : Passing) (h : History) → IsPassing p h → p.phase ≡ Body → is_bad p.down.coding ≡ true → BreaksAnswer p.view.method h.server_in
+pub passing_answers_badly : (p : Passing) (h : ExchangeHistory) → IsPassing p h → p.phase ≡ Body → is_bad p.down.coding ≡ true → BreaksAnswer p.view.method h.server_in
 passing_answers_badly p h is body broken =
     let a = down_as {p = p} {h = h} Body body is in
     record {

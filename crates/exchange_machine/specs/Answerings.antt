@@ -1,12 +1,12 @@
 -- Whole answers, as the proxy reads them and as it sends them to the client.
 use Rattle.std.specs.Prelude.{◌≡◌, ℕ, Bool, false, ◌&&◌, List, ◌++◌}
-use Rattle.relay_body.specs.declared.framing.Framing.TheVariants as Framed
+use Rattle.http_bodies.specs.declared.framing.Framing.TheVariants as Framed
 use Rattle.http_texts.specs.Messages.{IsAnswered}
 use Rattle.http_texts.specs.Replies.{leave_text}
 use Rattle.http_texts.specs.Texts.{framed_for}
 use Rattle.http_texts.specs.declared.persistence.Persistence.{Persistence}
 use Rattle.req_view.specs.Request.{Request}
-use Rattle.body_coder.specs.declared.coding.Coding.{Coding}
+use Rattle.http_bodies.specs.declared.coding.Coding.{Coding}
 use Rattle.exchange_machine.specs.Reasons.{Shows}
 use Rattle.exchange_machine.specs.Requests.{IsAskedBy}
 use Rattle.exchange_machine.specs.Wants.{is_none}

@@ -2,7 +2,7 @@
 use Rattle.std.specs.Prelude.{◌≡◌, ◌≢◌, ℕ, List, [], ◌∷◌, ◌++◌}
 use Rattle.std.specs.List.{AllByRecursion}
 use Rattle.grant_board.specs.Views.{Grant}
-use Rattle.list_facts.specs.Fronts.{IsFront}
+use Rattle.base_lists.specs.Fronts.{IsFront}
 use Rattle.http_texts.specs.Messages.{PartOfForwarded, PartOfAnswered}
 use Rattle.http_texts.specs.Replies.{leave_text, refusal_text}
 use Rattle.http_texts.specs.Texts.{framed_for}
@@ -13,8 +13,8 @@ use Rattle.http_texts.specs.declared.refusals.Code.{Code}
 use Rattle.http_texts.specs.declared.refusals.Code.TheVariants.{BadRequest, Unavailable}
 use Rattle.req_view.specs.Heads.{HasNoHead}
 use Rattle.req_view.specs.Request.{Request}
-use Rattle.verdict.specs.declared.Ending.TheVariants.{Failed}
-use Rattle.exchange_machine.specs.Histories.{Post, History, passes_of}
+use Rattle.base_verdict.specs.declared.Ending.TheVariants.{Failed}
+use Rattle.exchange_machine.specs.Histories.{Post, ExchangeHistory, passes_of}
 use Rattle.exchange_machine.specs.Reasons.{Reason, Shows}
 use Rattle.exchange_machine.specs.Repeats.{IsTry}
 use Rattle.exchange_machine.specs.Requests.{IsAskedBy, IsNoRequest}
@@ -31,7 +31,7 @@ pub record IsOfPart (Part : List ℕ → List ℕ → Type 0) (input sent : List
   pub front : IsFront sent text
 
 -- the server was sent a front of the forwarded text of what the client sent
-pub data ToServer (h : History) : Type 0 where
+pub data ToServer (h : ExchangeHistory) : Type 0 where
   nothing : h.to_server ≡ [] → ToServer h
   of_request : (r : Request) (behind : List ℕ) → IsAskedBy h.client_in r behind → IsOfPart (PartOfForwarded h.adds r) behind h.to_server → ToServer h
 
@@ -39,7 +39,7 @@ pub data ToServer (h : History) : Type 0 where
 -- time for one is over, or memory is short; one refusal with its reason before a server was
 -- reached; or the `100` that lets it go on, and after it the answered text of what the server
 -- sent, or one such refusal, and never both.
-pub data ClientText (h : History) : List ℕ → Type 0 where
+pub data ClientText (h : ExchangeHistory) : List ℕ → Type 0 where
   silent : ClientText h []
   refused_unread : (fault : Fault) → fault ≢ Faulty.NoMemory → IsNoRequest fault h.client_in → ClientText h (refusal_text BadRequest)
   late : Shows h.signs ClientOver → HasNoHead h.client_in → h.grants ≡ [] → ClientText h (refusal_text BadRequest)
@@ -52,7 +52,7 @@ pub data ClientText (h : History) : List ℕ → Type 0 where
       → IsOfPart (PartOfAnswered says r.method (framed_for r.version)) h.server_in text → ClientText h (leave_text r ++ text)
 
 -- the client was sent a front of its text
-pub record ToClient (h : History) : Type 0 where
+pub record ToClient (h : ExchangeHistory) : Type 0 where
   pub text : List ℕ
   pub is : ClientText h text
   pub front : IsFront h.to_client text
@@ -62,16 +62,16 @@ abbrev pub IsFair : Post → Type 0
 IsFair p = p.ending ≡ Failed → p.reached ≡ []
 
 -- each pass is posted once, in the order in which they were handed in, except for the one that is held
-pub data ArePosted (h : History) : Type 0 where
+pub data ArePosted (h : ExchangeHistory) : Type 0 where
   all_posted : h.grants ≡ passes_of h.posts → ArePosted h
   one_held : (pass : Grant) → h.grants ≡ passes_of h.posts ++ pass ∷ [] → ArePosted h
 
 -- each broken connection was sent a front of the client's request, and the request may be sent again
-pub data AreTries (h : History) : Type 0 where
+pub data AreTries (h : ExchangeHistory) : Type 0 where
   none : h.tries ≡ [] → AreTries h
   of_request : (r : Request) (behind : List ℕ) → IsAskedBy h.client_in r behind → AllByRecursion (IsTry r) h.tries → AreTries h
 
-pub record Sound (h : History) : Type 0 where
+pub record Sound (h : ExchangeHistory) : Type 0 where
   pub server : ToServer h
   pub client : ToClient h
   pub once : ArePosted h

@@ -1,7 +1,7 @@
 -- Why a client is refused.
 use Rattle.std.specs.Prelude.{◌≡◌, ℕ, ◌≤◌, true, List, ◌∷◌, ◌++◌, length, Option, Some, None}
 use Rattle.httparse.specs.Grammar.{ResponseHead, print_response}
-use Rattle.relay_body.specs.Framings.{LacksBody}
+use Rattle.http_bodies.specs.Framings.{LacksBody}
 use Rattle.http_texts.specs.Framings.{answer_plan, is_interim}
 use Rattle.http_texts.specs.Messages.{AreInterims, IsFinal, print_heads}
 use Rattle.http_texts.specs.declared.refusals.Code.{Code}

@@ -1,8 +1,8 @@
 -- The client's bytes: a request, or something that the proxy refuses.
 use Rattle.std.specs.Prelude.{◌≡◌, ◌⊎◌, ℕ, List, ◌++◌, Some}
 use Rattle.httparse.specs.Grammar.{RequestHead, print_request}
-use Rattle.relay_body.specs.Framings.{LacksBody}
-use Rattle.relay_body.specs.declared.framing.Framing as Framed
+use Rattle.http_bodies.specs.Framings.{LacksBody}
+use Rattle.http_bodies.specs.declared.framing.Framing as Framed
 use Rattle.http_texts.specs.Framings.{request_framing}
 use Rattle.http_texts.specs.Heads.{IsRequest, FramedBadly}
 use Rattle.http_texts.specs.declared.fault.Fault.{Fault}

@@ -1,12 +1,12 @@
 -- What is left of an exchange whose pass was posted.
 use Rattle.std.specs.Prelude.{◌≡◌, ◌≢◌, ℕ, Bool, true, false, ◌&&◌, List, []}
 use Rattle.std.specs.List.{AllByRecursion}
-use Rattle.body_coder.specs.Stops.{is_done}
-use Rattle.body_coder.specs.declared.coding.Coding.{Coding}
+use Rattle.http_bodies.specs.Stops.{is_done}
+use Rattle.http_bodies.specs.declared.coding.Coding.{Coding}
 use Rattle.http_texts.specs.declared.persistence.Persistence.{Persistence}
 use Rattle.http_texts.specs.declared.persistence.Persistence.TheVariants.{Close, Persist, KeepAlive}
 use Rattle.exchange_machine.specs.Headline.{AreTries, IsFair, ClientText, ToServer}
-use Rattle.exchange_machine.specs.Histories.{History, passes_of}
+use Rattle.exchange_machine.specs.Histories.{ExchangeHistory, passes_of}
 use Rattle.exchange_machine.specs.Repeats.{is_bare}
 use Rattle.exchange_machine.specs.Stages.{IsLeaving}
 use Rattle.exchange_machine.specs.Wants.{is_none}
@@ -19,7 +19,7 @@ use Rattle.exchange_machine.specs.declared.sides.Down.{Down}
 use Rattle.exchange_machine.specs.declared.sides.Down.TheVariants.{Heads, Body}
 
 -- both messages were whole; where it is clean, nothing is left on the server's side
-pub record IsSettling (s : Settling) (h : History) : Type 0 where
+pub record IsSettling (s : Settling) (h : ExchangeHistory) : Type 0 where
   pub whole : Whole
   pub unsent : List ℕ
   pub extra : List ℕ
@@ -32,7 +32,7 @@ pub record IsSettling (s : Settling) (h : History) : Type 0 where
   pub fair : AllByRecursion IsFair h.posts
   pub tried : AreTries h
 
-abbrev pub IsRest : Rest → History → Type 0
+abbrev pub IsRest : Rest → ExchangeHistory → Type 0
 IsRest (Rests.Settling s) h = IsSettling s h
 IsRest (Rests.Leaving l) h = IsLeaving l h
 

@@ -8,11 +8,11 @@ use Rattle.http_texts.specs.Texts.{framed_for}
 use Rattle.http_texts.specs.declared.fault.Fault.{Fault}
 use Rattle.http_texts.specs.declared.persistence.Persistence.TheVariants.{Close}
 use Rattle.req_view.specs.Heads.{HasNoHead}
-use Rattle.body_coder.specs.Readings.{read, start_of}
-use Rattle.body_coder.specs.Stops.{is_bad}
+use Rattle.http_bodies.specs.Readings.{read, start_of}
+use Rattle.http_bodies.specs.Stops.{is_bad}
 use Rattle.exchange_machine.specs.Answerings.{TellsAnswer}
 use Rattle.exchange_machine.specs.Headline.{AreTries, IsFair, ClientText, ToClient, ToServer}
-use Rattle.exchange_machine.specs.Histories.{History, passes_of, reached_by}
+use Rattle.exchange_machine.specs.Histories.{ExchangeHistory, passes_of, reached_by}
 use Rattle.exchange_machine.specs.Reasons.{HasEnded, Shows}
 use Rattle.exchange_machine.specs.Repeats.{IsTry}
 use Rattle.exchange_machine.specs.Requests.{IsAskedBy, IsNoRequest, LacksHead}
@@ -30,12 +30,12 @@ use Rattle.exchange_machine.specs.declared.asking.Turn.{Turn}
 use Rattle.exchange_machine.specs.declared.asking.Turn.TheVariants as Turns
 
 -- no server was sent a byte, and none sent one
-pub record IsUnsent (h : History) : Type 0 where
+pub record IsUnsent (h : ExchangeHistory) : Type 0 where
   pub server : h.to_server ≡ []
   pub answer : h.server_in ≡ []
 
 -- nothing has happened but that bytes came from the client
-pub record IsFresh (h : History) : Type 0 where
+pub record HistoryIsFresh (h : ExchangeHistory) : Type 0 where
   pub unsent : IsUnsent h
   pub silent : h.to_client ≡ []
   pub grants : h.grants ≡ []
@@ -43,18 +43,18 @@ pub record IsFresh (h : History) : Type 0 where
   pub untried : h.tries ≡ []
 
 -- the head isn't whole yet
-pub record IsAsking (a : Asking) (h : History) : Type 0 where
-  pub fresh : IsFresh h
+pub record IsAsking (a : Asking) (h : ExchangeHistory) : Type 0 where
+  pub fresh : HistoryIsFresh h
   pub held : h.client_in ≡ a.held.items
   pub none : HasNoHead h.client_in
 
 -- the head was read, with these bytes after it
-pub record IsAsked (a : Asked) (h : History) : Type 0 where
+pub record IsAsked (a : Asked) (h : ExchangeHistory) : Type 0 where
   pub asked : IsAskedBy h.client_in a.view a.held.items
   pub framed : request_framing a.view ≡ Some a.framing
 
 -- nothing is sent before the pass comes
-pub record IsWaiting (w : Waiting) (h : History) : Type 0 where
+pub record IsWaiting (w : Waiting) (h : ExchangeHistory) : Type 0 where
   pub unsent : IsUnsent h
   pub asked : IsAsked w.asked h
   pub silent : h.to_client ≡ []
@@ -62,7 +62,7 @@ pub record IsWaiting (w : Waiting) (h : History) : Type 0 where
   pub fair : AllByRecursion IsFair h.posts
   pub tries : AllByRecursion (IsTry w.asked.view) h.tries
 
-pub record IsDialing (d : Dialing) (h : History) : Type 0 where
+pub record IsDialing (d : Dialing) (h : ExchangeHistory) : Type 0 where
   pub unsent : IsUnsent h
   pub asked : IsAsked d.waiting.asked h
   pub silent : h.to_client ≡ []
@@ -80,7 +80,7 @@ pub record HasLeave (count : ℕ) (leave went out : List ℕ) : Type 0 where
   pub out_is : out ≡ left ++ behind
 
 -- both sides are active
-pub record IsPassing (p : Passing) (h : History) : Type 0 where
+pub record IsPassing (p : Passing) (h : ExchangeHistory) : Type 0 where
   pub behind : List ℕ
   pub asked : IsAskedBy h.client_in p.view behind
   pub request : List ℕ
@@ -101,7 +101,7 @@ pub record IsPassing (p : Passing) (h : History) : Type 0 where
   pub leave : p.begun ≡ false → HasLeave p.leave_left (leave_text p.view) h.to_client p.down.out
 
 -- the pass was posted, and the last bytes for the client wait
-pub record IsLeaving (l : Leaving) (h : History) : Type 0 where
+pub record IsLeaving (l : Leaving) (h : ExchangeHistory) : Type 0 where
   pub server : ToServer h
   pub text : List ℕ
   pub client : ClientText h text
@@ -113,12 +113,12 @@ pub record IsLeaving (l : Leaving) (h : History) : Type 0 where
   pub tried : AreTries h
 
 -- the bytes are refused before a pass is asked for, for this reason
-pub record IsUnread (why : Fault) (h : History) : Type 0 where
+pub record IsUnread (why : Fault) (h : ExchangeHistory) : Type 0 where
   pub reason : IsNoRequest why h.client_in
-  pub fresh : IsFresh h
+  pub fresh : HistoryIsFresh h
 
 -- the result of reading a head further
-abbrev pub IsTurn : Turn → History → Type 0
+abbrev pub IsTurn : Turn → ExchangeHistory → Type 0
 IsTurn (Turns.More a) h = IsAsking a h
 IsTurn (Turns.Whole w) h = IsWaiting w h
 IsTurn (Turns.Refused held why) h = IsUnread why h
@@ -142,7 +142,7 @@ HeadSays (Turns.Whole w) bytes = Unit {0}
 HeadSays (Turns.Refused held why) bytes = LacksHead why bytes
 
 -- a refusal is sent, without an outbox
-pub record IsTelling (t : Telling) (h : History) : Type 0 where
+pub record IsTelling (t : Telling) (h : ExchangeHistory) : Type 0 where
   pub server : ToServer h
   pub text : List ℕ
   pub client : ClientText h text
@@ -152,7 +152,7 @@ pub record IsTelling (t : Telling) (h : History) : Type 0 where
   pub tried : AreTries h
 
 -- the exchange is over
-pub record IsOver (h : History) : Type 0 where
+pub record IsOver (h : ExchangeHistory) : Type 0 where
   pub server : ToServer h
   pub client : ToClient h
   pub grants : h.grants ≡ passes_of h.posts

@@ -1,6 +1,6 @@
 -- Which bytes the exchange waits for at both sides.
 use Rattle.std.specs.Prelude.{ℕ, Bool, true, false, ◌&&◌, not, ltb, List, [], ◌∷◌, length}
-use Rattle.body_coder.specs.Stops.{is_bad, is_done}
+use Rattle.http_bodies.specs.Stops.{is_bad, is_done}
 use Rattle.exchange_machine.specs.declared.passing.Passing.{Passing}
 use Rattle.exchange_machine.specs.declared.sides.Down.{Down}
 use Rattle.exchange_machine.specs.declared.sides.Down.TheVariants.{Heads, Body}

@@ -1,19 +1,18 @@
 ghost use Rattle.std.specs.Prelude.{◌≡◌, ◌≤◌, ◌++◌, List, [], length, take, drop, false};
-ghost use Rattle.exchange_machine.specs.Histories.{History, client_came, nothing_yet};
+ghost use Rattle.exchange_machine.specs.Histories.{ExchangeHistory, client_came, nothing_yet};
 ghost use Rattle.exchange_machine.specs.Reasons.{Shows};
 ghost use Rattle.exchange_machine.specs.Stages as stages;
 ghost use Rattle.exchange_machine.specs.Wants.{is_none};
 ghost use Rattle.http_texts.specs.Heads.{LacksRequest};
 ghost use Rattle.req_view.specs.Heads.{HasNoHead, Waits};
 
-use crate::held::{HEAD_BYTES, forget, has_feed};
+use crate::held::{forget, has_feed};
 use crate::signs::Sign;
 use crate::telling::Telling;
 use crate::waiting::{Asked, Waiting};
-use body_coder::Coding;
+use http_bodies::{Coding, Framing};
 use http_texts::{Code, Fault, fault_of, request_framing};
-use relay_body::Framing;
-use req_view::{View, Viewed, view};
+use req_view::{HEAD_BYTES, View, Viewed, view};
 use std::alloc::Global;
 
 /// An exchange whose request head is being read. It holds the bytes that came, at most 16 KiB.
@@ -26,7 +25,7 @@ pub struct Asking {
 pub enum Turn {
     More(Asking),
     Whole(Waiting),
-    /// The bytes can't become a head, their framing is unsound, or the bytes behind the head are no
+    /// The bytes can't become a head, their framing is unsound, or the bytes after the head are no
     /// body: 400. Or memory is short.
     Refused(Vec<u8>, Fault),
 }
@@ -57,7 +56,7 @@ impl Asking {
     /// ends. `O(n)`; at a line's end in all bytes that are held.
     pub fn client_bytes(self, alloc: Global, input: &[u8]) -> (usize, Turn)
         ensures within { result.0 ≤ length input.now }
-        ensures turn { (h : History) → stages.IsAsking self h → stages.IsTurn result.1 (client_came h (take result.0 input.now)) }
+        ensures turn { (h : ExchangeHistory) → stages.IsAsking self h → stages.IsTurn result.1 (client_came h (take result.0 input.now)) }
         ensures more { stages.IsMore result.1 → result.0 ≡ length input.now }
         ensures checked { stages.IsChecked result.1 }
     {
@@ -65,10 +64,10 @@ impl Asking {
         (used, looked_behind(turn))
     }
 
-    /// The same, whatever stands behind a head, even if it can't be its body.
+    /// The same, whatever stands after a head, even if it can't be its body.
     pub fn head_bytes(self, alloc: Global, input: &[u8]) -> (usize, Turn)
         ensures within { result.0 ≤ length input.now }
-        ensures turn { (h : History) → stages.IsAsking self h → stages.IsTurn result.1 (client_came h (take result.0 input.now)) }
+        ensures turn { (h : ExchangeHistory) → stages.IsAsking self h → stages.IsTurn result.1 (client_came h (take result.0 input.now)) }
         ensures says { stages.HeadSays result.1 (self.held.items ++ take result.0 input.now) }
         ensures more { stages.IsMore result.1 → result.0 ≡ length input.now }
     {
@@ -91,8 +90,8 @@ impl Asking {
 
     /// The client sends no more: returns the fault of its bytes. `O(n)`.
     pub fn fault(&self, alloc: Global) -> Fault
-        ensures lacks { (h : History) → stages.IsAsking self.now h → LacksRequest result h.client_in }
-        ensures waits { result ≡ Fault.Read → (h : History) → stages.IsAsking self.now h → Waits h.client_in }
+        ensures lacks { (h : ExchangeHistory) → stages.IsAsking self.now h → LacksRequest result h.client_in }
+        ensures waits { result ≡ Fault.Read → (h : ExchangeHistory) → stages.IsAsking self.now h → Waits h.client_in }
     {
         match view(alloc, self.held.as_slice()) {
             Viewed::Refused(why) => fault_of(why),
@@ -102,7 +101,7 @@ impl Asking {
 
     /// `timeout client` expired before a whole request came: 400.
     pub fn late(self) -> Telling
-        ensures { (h : History) → stages.IsAsking self h → Shows h.signs Sign.ClientOver → stages.IsTelling result h }
+        ensures { (h : ExchangeHistory) → stages.IsAsking self h → Shows h.signs Sign.ClientOver → stages.IsTelling result h }
     {
         Telling::of(Code::BadRequest)
     }
@@ -110,18 +109,18 @@ impl Asking {
 
 // Looks for a head where a line has ended since the last look; else there can be none.
 fn look_further(alloc: Global, held: Vec<u8>, feed: bool) -> Turn
-    ensures turn { (h : History) → stages.IsFresh h → h.client_in ≡ held.items → (feed ≡ false → HasNoHead h.client_in) → stages.IsTurn result h }
+    ensures turn { (h : ExchangeHistory) → stages.HistoryIsFresh h → h.client_in ≡ held.items → (feed ≡ false → HasNoHead h.client_in) → stages.IsTurn result h }
     ensures says { stages.HeadSays result held.items }
 {
     if !feed && held.len() < HEAD_BYTES {
         return Turn::More(Asking { held });
     }
-    look(alloc, held)
+    find_head(alloc, held)
 }
 
 // Looks for a head in the bytes that came.
-fn look(alloc: Global, held: Vec<u8>) -> Turn
-    ensures turn { (h : History) → stages.IsFresh h → h.client_in ≡ held.items → stages.IsTurn result h }
+fn find_head(alloc: Global, held: Vec<u8>) -> Turn
+    ensures turn { (h : ExchangeHistory) → stages.HistoryIsFresh h → h.client_in ≡ held.items → stages.IsTurn result h }
     ensures says { stages.HeadSays result held.items }
 {
     match view(alloc, held.as_slice()) {
@@ -134,16 +133,16 @@ fn look(alloc: Global, held: Vec<u8>) -> Turn
     }
 }
 
-// Looks for a head in the bytes that came, and at what stands behind it.
+// Looks for a head in the bytes that came, and at what stands after it.
 pub(crate) fn look_on(alloc: Global, held: Vec<u8>) -> Turn
-    ensures turn { (h : History) → stages.IsFresh h → h.client_in ≡ held.items → stages.IsTurn result h }
+    ensures turn { (h : ExchangeHistory) → stages.HistoryIsFresh h → h.client_in ≡ held.items → stages.IsTurn result h }
     ensures checked { stages.IsChecked result }
 {
-    looked_behind(look(alloc, held))
+    looked_behind(find_head(alloc, held))
 }
 
 fn looked_behind(turn: Turn) -> Turn
-    ensures turn { (h : History) → stages.IsFresh h → stages.IsTurn turn h → stages.IsTurn result h }
+    ensures turn { (h : ExchangeHistory) → stages.HistoryIsFresh h → stages.IsTurn turn h → stages.IsTurn result h }
     ensures more { stages.IsMore result → stages.IsMore turn }
     ensures checked { stages.IsChecked result }
 {
@@ -153,9 +152,9 @@ fn looked_behind(turn: Turn) -> Turn
     }
 }
 
-// Checks whether the bytes behind a head are a body or may become one.
+// Checks whether the bytes after a head are a body or may become one.
 fn look_behind(waiting: Waiting) -> Turn
-    ensures turn { (h : History) → stages.IsFresh h → stages.IsWaiting waiting h → stages.IsTurn result h }
+    ensures turn { (h : ExchangeHistory) → stages.HistoryIsFresh h → stages.IsWaiting waiting h → stages.IsTurn result h }
     ensures more { stages.IsMore result → ⊥ }
     ensures checked { stages.IsChecked result }
 {

@@ -1,10 +1,10 @@
 ghost use Rattle.std.specs.Prelude.{◌≡◌, [], false, IfOk, IfErr};
-ghost use Rattle.exchange_machine.specs.Histories.{History, connected_on, posted};
+ghost use Rattle.exchange_machine.specs.Histories.{ExchangeHistory, connected_on, posted};
 ghost use Rattle.exchange_machine.specs.Repeatables as repeats;
 ghost use Rattle.exchange_machine.specs.Stages as stages;
 ghost use Rattle.http_texts.specs.Replies.{leave_text};
 ghost use Rattle.http_texts.specs.Texts.{request_text};
-ghost use Rattle.verdict.specs.declared.Ending.TheVariants as ending;
+ghost use Rattle.base_verdict.specs.declared.Ending.TheVariants as ending;
 
 use crate::passing::Passing;
 use crate::repeating::{is_bare, is_idempotent};
@@ -38,7 +38,7 @@ pub struct Terms {
 impl Dialing {
     /// The client has left: the pass is posted as done, since the server isn't to blame.
     pub fn abandon(self) -> Pass
-        ensures ends { (h : History) → stages.IsDialing self h → stages.IsOver (posted h result ending.Done) }
+        ensures ends { (h : ExchangeHistory) → stages.IsDialing self h → stages.IsOver (posted h result ending.Done) }
         ensures pass { result ≡ self.pass }
     {
         let Dialing {
@@ -75,7 +75,7 @@ impl Dialing {
     /// and the exchange may wait for another.
     pub fn fail(self) -> (Waiting, Pass)
         requires { self.reached ≡ false }
-        ensures { (h : History) → stages.IsDialing self h → stages.IsWaiting result.0 (posted h result.1 ending.Failed) }
+        ensures { (h : ExchangeHistory) → stages.IsDialing self h → stages.IsWaiting result.0 (posted h result.1 ending.Failed) }
     {
         let Dialing {
             waiting,
@@ -87,7 +87,7 @@ impl Dialing {
 
     /// The exchange makes no more tries: the pass is posted as done, and the client is to be told why.
     pub fn give_up(self) -> (Waiting, Pass)
-        ensures { (h : History) → stages.IsDialing self h → stages.IsWaiting result.0 (posted h result.1 ending.Done) }
+        ensures { (h : ExchangeHistory) → stages.IsDialing self h → stages.IsWaiting result.0 (posted h result.1 ending.Done) }
     {
         let Dialing {
             waiting,
@@ -108,7 +108,7 @@ impl Dialing {
     ) -> Result<Passing, Dialing>
         requires up { up.out ≡ [] }
         requires down { down.out ≡ [] }
-        ensures passes { IfOk result (λ passing. (h : History) → stages.IsDialing self h → stages.IsPassing passing (connected_on h terms.adds)) }
+        ensures passes { IfOk result (λ passing. (h : ExchangeHistory) → stages.IsDialing self h → stages.IsPassing passing (connected_on h terms.adds)) }
         ensures said { IfOk result (λ passing. (passing.adds ≡ terms.adds) × (passing.willing ≡ terms.willing) × (passing.fresh ≡ terms.fresh)) }
         ensures same { IfErr result (λ dialing. dialing ≡ self) }
     {
@@ -132,7 +132,7 @@ impl Dialing {
     fn begin(self, alloc: Global, mut up: Way, down: Way, terms: Terms) -> Passing
         requires up { up.out ≡ request_text terms.adds self.waiting.asked.view self.waiting.asked.framing }
         requires down { down.out ≡ leave_text self.waiting.asked.view }
-        ensures passes { (h : History) → stages.IsDialing self h → stages.IsPassing result (connected_on h terms.adds) }
+        ensures passes { (h : ExchangeHistory) → stages.IsDialing self h → stages.IsPassing result (connected_on h terms.adds) }
         ensures said { (result.adds ≡ terms.adds) × (result.willing ≡ terms.willing) × (result.fresh ≡ terms.fresh) }
     {
         up.begin(self.waiting.asked.framing, true);

@@ -1,7 +1,7 @@
 //! The heads that a server sends: they are found in its bytes, and handed on.
 
 ghost use Rattle.std.specs.Prelude.{◌≡◌, ◌≢◌, ◌<◌, ℕ, true, false, Some, IsSome};
-ghost use Rattle.exchange_machine.specs.Histories.{History};
+ghost use Rattle.exchange_machine.specs.Histories.{ExchangeHistory};
 ghost use Rattle.exchange_machine.specs.Reasons.{LacksAnswer};
 ghost use Rattle.exchange_machine.specs.Findings.{IsSeen};
 ghost use Rattle.exchange_machine.specs.Stages as stages;
@@ -66,8 +66,8 @@ impl Passing {
     /// Looks for a head in the held bytes, where a line has ended since the last look, and hands it
     /// on. Nothing else changes.
     pub fn read_head(&mut self, alloc: Global) -> Headed
-        ensures passes { (h : History) → stages.IsPassing self.old h → stages.IsPassing self.new h }
-        ensures refused { result ≡ Headed.Refused → (h : History) → stages.IsPassing self.old h → LacksAnswer self.new.view.method h.server_in }
+        ensures passes { (h : ExchangeHistory) → stages.IsPassing self.old h → stages.IsPassing self.new h }
+        ensures refused { result ≡ Headed.Refused → (h : ExchangeHistory) → stages.IsPassing self.old h → LacksAnswer self.new.view.method h.server_in }
     {
         let Down::Heads(count) = self.phase else {
             return Headed::Answer;
@@ -93,7 +93,7 @@ impl Passing {
         requires interim { is_interim head.now.status ≡ true }
         requires few { count < 8 }
         ensures answered { result ≢ Headed.Refused }
-        ensures passes { (h : History) → stages.IsPassing self.old h → stages.IsPassing self.new h }
+        ensures passes { (h : ExchangeHistory) → stages.IsPassing self.old h → stages.IsPassing self.new h }
     {
         let framed = is_framed(self.view.version());
         let Ok(text) = interim_head(alloc, head, framed) else {
@@ -113,7 +113,7 @@ impl Passing {
         requires planned { answer_plan self.old.view.method head.now ≡ Some plan }
         requires last { is_interim head.now.status ≡ false }
         ensures answered { result ≢ Headed.Refused }
-        ensures passes { (h : History) → stages.IsPassing self.old h → stages.IsPassing self.new h }
+        ensures passes { (h : ExchangeHistory) → stages.IsPassing self.old h → stages.IsPassing self.new h }
     {
         let framed = is_framed(self.view.version());
         let says = answer_says(self.willing, &self.view, plan);

@@ -1,9 +1,7 @@
 ghost use Rattle.std.specs.Prelude.{◌≡◌, ◌==◌, drop};
 ghost use Rattle.std.specs.List.{list_any};
 
-/// The most bytes of a head.
-pub(crate) const HEAD_BYTES: usize = 16_384;
-
+use req_view::HEAD_BYTES;
 /// Says whether a line ends in the bytes.
 pub(crate) fn has_feed(bytes: &[u8]) -> bool
     ensures { result ≡ list_any (λ byte. byte == 10) bytes.now }

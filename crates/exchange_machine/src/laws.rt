@@ -1,11 +1,11 @@
 ghost use Rattle.std.specs.Prelude.{◌≡◌, ◌++◌, ℕ, List, [], Bool, true};
-ghost use Rattle.list_facts.specs.Fronts.{IsFront};
-ghost use Rattle.relay_body.specs.Framings.{IsBody};
-ghost use Rattle.relay_body.specs.declared.framing.Framing as framings;
-ghost use Rattle.body_coder.specs.Readings.{start_of};
-ghost use Rattle.body_coder.specs.Runs.{IsSent};
-ghost use Rattle.body_coder.specs.Stops.{is_done};
-ghost use Rattle.body_coder.specs.declared.coding.Coding as codings;
+ghost use Rattle.base_lists.specs.Fronts.{IsFront};
+ghost use Rattle.http_bodies.specs.Framings.{IsBody};
+ghost use Rattle.http_bodies.specs.declared.framing.Framing as framings;
+ghost use Rattle.http_bodies.specs.Readings.{start_of};
+ghost use Rattle.http_bodies.specs.Runs.{IsSent};
+ghost use Rattle.http_bodies.specs.Stops.{is_done};
+ghost use Rattle.http_bodies.specs.declared.coding.Coding as codings;
 ghost use Rattle.http_texts.specs.Messages.{PartOfForwarded, PartOfAnswered, IsForwarded, IsAnswered};
 ghost use Rattle.http_texts.specs.declared.additions.Additions as additions;
 ghost use Rattle.http_texts.specs.declared.persistence.Persistence as words;
@@ -14,9 +14,9 @@ ghost use Rattle.req_view.specs.Request.{Request};
 ghost use Rattle.exchange_machine.specs.Sides.{IsUp, IsDown};
 ghost use Rattle.exchange_machine.specs.Ways.{Hears};
 ghost use Rattle.exchange_machine.specs.declared.sides.Down as downs;
-ghost use Rattle.body_coder.specs.Runs.{IsLongest};
+ghost use Rattle.http_bodies.specs.Runs.{IsLongest};
 ghost use Rattle.exchange_machine.specs.Headline.{Sound};
-ghost use Rattle.exchange_machine.specs.Histories.{History};
+ghost use Rattle.exchange_machine.specs.Histories.{ExchangeHistory};
 ghost use Rattle.exchange_machine.specs.Settlings.{IsSettling};
 ghost use Rattle.exchange_machine.specs.Stages.{IsUnread, IsAsking, IsWaiting, IsDialing, IsPassing, IsLeaving, IsTelling, IsOver};
 ghost use Rattle.exchange_machine.specs.declared.asking.Asking as asking;
@@ -56,13 +56,13 @@ pub fn what_sides_send()
 
 /// The main theorem, at each stage: with the calls' clauses, it holds after any interleaving of them.
 pub fn what_holds()
-    ensures asking { (a : asking.Asking) (h : History) → IsAsking a h → Sound h }
-    ensures waiting { (w : waiting.Waiting) (h : History) → IsWaiting w h → Sound h }
-    ensures dialing { (d : dialing.Dialing) (h : History) → IsDialing d h → Sound h }
-    ensures passing { (p : passing.Passing) (h : History) → IsPassing p h → Sound h }
-    ensures settling { (s : settling.Settling) (h : History) → IsSettling s h → Sound h }
-    ensures unread { (fault : faults.Fault) (h : History) → IsUnread fault h → Sound h }
-    ensures leaving { (l : leaving.Leaving) (h : History) → IsLeaving l h → Sound h }
-    ensures telling { (t : telling.Telling) (h : History) → IsTelling t h → Sound h }
-    ensures over { (h : History) → IsOver h → Sound h }
+    ensures asking { (a : asking.Asking) (h : ExchangeHistory) → IsAsking a h → Sound h }
+    ensures waiting { (w : waiting.Waiting) (h : ExchangeHistory) → IsWaiting w h → Sound h }
+    ensures dialing { (d : dialing.Dialing) (h : ExchangeHistory) → IsDialing d h → Sound h }
+    ensures passing { (p : passing.Passing) (h : ExchangeHistory) → IsPassing p h → Sound h }
+    ensures settling { (s : settling.Settling) (h : ExchangeHistory) → IsSettling s h → Sound h }
+    ensures unread { (fault : faults.Fault) (h : ExchangeHistory) → IsUnread fault h → Sound h }
+    ensures leaving { (l : leaving.Leaving) (h : ExchangeHistory) → IsLeaving l h → Sound h }
+    ensures telling { (t : telling.Telling) (h : ExchangeHistory) → IsTelling t h → Sound h }
+    ensures over { (h : ExchangeHistory) → IsOver h → Sound h }
 {}

@@ -1,5 +1,5 @@
 ghost use Rattle.std.specs.Prelude.{◌≡◌, ◌≤◌, length, take};
-ghost use Rattle.exchange_machine.specs.Histories.{History, client_got};
+ghost use Rattle.exchange_machine.specs.Histories.{ExchangeHistory, client_got};
 ghost use Rattle.exchange_machine.specs.Stages as stages;
 
 use crate::way::Way;
@@ -41,7 +41,7 @@ impl Leaving {
     /// The client took this number of them.
     pub fn client_took(&mut self, count: usize)
         requires { count ≤ length self.old.out.out }
-        ensures took { (h : History) → stages.IsLeaving self.old h → stages.IsLeaving self.new (client_got h (take count self.old.out.out)) }
+        ensures took { (h : ExchangeHistory) → stages.IsLeaving self.old h → stages.IsLeaving self.new (client_got h (take count self.old.out.out)) }
         ensures whole { self.new.whole ≡ self.old.whole }
         ensures clean { self.new.clean ≡ self.old.clean }
     {

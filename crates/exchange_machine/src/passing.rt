@@ -1,19 +1,19 @@
 ghost use Rattle.std.specs.Prelude.{◌≡◌, ◌-◌, ◌≤◌, ◌++◌, [], length, take, drop, IfOk, OnErr, false, true, IsTrue};
-ghost use Rattle.body_coder.specs.Stops.{is_bad, is_done};
-ghost use Rattle.body_coder.specs.declared.coding.Coding as codings;
-ghost use Rattle.exchange_machine.specs.Histories.{History, client_came, server_came, server_got, client_got};
+ghost use Rattle.http_bodies.specs.Stops.{is_bad, is_done};
+ghost use Rattle.http_bodies.specs.declared.coding.Coding as codings;
+ghost use Rattle.exchange_machine.specs.Histories.{ExchangeHistory, client_came, server_came, server_got, client_got};
 ghost use Rattle.exchange_machine.specs.Answerings.{has_answered};
 ghost use Rattle.exchange_machine.specs.Reasons.{HasEnded, Shows};
 ghost use Rattle.exchange_machine.specs.Stages as stages;
 
-use crate::held::{HEAD_BYTES, forget, looks_again};
+use crate::held::{forget, looks_again};
 use crate::sides::Down;
 use crate::signs::Sign;
 use crate::way::Way;
 use grant_board::Pass;
+use http_bodies::Framing;
 use http_texts::{Additions, Persistence};
-use relay_body::Framing;
-use req_view::View;
+use req_view::{HEAD_BYTES, View};
 use std::alloc::AllocError;
 
 /// An exchange with both sides active: the request goes to the server, and the answer to the client.
@@ -45,7 +45,7 @@ pub struct Passing {
     pub(crate) well: bool,
     /// A line has ended in the held bytes since the last look for a head.
     pub(crate) looks: bool,
-    /// The client took a byte behind the `100`.
+    /// The client took a byte after the `100`.
     pub(crate) begun: bool,
     /// The number of bytes of the `100` that the client is still to take.
     pub(crate) leave_left: usize,
@@ -64,7 +64,7 @@ impl Passing {
     /// Takes bytes of the client, no more than there is room for, and returns how many.
     pub fn client_bytes(&mut self, input: &[u8]) -> usize
         ensures within { result ≤ length input.now }
-        ensures passes { (h : History) → stages.IsPassing self.old h → self.old.up_held.items ≡ []
+        ensures passes { (h : ExchangeHistory) → stages.IsPassing self.old h → self.old.up_held.items ≡ []
             → stages.IsPassing self.new (client_came h (take result input.now)) }
     {
         if self.cut {
@@ -74,7 +74,7 @@ impl Passing {
         fed.used
     }
 
-    /// Says whether no bytes from behind the request's head are held.
+    /// Says whether no bytes from after the request's head are held.
     pub fn holds_none(&self) -> bool
         ensures none { IsTrue result → self.now.up_held.items ≡ [] }
         ensures each { self.now.up_held.items ≡ [] → IsTrue result }
@@ -82,18 +82,18 @@ impl Passing {
         self.up_held.is_empty()
     }
 
-    /// Uses the bytes from behind the request's head, before any new ones.
+    /// Uses the bytes from after the request's head, before any new ones.
     pub fn use_held(&mut self)
-        ensures { (h : History) → stages.IsPassing self.old h → stages.IsPassing self.new h }
+        ensures { (h : ExchangeHistory) → stages.IsPassing self.old h → stages.IsPassing self.new h }
     {
         let fed = self.up.take(self.up_held.as_slice());
         forget(&mut self.up_held, fed.used);
     }
 
-    /// Uses the bytes from behind the answer's head, before any new ones.
+    /// Uses the bytes from after the answer's head, before any new ones.
     pub fn use_answer_held(&mut self)
         requires { self.old.phase ≡ Down.Body }
-        ensures passes { (h : History) → stages.IsPassing self.old h → stages.IsPassing self.new h }
+        ensures passes { (h : ExchangeHistory) → stages.IsPassing self.old h → stages.IsPassing self.new h }
         ensures body { self.new.phase ≡ Down.Body }
     {
         let fed = self.down.take(self.down_held.as_slice());
@@ -102,7 +102,7 @@ impl Passing {
 
     /// The server takes no more: no more of the request is sent or taken.
     pub fn cut_off(&mut self)
-        ensures passes { (h : History) → stages.IsPassing self.old h → stages.IsPassing self.new h }
+        ensures passes { (h : ExchangeHistory) → stages.IsPassing self.old h → stages.IsPassing self.new h }
         ensures cut { self.new.cut ≡ true }
     {
         self.cut = true;
@@ -117,7 +117,7 @@ impl Passing {
 
     /// The server was reached, on a new connection or a used one.
     pub fn connect(&mut self, fresh: bool)
-        ensures passes { (h : History) → stages.IsPassing self.old h → stages.IsPassing self.new h }
+        ensures passes { (h : ExchangeHistory) → stages.IsPassing self.old h → stages.IsPassing self.new h }
         ensures there { (self.new.dialing ≡ false) × (self.new.fresh ≡ fresh) }
     {
         self.fresh = fresh;
@@ -133,7 +133,7 @@ impl Passing {
 
     /// The server sends no more, or its connection can't be read: all bytes that came were taken before.
     pub fn server_ended(&mut self, well: bool)
-        ensures passes { (h : History) → stages.IsPassing self.old h → HasEnded h.signs → (well ≡ true → Shows h.signs Sign.ServerEnded)
+        ensures passes { (h : ExchangeHistory) → stages.IsPassing self.old h → HasEnded h.signs → (well ≡ true → Shows h.signs Sign.ServerEnded)
             → stages.IsPassing self.new h }
         ensures ended { (self.new.ended ≡ true) × (self.new.well ≡ well) }
     {
@@ -230,7 +230,7 @@ impl Passing {
     /// The server took this number of them.
     pub fn server_took(&mut self, count: usize)
         requires { count ≤ length self.old.up.out }
-        ensures { (h : History) → stages.IsPassing self.old h → stages.IsPassing self.new (server_got h (take count self.old.up.out)) }
+        ensures { (h : ExchangeHistory) → stages.IsPassing self.old h → stages.IsPassing self.new (server_got h (take count self.old.up.out)) }
     {
         self.reached = true;
         self.up.went(count);
@@ -246,7 +246,7 @@ impl Passing {
     /// The client took this number of them.
     pub fn client_took(&mut self, count: usize)
         requires { count ≤ length self.old.down.out }
-        ensures { (h : History) → stages.IsPassing self.old h → stages.IsPassing self.new (client_got h (take count self.old.down.out)) }
+        ensures { (h : ExchangeHistory) → stages.IsPassing self.old h → stages.IsPassing self.new (client_got h (take count self.old.down.out)) }
     {
         let (begun, leave_left) = leave_told(self.begun, self.leave_left, count);
         self.begun = begun;
@@ -259,7 +259,7 @@ impl Passing {
         requires body { self.old.phase ≡ Down.Body }
         requires first { self.old.down_held.items ≡ [] }
         ensures within { result ≤ length input.now }
-        ensures passes { (h : History) → stages.IsPassing self.old h → stages.IsPassing self.new (server_came h (take result input.now)) }
+        ensures passes { (h : ExchangeHistory) → stages.IsPassing self.old h → stages.IsPassing self.new (server_came h (take result input.now)) }
     {
         let fed = self.down.take(input);
         fed.used
@@ -268,8 +268,8 @@ impl Passing {
     /// Takes bytes of the heads before the answer's body, and returns how many. At most 16 KiB are held.
     pub fn server_head_bytes(&mut self, input: &[u8]) -> Result<usize, AllocError>
         ensures within { IfOk result (λ used. used ≤ length input.now) }
-        ensures passes { IfOk result (λ used. (h : History) → stages.IsPassing self.old h → stages.IsPassing self.new (server_came h (take used input.now))) }
-        ensures err { OnErr result ((h : History) → stages.IsPassing self.old h → stages.IsPassing self.new h) }
+        ensures passes { IfOk result (λ used. (h : ExchangeHistory) → stages.IsPassing self.old h → stages.IsPassing self.new (server_came h (take used input.now))) }
+        ensures err { OnErr result ((h : ExchangeHistory) → stages.IsPassing self.old h → stages.IsPassing self.new h) }
     {
         let room = HEAD_BYTES.saturating_sub(self.down_held.len());
         let used = input.len().min(room);
@@ -284,7 +284,7 @@ impl Passing {
     }
 }
 
-// Says whether bytes behind the `100` were taken, and how many bytes of it weren't, once `count` more were.
+// Says whether bytes after the `100` were taken, and how many bytes of it weren't, once `count` more were.
 fn leave_told(begun: bool, left: usize, count: usize) -> (bool, usize)
     ensures { result.0 ≡ false → (begun ≡ false) × (count ≤ left) × (result.1 ≡ left - count) }
 {

@@ -1,5 +1,5 @@
 ghost use Rattle.std.specs.Prelude.{◌≡◌, ◌≤◌, length, take, drop};
-ghost use Rattle.exchange_machine.specs.Histories.{History, client_got};
+ghost use Rattle.exchange_machine.specs.Histories.{ExchangeHistory, client_got};
 ghost use Rattle.exchange_machine.specs.Settlings as settling;
 ghost use Rattle.exchange_machine.specs.Stages as stages;
 ghost use Rattle.exchange_machine.specs.Wholes.{begun};
@@ -36,7 +36,7 @@ impl Settling {
     /// The client took this number of them.
     pub fn client_took(&mut self, count: usize)
         requires { count ≤ length self.old.out.out }
-        ensures took { (h : History) → settling.IsSettling self.old h → settling.IsSettling self.new (client_got h (take count self.old.out.out)) }
+        ensures took { (h : ExchangeHistory) → settling.IsSettling self.old h → settling.IsSettling self.new (client_got h (take count self.old.out.out)) }
         ensures behind { self.new.behind ≡ self.old.behind }
         ensures out { self.new.out.out ≡ drop count self.old.out.out }
     {

@@ -1,5 +1,5 @@
 ghost use Rattle.std.specs.Prelude.{◌≡◌, ◌≢◌, ◌≤◌, [], length, take};
-ghost use Rattle.exchange_machine.specs.Histories.{History, client_got, signed};
+ghost use Rattle.exchange_machine.specs.Histories.{ExchangeHistory, client_got, signed};
 ghost use Rattle.exchange_machine.specs.Stages as stages;
 ghost use Rattle.http_texts.specs.Replies.{refusal_text};
 ghost use Rattle.http_texts.specs.declared.fault.Fault as faults;
@@ -23,14 +23,14 @@ impl Telling {
     /// Refuses bytes that the proxy doesn't accept: 400.
     pub fn of_fault(fault: Fault) -> Telling
         requires { fault ≢ Fault.NoMemory }
-        ensures { (h : History) → stages.IsUnread fault h → stages.IsTelling result h }
+        ensures { (h : ExchangeHistory) → stages.IsUnread fault h → stages.IsTelling result h }
     {
         Telling::of(Code::BadRequest)
     }
 
     /// Refuses a request for want of memory: 503.
     pub fn starved() -> Telling
-        ensures { (fault : faults.Fault) (h : History) → stages.IsUnread fault h → stages.IsTelling result (signed h Sign.NoMemory) }
+        ensures { (fault : faults.Fault) (h : ExchangeHistory) → stages.IsUnread fault h → stages.IsTelling result (signed h Sign.NoMemory) }
     {
         Telling::of(Code::Unavailable)
     }
@@ -45,7 +45,7 @@ impl Telling {
     /// The client took this number of them.
     pub fn client_took(&mut self, count: usize)
         requires { count ≤ length self.old.rest.now }
-        ensures { (h : History) → stages.IsTelling self.old h → stages.IsTelling self.new (client_got h (take count self.old.rest.now)) }
+        ensures { (h : ExchangeHistory) → stages.IsTelling self.old h → stages.IsTelling self.new (client_got h (take count self.old.rest.now)) }
     {
         let (_, rest) = self.rest.split_at(count);
         self.rest = rest;

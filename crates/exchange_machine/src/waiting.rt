@@ -1,13 +1,13 @@
 ghost use Rattle.std.specs.Prelude.{◌≡◌};
-ghost use Rattle.exchange_machine.specs.Histories.{History, granted};
+ghost use Rattle.exchange_machine.specs.Histories.{ExchangeHistory, granted};
 ghost use Rattle.exchange_machine.specs.Reasons.{Reason};
 ghost use Rattle.exchange_machine.specs.Stages as stages;
 
 use crate::dialing::Dialing;
 use crate::telling::Telling;
 use grant_board::Pass;
+use http_bodies::Framing;
 use http_texts::Code;
-use relay_body::Framing;
 use req_view::View;
 
 /// A request whose head was read, and the bytes after it.
@@ -43,7 +43,7 @@ impl Waiting {
 
     /// A pass comes.
     pub fn grant(self, pass: Pass) -> Dialing
-        ensures dials { (h : History) → stages.IsWaiting self h → stages.IsDialing result (granted h pass) }
+        ensures dials { (h : ExchangeHistory) → stages.IsWaiting self h → stages.IsDialing result (granted h pass) }
         ensures pass { result.pass ≡ pass }
     {
         Dialing {
@@ -55,7 +55,7 @@ impl Waiting {
 
     /// No pass comes, for this reason.
     pub fn refuse(self, code: Code) -> Telling
-        ensures { (h : History) → stages.IsWaiting self h → Reason h.signs self.asked.view self.asked.held.items h.server_in code → stages.IsTelling result h }
+        ensures { (h : ExchangeHistory) → stages.IsWaiting self h → Reason h.signs self.asked.view self.asked.held.items h.server_in code → stages.IsTelling result h }
     {
         Telling::of(code)
     }

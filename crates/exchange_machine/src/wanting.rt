@@ -3,10 +3,10 @@
 ghost use Rattle.std.specs.Prelude.{◌≡◌};
 ghost use Rattle.exchange_machine.specs.Wants as wants;
 
-use crate::held::HEAD_BYTES;
 use crate::passing::Passing;
 use crate::sides::Down;
-use body_coder::OUTBOX_BYTES;
+use http_bodies::OUTBOX_BYTES;
+use req_view::HEAD_BYTES;
 
 /// There is room for more of a body where no more bytes than this wait to be sent.
 const ROOMY: usize = 16_384;

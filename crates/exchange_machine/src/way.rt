@@ -1,12 +1,11 @@
 ghost use Rattle.std.specs.Prelude.{◌≡◌, ◌==◌, ◌+◌, ◌≤◌, ◌<◌, ◌++◌, ℕ, List, [], length, take, drop, IfOk, OnOk, IsTrue};
-ghost use Rattle.body_coder.specs.Readings.{start_of};
-ghost use Rattle.body_coder.specs.Stops.{Tells, is_bad, is_done};
-ghost use Rattle.body_coder.specs.declared.coding.Coding as codings;
+ghost use Rattle.http_bodies.specs.Readings.{start_of};
+ghost use Rattle.http_bodies.specs.Stops.{Tells, is_bad, is_done};
+ghost use Rattle.http_bodies.specs.declared.coding.Coding as codings;
 ghost use Rattle.exchange_machine.specs.Ways.{Hears, is_read};
-ghost use Rattle.list_facts.specs.Fronts.{IsFront};
+ghost use Rattle.base_lists.specs.Fronts.{IsFront};
 
-use body_coder::{Coding, Fed, OUTBOX_BYTES, Outbox, State};
-use relay_body::Framing;
+use http_bodies::{Coding, Fed, Framing, OUTBOX_BYTES, Outbox, State};
 use std::alloc::{AllocError, Global};
 
 /// One direction of an exchange: a head's text, and then a body. Bytes of the body are taken as

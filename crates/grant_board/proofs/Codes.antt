@@ -1,9 +1,9 @@
 -- Words that have one number are one word.
 use Rattle.std.proofs.Common.{◌≡◌, ◌<◌, Option, Some, None, IfNone, ap, refl, arith}
-use Rattle.verdict.specs.declared.cause.Cause.TheVariants.{Aborted, Timeout, Retries, NoServer}
-use Rattle.verdict.specs.declared.Verdict.{Verdict}
-use Rattle.verdict.specs.declared.Verdict.TheVariants.{Serve, Told}
-use Rattle.verdict.specs.declared.Ending.TheVariants.{Done, Failed}
+use Rattle.base_verdict.specs.declared.cause.Cause.TheVariants.{Aborted, Timeout, Retries, NoServer}
+use Rattle.base_verdict.specs.declared.Verdict.{Verdict}
+use Rattle.base_verdict.specs.declared.Verdict.TheVariants.{Serve, Told}
+use Rattle.base_verdict.specs.declared.Ending.TheVariants.{Done, Failed}
 use Rattle.grant_board.specs.declared.laws.Word.{Word}
 use Rattle.grant_board.specs.declared.laws.Word.TheVariants.{Empty, Offered, Taken, Posted}
 use Rattle.grant_board.specs.BoardWords.{code_of, encode_of, IsWord, IsVerdict}

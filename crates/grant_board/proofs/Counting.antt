@@ -2,14 +2,14 @@
 use Rattle.std.proofs.Common.{◌≡◌, ℕ, ◌+◌, ◌<◌, ◌≤◌, ◌^◌, Bool, List, [], ◌∷◌, ◌++◌, length, slice_index, replicate, sym, ap, subst, arith}
 use Rattle.std.proofs.lemmas.List.{get_or-replicate, length-append}
 use Rattle.std.specs.List.{AllByRecursion}
-use Rattle.verdict.specs.declared.Ending.{Ending}
+use Rattle.base_verdict.specs.declared.Ending.{Ending}
 use Rattle.grant_board.specs.declared.tally.Tally.{Tally}
-use Rattle.list_facts.specs.Weights.{total}
-use Rattle.grant_board.specs.Views.{Grant, Terms, RelayView, serves_at, count_of, without}
+use Rattle.base_lists.specs.Weights.{total}
+use Rattle.grant_board.specs.Views.{Grant, Terms, RelayView, serves_at, count_of, grants_without}
 use Rattle.grant_board.specs.RelayCalls.{Relay, new_relay, relay_looked, take_after, post_after, join_after}
 use Rattle.grant_board.specs.Counted.{IsPassOf, IsCounted}
-use Rattle.list_facts.proofs.Totals.{total-append, total-push, total-one}
-use Rattle.list_facts.proofs.Members.{all_append}
+use Rattle.base_lists.proofs.Totals.{total-append, total-push, total-one}
+use Rattle.base_lists.proofs.Members.{all_append}
 use Rattle.grant_board.proofs.Grants.{count_of_le, all_without}
 
 -- no server's count is above the whole
@@ -55,9 +55,9 @@ pub counted_post : (x y : Relay) (b : Bool) (old new : Tally) (g : Grant) (e : E
     → ((h : Grant → ℕ) → total h y.view.passes + h g ≡ total h x.view.passes) → new.all + 1 ≡ old.all
     → ((m : ℕ) → m < 64 → slice_index new.of_server m + serves_at m g.verdict ≡ slice_index old.of_server m) → IsCounted y b new
 counted_post x y b old new g e counted is weighs all servers =
-    let same : (h : Grant → ℕ) → total h (without g.place x.view.passes) + h g ≡ total h x.view.passes = λ h.
+    let same : (h : Grant → ℕ) → total h (grants_without g.place x.view.passes) + h g ≡ total h x.view.passes = λ h.
     omega (arith, weighs h, ap (λ (z : Relay). total h z.view.passes) is) in
-    let left = without g.place x.view.passes in
+    let left = grants_without g.place x.view.passes in
     let one_less = same (λ _. 1) in
     subst (λ (z : Relay). IsCounted z b new) (sym is) (record {
       is_first = counted.is_first;

@@ -10,18 +10,18 @@ use lib.ListN.{get_elem?}
 use Rattle.atomic_table.specs.Table.{opening}
 use Rattle.grant_board.specs.declared.laws.Word.{Word}
 use Rattle.grant_board.specs.declared.laws.Word.TheVariants.{Empty, Offered, Taken, Posted}
-use Rattle.verdict.specs.declared.Ending.TheVariants.{Done, Failed}
+use Rattle.base_verdict.specs.declared.Ending.TheVariants.{Done, Failed}
 use Rattle.grant_board.specs.declared.view.View.{View}
 use Rattle.grant_board.specs.BoardWords.{code_of, encode_of, IsWord, IsWordAmong, nonzero}
-use Rattle.list_facts.specs.Weights.{total, along}
+use Rattle.base_lists.specs.Weights.{total, along}
 use Rattle.grant_board.specs.Views.{first_mark, Terms, KeeperView, KeeperPart, RelayView}
-use Rattle.grant_board.specs.Rule.{BoardState, standing, offered, taken, posted, as_return, of_relays}
+use Rattle.grant_board.specs.Rule.{BoardState, standing_weight, offered, taken, posted_weight, as_return, of_relays}
 use Rattle.grant_board.specs.Rule.{is_first, is_other, split_off, joined_in, Agrees, Orderly}
 use Rattle.grant_board.specs.Ruled.{view, at_rest}
 use Rattle.grant_board.specs.KeeperCalls.{new_keeper, IsClosed}
 use Rattle.grant_board.specs.RelayCalls.{new_relay}
 use Rattle.grant_board.specs.Plays.{Seated, seated, opened}
-use Rattle.list_facts.proofs.Totals.{total-one, total-take, weightless, alone}
+use Rattle.base_lists.proofs.Totals.{total-one, total-take, weightless, alone}
 use Rattle.grant_board.proofs.Finding.{keeper_alone}
 
 all_empty : ℕ → List Word
@@ -53,10 +53,10 @@ opens t =
       one_keeper = refl;
       one_first = refl;
       others = refl;
-      out = λ h. sym (along-empty (standing h) (λ k. refl) t.places 0);
+      out = λ h. sym (along-empty (standing_weight h) (λ k. refl) t.places 0);
       passes = λ h. sym (along-empty (taken h) (λ k. refl) t.places 0);
       offers = λ h. omega (arith, along-empty (offered h) (λ k. refl) t.places 0);
-      posts = λ h. omega (arith, along-empty (posted (as_return h)) (λ k. refl) t.places 0);
+      posts = λ h. omega (arith, along-empty (posted_weight (as_return h)) (λ k. refl) t.places 0);
       bounded = λ n some_bound. omega arith;
       sight = λ h. omega arith;
       agree = first_agrees;
@@ -126,7 +126,7 @@ first_alone t s o j keepers r me first settled f =
 
 closes_at : (k : KeeperPart) (s : BoardState) (o : Orderly k.view.terms s) (j : ℕ) (r : RelayView) (left : ℕ)
     → get_elem? s.views j ≡ some (view (k ∷ []) (r ∷ [])) → r.first ≡ true → r.split ≡ r.joined
-    → left ≡ along (standing (λ _. 1)) 0 o.cells → IsClosed k.view r left
+    → left ≡ along (standing_weight (λ _. 1)) 0 o.cells → IsClosed k.view r left
 closes_at k s o j r left me first settled is =
     let ks = keeper_alone k.view.terms s o j k (r ∷ []) me in
     let rs = first_alone k.view.terms s o j (k ∷ []) r me first settled in record {
@@ -143,10 +143,10 @@ closes_at k s o j r left me first settled is =
 -- the last state of the board, of whose words this many aren't empty
 pub closes : (t : Terms) (s : BoardState) (o : Orderly t s) (j : ℕ) (k : KeeperPart) (r : RelayView) (left : ℕ)
     → get_elem? s.views j ≡ some (view (k ∷ []) (r ∷ [])) → r.first ≡ true → r.split ≡ r.joined
-    → left ≡ along (standing (λ _. 1)) 0 o.cells → IsClosed k.view r left
+    → left ≡ along (standing_weight (λ _. 1)) 0 o.cells → IsClosed k.view r left
 closes t s o j k r left me first settled is =
     let same : k.view.terms ≡ t = (o.agree j (view (k ∷ []) (r ∷ [])) me).0.0.0 in
-    subst (λ (x : Terms). (y : Orderly x s) → left ≡ along (standing (λ _. 1)) 0 y.cells
+    subst (λ (x : Terms). (y : Orderly x s) → left ≡ along (standing_weight (λ _. 1)) 0 y.cells
     → IsClosed k.view r left) same (λ y at. closes_at k s y j r left me first settled at) o is
 
 pub opens_at : (t : Terms) (words : List ℕ) → words ≡ replicate t.places 0 ++ map first_mark t.limits → Orderly t (opening words [] (opened t))
@@ -159,14 +159,14 @@ pub nonzero-yes : (n : ℕ) → n ≢ 0 → nonzero n ≡ 1
 nonzero-yes n more = ap {B = ℕ} (λ (b : Bool). cond b 0 1) (ne_eqb n 0 more)
 
 -- how many words aren't empty
-nonzero-word : (k : ℕ) (c : Word) → nonzero (encode_of c) ≡ standing (λ _. 1) k c
+nonzero-word : (k : ℕ) (c : Word) → nonzero (encode_of c) ≡ standing_weight (λ _. 1) k c
 nonzero-word k Empty = refl
 nonzero-word k (Offered t d) = nonzero-yes (1024 * t + 4 * code_of d + 1) (omega arith)
 nonzero-word k (Taken t d) = nonzero-yes (1024 * t + 4 * code_of d + 2) (omega arith)
 nonzero-word k (Posted t d Done) = nonzero-yes (1024 * t + 4 * code_of d + 3) (omega arith)
 nonzero-word k (Posted t d Failed) = nonzero-yes (1024 * t + 512 + 4 * code_of d + 3) (omega arith)
 
-pub nonzero-words : (cells : List Word) (j : ℕ) → total nonzero (map encode_of cells) ≡ along (standing (λ _. 1)) j cells
+pub nonzero-words : (cells : List Word) (j : ℕ) → total nonzero (map encode_of cells) ≡ along (standing_weight (λ _. 1)) j cells
 nonzero-words [] j = refl
 nonzero-words (c ∷ cells) j = omega (arith, nonzero-word j c, nonzero-words cells (suc j))
 

@@ -4,20 +4,20 @@ use Rattle.std.proofs.Common.{◌∷◌, ◌++◌, map, length, get_or, slice_in
 use Rattle.std.proofs.lemmas.List.{get_or_append_left, get_or-append-add, length-map}
 use mathlib.Core.Option.{some}
 use lib.ListN.{get_elem?}
-use Rattle.verdict.specs.declared.Ending.{Ending}
-use Rattle.verdict.specs.declared.Ending.TheVariants.{Done, Failed}
+use Rattle.base_verdict.specs.declared.Ending.{Ending}
+use Rattle.base_verdict.specs.declared.Ending.TheVariants.{Done, Failed}
 use Rattle.grant_board.specs.declared.laws.Word.{Word}
 use Rattle.grant_board.specs.declared.laws.Word.TheVariants.{Empty, Offered, Taken, Posted}
 use Rattle.grant_board.specs.declared.view.View.{View}
 use Rattle.grant_board.specs.BoardWords.{encode_of}
-use Rattle.list_facts.specs.Weights.{total}
+use Rattle.base_lists.specs.Weights.{total}
 use Rattle.grant_board.specs.Views.{Grant, grant, Terms, KeeperPart, RelayView, Sighting, at_place, serves_at, count_of}
-use Rattle.grant_board.specs.Rule.{BoardState, standing, taken, posted, of_keepers, of_relays, Orderly}
+use Rattle.grant_board.specs.Rule.{BoardState, standing_weight, taken, posted_weight, of_keepers, of_relays, Orderly}
 use Rattle.grant_board.specs.Ruled.{view}
-use Rattle.list_facts.proofs.Totals.{term_le, terms_le, total-one, weightless, alone}
-use Rattle.list_facts.proofs.Positions.{along_mono, along_found, along_at, along_once, along_length}
-use Rattle.list_facts.proofs.Each.{index-map, item_in}
-use Rattle.list_facts.proofs.Ones as members
+use Rattle.base_lists.proofs.Totals.{term_le, terms_le, total-one, weightless, alone}
+use Rattle.base_lists.proofs.Positions.{along_mono, along_found, along_at, along_once, along_length}
+use Rattle.base_lists.proofs.Each.{index-map, item_in}
+use Rattle.base_lists.proofs.Ones as members
 use Rattle.grant_board.proofs.Grants as grants
 
 -- 1 at this grant alone
@@ -80,7 +80,7 @@ taken-case g k (Offered t d) h = absurd (omega arith)
 taken-case g k (Posted t d e) h = absurd (omega arith)
 taken-case g k (Taken t d) h = let e = one-is g (grant k t d) h in (ap (λ (x : Grant). x.place) e, λ i. Taken (e i).ticket (e i).verdict)
 
-posted-case : (s : Sighting) (k : ℕ) (c : Word) → 0 < posted (one_sight s) k c → (k ≡ s.pass.place) × (c ≡ Posted s.pass.ticket s.pass.verdict s.ending)
+posted-case : (s : Sighting) (k : ℕ) (c : Word) → 0 < posted_weight (one_sight s) k c → (k ≡ s.pass.place) × (c ≡ Posted s.pass.ticket s.pass.verdict s.ending)
 posted-case s k Empty h = absurd (omega arith)
 posted-case s k (Offered t d) h = absurd (omega arith)
 posted-case s k (Taken t d) h = absurd (omega arith)
@@ -88,7 +88,7 @@ posted-case s k (Posted t d e) h =
     let same = one_sight-is s (record { pass = grant k t d; ending = e }) h in
     (ap (λ (x : Sighting). x.pass.place) same, λ i. Posted (same i).pass.ticket (same i).pass.verdict (same i).ending)
 
-taken_le : (h : Grant → ℕ) (k : ℕ) (c : Word) → taken h k c ≤ standing h k c
+taken_le : (h : Grant → ℕ) (k : ℕ) (c : Word) → taken h k c ≤ standing_weight h k c
 taken_le h k Empty = omega arith
 taken_le h k (Offered t d) = omega arith
 taken_le h k (Taken t d) = omega arith
@@ -106,13 +106,13 @@ taken_else h p none k (Offered t d) n = refl
 taken_else h p none k (Taken t d) n = none (grant k t d) n
 taken_else h p none k (Posted t d e) n = refl
 
-standing_else : (h : Grant → ℕ) (p : ℕ) → ((g : Grant) → g.place ≢ p → h g ≡ 0) → (k : ℕ) (c : Word) → k ≢ p → standing h k c ≡ 0
+standing_else : (h : Grant → ℕ) (p : ℕ) → ((g : Grant) → g.place ≢ p → h g ≡ 0) → (k : ℕ) (c : Word) → k ≢ p → standing_weight h k c ≡ 0
 standing_else h p none k Empty n = refl
 standing_else h p none k (Offered t d) n = none (grant k t d) n
 standing_else h p none k (Taken t d) n = none (grant k t d) n
 standing_else h p none k (Posted t d e) n = none (grant k t d) n
 
-pub empty_there : (p : ℕ) (c : Word) → standing (at_place p) p c ≡ 0 → c ≡ Empty
+pub empty_there : (p : ℕ) (c : Word) → standing_weight (at_place p) p c ≡ 0 → c ≡ Empty
 empty_there p Empty e = refl
 empty_there p (Offered t d) e = absurd (omega (arith, grants.at_place-yes p (grant p t d) refl))
 empty_there p (Taken t d) e = absurd (omega (arith, grants.at_place-yes p (grant p t d) refl))
@@ -172,15 +172,15 @@ module _ (t : Terms) (s : BoardState) (o : Orderly t s) where
   pub posted_there : (x : Sighting) → 0 < of_keepers (λ k. total (one_sight x) k.sight) s.views
       → get_elem? o.cells x.pass.place ≡ some (Posted x.pass.ticket x.pass.verdict x.ending)
   posted_there x h =
-      let f = along_found (posted (one_sight x)) o.cells 0 (omega (arith, o.sight (one_sight x))) in
+      let f = along_found (posted_weight (one_sight x)) o.cells 0 (omega (arith, o.sight (one_sight x))) in
       let is = posted-case x f.1 f.2 f.5 in
       let at : f.0 ≡ x.pass.place = omega (arith, f.3, is.0) in
       ap (λ (i : ℕ). get_elem? o.cells i) (sym at) ∙ (f.4 ∙ ap (λ (c : Word). some c) is.1)
 
   -- the grants of one place weigh what its word does
   pub out_at : (p : ℕ) (c : Word) → get_elem? o.cells p ≡ some c → (h : Grant → ℕ) → ((g : Grant) → g.place ≢ p → h g ≡ 0)
-      → of_keepers (λ k. total h k.view.out) s.views ≡ standing h p c
-  out_at p c there h none = omega (arith, o.out h, along_at (standing h) p (standing_else h p none) o.cells 0 p c (omega arith) there)
+      → of_keepers (λ k. total h k.view.out) s.views ≡ standing_weight h p c
+  out_at p c there h none = omega (arith, o.out h, along_at (standing_weight h) p (standing_else h p none) o.cells 0 p c (omega arith) there)
 
   pub passes_at : (p : ℕ) (c : Word) → get_elem? o.cells p ≡ some c → (h : Grant → ℕ) → ((g : Grant) → g.place ≢ p → h g ≡ 0)
       → of_relays (λ r. total h r.passes) s.views ≡ taken h p c
@@ -188,7 +188,7 @@ module _ (t : Terms) (s : BoardState) (o : Orderly t s) where
 
   -- passes are out
   pub passes_out : (h : Grant → ℕ) → of_relays (λ r. total h r.passes) s.views ≤ of_keepers (λ k. total h k.view.out) s.views
-  passes_out h = omega (arith, o.passes h, o.out h, along_mono (taken h) (standing h) (taken_le h) o.cells 0)
+  passes_out h = omega (arith, o.passes h, o.out h, along_mono (taken h) (standing_weight h) (taken_le h) o.cells 0)
 
   -- no two of them are of one place
   pub passes_once : (p : ℕ) → of_relays (λ r. total (at_place p) r.passes) s.views ≤ 1

@@ -4,14 +4,14 @@ use mathlib.Core.Logic.{dite}
 use native.Mathlib.Decide.{ℕ_discrete}
 use Rattle.std.proofs.lemmas.Bool.{eqb-true}
 use Rattle.std.specs.List.{AllByRecursion}
-use Rattle.verdict.specs.declared.cause.Cause.{Cause}
-use Rattle.verdict.specs.declared.cause.Cause.TheVariants.{Aborted, Timeout, Retries, NoServer}
-use Rattle.verdict.specs.declared.Verdict.{Verdict}
-use Rattle.verdict.specs.declared.Verdict.TheVariants.{Serve, Told}
-use Rattle.list_facts.specs.Weights.{total}
-use Rattle.grant_board.specs.Views.{Grant, grant, at_place, serves_at, count_at, count_of, without}
-use Rattle.list_facts.proofs.Totals.{total-one, total_mono}
-use Rattle.list_facts.proofs.Ones.{TellsEqual, both_true}
+use Rattle.base_verdict.specs.declared.cause.Cause.{Cause}
+use Rattle.base_verdict.specs.declared.cause.Cause.TheVariants.{Aborted, Timeout, Retries, NoServer}
+use Rattle.base_verdict.specs.declared.Verdict.{Verdict}
+use Rattle.base_verdict.specs.declared.Verdict.TheVariants.{Serve, Told}
+use Rattle.base_lists.specs.Weights.{total}
+use Rattle.grant_board.specs.Views.{Grant, grant, at_place, serves_at, count_at, count_of, grants_without}
+use Rattle.base_lists.proofs.Totals.{total-one, total_mono}
+use Rattle.base_lists.proofs.Ones.{TellsEqual, both_true}
 
 -- the weight of a grant where it is of this place
 abbrev pub here : ℕ → (Grant → ℕ) → Grant → ℕ
@@ -45,19 +45,19 @@ pub serves_at-other : (server s : ℕ) → s ≢ server → serves_at server (Se
 serves_at-other server s n = ap {B = ℕ} (λ (b : Bool). cond b 1 0) (ne_eqb s server n)
 
 without-total_by : (place : ℕ) (weight : Grant → ℕ) (g : Grant) (grants : List Grant)
-    → total weight (without place grants) + total (here place weight) grants ≡ total weight grants
+    → total weight (grants_without place grants) + total (here place weight) grants ≡ total weight grants
     → (b : Bool) → (g.place == place) ≡ b
-    → total weight (without place (g ∷ grants)) + total (here place weight) (g ∷ grants) ≡ total weight (g ∷ grants)
+    → total weight (grants_without place (g ∷ grants)) + total (here place weight) (g ∷ grants) ≡ total weight (g ∷ grants)
 without-total_by place weight g grants rec true e = rw e (omega (arith, rec))
 without-total_by place weight g grants rec false e = rw e (omega (arith, rec))
 
 -- what is taken out with a place is the place's
-pub without-total : (place : ℕ) (weight : Grant → ℕ) (xs : List Grant) → total weight (without place xs) + total (here place weight) xs ≡ total weight xs
+pub without-total : (place : ℕ) (weight : Grant → ℕ) (xs : List Grant) → total weight (grants_without place xs) + total (here place weight) xs ≡ total weight xs
 without-total place weight [] = refl
 without-total place weight (g ∷ grants) = without-total_by place weight g grants (without-total place weight grants) (g.place == place) refl
 
 -- no grant of the place is left
-pub without-none : (place : ℕ) (xs : List Grant) → count_at place (without place xs) ≡ 0
+pub without-none : (place : ℕ) (xs : List Grant) → count_at place (grants_without place xs) ≡ 0
 without-none place xs =
     let same : total (here place (at_place place)) xs ≡ total (at_place place) xs = here_twice place xs in
     omega (arith, without-total place (at_place place) xs, same)
@@ -71,16 +71,16 @@ without-none place xs =
     here_twice place (g ∷ grants) = omega (arith, here_one place g, here_twice place grants)
 
 -- without a place a list weighs no more
-pub without_le : (place : ℕ) (weight : Grant → ℕ) (xs : List Grant) → total weight (without place xs) ≤ total weight xs
+pub without_le : (place : ℕ) (weight : Grant → ℕ) (xs : List Grant) → total weight (grants_without place xs) ≤ total weight xs
 without_le place weight xs = omega (arith, without-total place weight xs)
 
-all_without_by : (P : Grant → Type 0) (place : ℕ) (g : Grant) (gs : List Grant) → P g → AllByRecursion P (without place gs)
-    → (b : Bool) → (g.place == place) ≡ b → AllByRecursion P (without place (g ∷ gs))
+all_without_by : (P : Grant → Type 0) (place : ℕ) (g : Grant) (gs : List Grant) → P g → AllByRecursion P (grants_without place gs)
+    → (b : Bool) → (g.place == place) ≡ b → AllByRecursion P (grants_without place (g ∷ gs))
 all_without_by P place g gs p rest true is = rw is rest
 all_without_by P place g gs p rest false is = rw is (p, rest)
 
 -- what each grant meets, each of the other places does
-pub all_without : (P : Grant → Type 0) (place : ℕ) (gs : List Grant) → AllByRecursion P gs → AllByRecursion P (without place gs)
+pub all_without : (P : Grant → Type 0) (place : ℕ) (gs : List Grant) → AllByRecursion P gs → AllByRecursion P (grants_without place gs)
 all_without P place [] h = tt
 all_without P place (g ∷ gs) h = all_without_by P place g gs h.0 (all_without P place gs h.1) (g.place == place) refl
 

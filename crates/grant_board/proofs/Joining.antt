@@ -8,14 +8,14 @@ use Rattle.atomic_table.specs.Table.{Splits, Joins}
 use Rattle.atomic_table.proofs.Lists.{at_set, at_snoc, set_else}
 use Rattle.grant_board.specs.declared.returned.Return.{Return}
 use Rattle.grant_board.specs.declared.view.View.{View}
-use Rattle.list_facts.specs.Weights.{total}
+use Rattle.base_lists.specs.Weights.{total}
 use Rattle.grant_board.specs.Views.{Grant, Terms, KeeperPart, RelayView, count_of}
 use Rattle.grant_board.specs.Rule.{BoardState, of_keepers, of_relays, is_first, is_other, split_off, joined_in, KeeperAgrees, RelayAgrees, Agrees, Orderly}
 use Rattle.grant_board.specs.Ruled.{view}
-use Rattle.grant_board.specs.Plays.{blank, beside, but_last, last_alone, aside, cut_off, parent, child, gathered}
-use Rattle.list_facts.proofs.Places.{tally}
-use Rattle.list_facts.proofs.Totals.{total-append, total-set, terms_le}
-use Rattle.list_facts.proofs.Members.{all_append}
+use Rattle.grant_board.specs.Plays.{blank, beside, but_last, last_alone, aside, cut_off, parent, child, views_joined}
+use Rattle.base_lists.proofs.Places.{tally}
+use Rattle.base_lists.proofs.Totals.{total-append, total-set, terms_le}
+use Rattle.base_lists.proofs.Members.{all_append}
 use Rattle.grant_board.proofs.Moving.{board}
 
 -- other views of the same words keep the rule, where they weigh the same
@@ -158,11 +158,11 @@ branch_kept t id r first s o me =
 
 -- the first seat joins another in
 pub gathered_kept : (t : Terms) (id : ℕ) (r : RelayView) (other : ℕ) (q : RelayView) → r.first ≡ true
-    → Joins (Orderly t) id (view [] (r ∷ [])) other (view [] (q ∷ [])) (gathered (view [] (r ∷ [])) (view [] (q ∷ []))) blank
+    → Joins (Orderly t) id (view [] (r ∷ [])) other (view [] (q ∷ [])) (views_joined (view [] (r ∷ [])) (view [] (q ∷ []))) blank
 gathered_kept t id r other q first s o me apart them =
     let v : View = view [] (r ∷ []) in
     let w : View = view [] (q ∷ []) in
-    let b : View = gathered v w in
+    let b : View = views_joined v w in
     let views : List View = set (set s.views id b) other blank in
     let rs = join-relays s id v other w b me apart them in
     let mine = o.agree id v me in

@@ -9,26 +9,26 @@ use prog.Atomic.{either}
 use Rattle.std.proofs.lemmas.List.{get_or-set_same, get_or-set_other, length-append}
 use Rattle.atomic_table.specs.Table.{step, Act, keeps, Valid, carried_after, stepped, Allows}
 use Rattle.atomic_table.proofs.Lists.{set_here, exchanged}
-use Rattle.verdict.specs.declared.cause.Cause.TheVariants.{Aborted}
-use Rattle.verdict.specs.declared.Verdict.{Verdict}
-use Rattle.verdict.specs.declared.Verdict.TheVariants.{Told}
-use Rattle.verdict.specs.declared.Ending.{Ending}
-use Rattle.verdict.specs.declared.Ending.TheVariants.{Done}
+use Rattle.base_verdict.specs.declared.cause.Cause.TheVariants.{Aborted}
+use Rattle.base_verdict.specs.declared.Verdict.{Verdict}
+use Rattle.base_verdict.specs.declared.Verdict.TheVariants.{Told}
+use Rattle.base_verdict.specs.declared.Ending.{Ending}
+use Rattle.base_verdict.specs.declared.Ending.TheVariants.{Done}
 use Rattle.grant_board.specs.declared.laws.Word.{Word}
 use Rattle.grant_board.specs.declared.laws.Word.TheVariants.{Empty, Offered, Taken, Posted}
 use Rattle.grant_board.specs.declared.view.View.{View}
 use Rattle.grant_board.specs.BoardWords.{encode_of, IsWord, IsAmong, IsWordAmong}
-use Rattle.list_facts.specs.Weights.{total}
+use Rattle.base_lists.specs.Weights.{total}
 use Rattle.grant_board.specs.Views.{Grant, grant, Terms, KeeperView, KeeperPart, RelayView, Sighting}
-use Rattle.grant_board.specs.Views.{return_of, at_place, serves_at, count_at, count_of, without}
-use Rattle.grant_board.specs.Rule.{Slot, BoardState, standing, posted, of_keepers, of_relays, Orderly}
+use Rattle.grant_board.specs.Views.{return_of, at_place, serves_at, count_at, count_of, grants_without}
+use Rattle.grant_board.specs.Rule.{Slot, BoardState, standing_weight, posted_weight, of_keepers, of_relays, Orderly}
 use Rattle.grant_board.specs.Ruled.{view, at_rest}
 use Rattle.grant_board.specs.KeeperCalls.{keeper_looked, offer_after, collect_after, MayLimit, limit_after}
 use Rattle.grant_board.specs.RelayCalls.{relay_looked, take_after, post_after}
 use Rattle.grant_board.specs.Plays.{Seated, seated, keeper_seat, relay_seat, offers, sees, clears, limits, vouches, glances, takes, posts, meets, counts}
-use Rattle.list_facts.proofs.Totals as sums
-use Rattle.list_facts.proofs.Positions.{along_le}
-use Rattle.list_facts.proofs.Each as items
+use Rattle.base_lists.proofs.Totals as sums
+use Rattle.base_lists.proofs.Positions.{along_le}
+use Rattle.base_lists.proofs.Each as items
 use Rattle.grant_board.proofs.Grants as grants
 use Rattle.grant_board.proofs.Codes.{same_word}
 use Rattle.grant_board.proofs.Moving.{moved, unmoved, rebounded}
@@ -68,7 +68,7 @@ offered_kept t slots id k p ticket d new is may s o wide me _ =
     let near : p < length o.cells = omega (arith, may.place, o.long, ap (λ (x : Terms). x.places) agree.0) in
     let there = items.item_at o.cells p near in
     let c : Word = there.0 in
-    let none_out : standing (at_place p) p c ≡ 0 =
+    let none_out : standing_weight (at_place p) p c ≡ 0 =
     omega (
       arith,
       out_at t s o p c there.1 (at_place p) (λ x n. grants.at_place-no p x n),
@@ -160,7 +160,7 @@ sees_word t slots id k p s o (Posted u b x) blind me there =
           arith,
           keeper_alone t s o id k [] me (λ y. total h y.sight),
           ap (total h) blind,
-          along_le (posted h) o.cells 0 p p (Posted u b x) (omega arith) there,
+          along_le (posted_weight h) o.cells 0 p p (Posted u b x) (omega arith) there,
         );
         agree = o.agree id v me;
       }),
@@ -183,7 +183,7 @@ seen_kept t slots id k p blind inside s o wide me _ =
 abbrev IsCleared : KeeperView → ℕ → Seated → Sighting → Type 0
 IsCleared k p n x =
     (n ≡ keeper_seat (at_rest (collect_after k x.pass x.ending))) × Contains k.out x.pass × ((h : Grant → ℕ)
-    → total h (without p k.out) + h x.pass ≡ total h k.out)
+    → total h (grants_without p k.out) + h x.pass ≡ total h k.out)
 
 cleared_as : (k : KeeperView) (p : ℕ) (n : Seated) (x y : Sighting) → x ≡ y → IsCleared k p n x → IsCleared k p n y
 cleared_as k p n x y same cleared = subst (IsCleared k p n) same cleared
@@ -200,7 +200,7 @@ cleared_kept t slots id k p ticket d e seen s o wide me _ =
     let has : 0 < of_keepers (λ y. total (one_sight x) y.sight) s.views =
     omega (arith, keeper_alone t s o id k [] me (λ y. total (one_sight x) y.sight), ap (total (one_sight x)) seen, one_sight-same x) in
     let there : get_elem? o.cells p ≡ some (Posted ticket d e) = posted_there t s o x has in
-    let weighs : (h : Grant → ℕ) → total h (without p k.view.out) + h g ≡ total h k.view.out = λ h.
+    let weighs : (h : Grant → ℕ) → total h (grants_without p k.view.out) + h g ≡ total h k.view.out = λ h.
     omega (
       arith,
       grants.without-total p h k.view.out,
@@ -399,7 +399,7 @@ posted_kept t slots id r p ticket d e new is word mine s o wide me _ =
     let all = relays_le t s o id v me (λ x. total (one g) x.passes) in
     let there : get_elem? o.cells p ≡ some (Taken ticket d) = taken_there t s o g (omega (arith, one-same g)) in
     let among : IsAmong (length t.limits) d = items.all_at (IsWordAmong (length t.limits)) o.cells p (Taken ticket d) o.among there in
-    let weighs : (h : Grant → ℕ) → total h (without p r.passes) + h g ≡ total h r.passes = λ h.
+    let weighs : (h : Grant → ℕ) → total h (grants_without p r.passes) + h g ≡ total h r.passes = λ h.
     omega (
       arith,
       grants.without-total p h r.passes,
@@ -426,7 +426,7 @@ posted_kept t slots id r p ticket d e new is word mine s o wide me _ =
       λ ticket' d' e' word' is'.
           let same = same_word (Posted ticket d e) (Posted ticket' d' e') word word' (sym is ∙ is') in
           subst (λ (x : Word). ((w, []) ≡ relay_seat (post_after r (grant_in p x) (ending_in x))) × ((h : Grant → ℕ)
-          → total h (without p r.passes) + h (grant_in p x) ≡ total h r.passes)) {x = Posted ticket d e} same (refl, weighs),
+          → total h (grants_without p r.passes) + h (grant_in p x) ≡ total h r.passes)) {x = Posted ticket d e} same (refl, weighs),
     )
 
 pub met_kept : (t : Terms) (slots id : ℕ) (r q : RelayView) (i : ℕ)

@@ -11,13 +11,13 @@ use Rattle.grant_board.specs.declared.laws.Word.{Word}
 use Rattle.grant_board.specs.declared.returned.Return.{Return}
 use Rattle.grant_board.specs.declared.view.View.{View}
 use Rattle.grant_board.specs.BoardWords.{encode_of, IsWord, IsWordAmong}
-use Rattle.list_facts.specs.Weights.{total, along}
+use Rattle.base_lists.specs.Weights.{total, along}
 use Rattle.grant_board.specs.Views.{Grant, Terms, KeeperPart, RelayView, Sighting, count_of}
-use Rattle.grant_board.specs.Rule.{Slot, BoardState, standing, offered, taken, posted, as_return, of_keepers}
+use Rattle.grant_board.specs.Rule.{Slot, BoardState, standing_weight, offered, taken, posted_weight, as_return, of_keepers}
 use Rattle.grant_board.specs.Rule.{of_relays, is_first, is_other, split_off, joined_in, KeeperAgrees, Agrees, Orderly}
-use Rattle.list_facts.proofs.Totals.{total-set}
-use Rattle.list_facts.proofs.Positions.{along-set}
-use Rattle.list_facts.proofs.Each.{all_set, item_in}
+use Rattle.base_lists.proofs.Totals.{total-set}
+use Rattle.base_lists.proofs.Positions.{along-set}
+use Rattle.base_lists.proofs.Each.{all_set, item_in}
 
 abbrev pub board : List ℕ → List (Option Slot) → List View → BoardState
 board words homes views = record { words = words; homes = homes; views = views }
@@ -32,21 +32,21 @@ pub record Owes (t : Terms) (s : BoardState) (o : Orderly t s) (bounds : List �
   pub one_first : total is_first w.relays ≡ total is_first v.relays
   pub others : total is_other w.relays + total joined_in w.relays + total split_off v.relays
       ≡ total is_other v.relays + total joined_in v.relays + total split_off w.relays
-  pub out : (h : Grant → ℕ) → total (λ (k : KeeperPart). total h k.view.out) w.keepers + gone (standing h)
-      ≡ total (λ (k : KeeperPart). total h k.view.out) v.keepers + come (standing h)
+  pub out : (h : Grant → ℕ) → total (λ (k : KeeperPart). total h k.view.out) w.keepers + gone (standing_weight h)
+      ≡ total (λ (k : KeeperPart). total h k.view.out) v.keepers + come (standing_weight h)
   pub passes : (h : Grant → ℕ) → total (λ (r : RelayView). total h r.passes) w.relays + gone (taken h)
       ≡ total (λ (r : RelayView). total h r.passes) v.relays + come (taken h)
   pub offers : (h : Grant → ℕ) → total (λ (r : RelayView). total h r.takes) w.relays + come (offered h) + total
       (λ (k : KeeperPart). total h k.view.offers) v.keepers
       ≡ total (λ (r : RelayView). total h r.takes) v.relays + gone (offered h) + total (λ (k : KeeperPart). total h k.view.offers) w.keepers
-  pub posts : (h : Return → ℕ) → total (λ (k : KeeperPart). total h k.view.returns) w.keepers + come (posted (as_return h)) + total
+  pub posts : (h : Return → ℕ) → total (λ (k : KeeperPart). total h k.view.returns) w.keepers + come (posted_weight (as_return h)) + total
       (λ (r : RelayView). total h r.posts) v.relays
-      ≡ total (λ (k : KeeperPart). total h k.view.returns) v.keepers + gone (posted (as_return h)) + total (λ (r : RelayView). total h r.posts) w.relays
+      ≡ total (λ (k : KeeperPart). total h k.view.returns) v.keepers + gone (posted_weight (as_return h)) + total (λ (r : RelayView). total h r.posts) w.relays
   pub bounded : (n : ℕ) → 0 < slice_index bounds n
       → of_keepers (λ k. count_of n k.view.out) s.views + total (λ (k : KeeperPart). count_of n k.view.out) w.keepers < slice_index bounds n + total
       (λ (k : KeeperPart). count_of n k.view.out) v.keepers
-  pub sight : (h : Sighting → ℕ) → of_keepers (λ k. total h k.sight) s.views + total (λ (k : KeeperPart). total h k.sight) w.keepers + gone (posted h)
-      ≤ along (posted h) 0 o.cells + come (posted h) + total (λ (k : KeeperPart). total h k.sight) v.keepers
+  pub sight : (h : Sighting → ℕ) → of_keepers (λ k. total h k.sight) s.views + total (λ (k : KeeperPart). total h k.sight) w.keepers + gone (posted_weight h)
+      ≤ along (posted_weight h) 0 o.cells + come (posted_weight h) + total (λ (k : KeeperPart). total h k.sight) v.keepers
   pub agree : Agrees t bounds w
 
 -- the words, as they are afterwards
@@ -79,12 +79,12 @@ shifted t s o j v w homes cells bounds words gone come me row turns others owes 
       one_keeper = omega (arith, kt (λ _. 1), o.one_keeper, owes.one_keeper);
       one_first = omega (arith, rt is_first, o.one_first, owes.one_first);
       others = omega (arith, rt is_other, rt joined_in, rt split_off, o.others, owes.others);
-      out = λ h. omega (arith, kt (λ k. total h k.view.out), turns (standing h), o.out h, owes.out h);
+      out = λ h. omega (arith, kt (λ k. total h k.view.out), turns (standing_weight h), o.out h, owes.out h);
       passes = λ h. omega (arith, rt (λ r. total h r.passes), turns (taken h), o.passes h, owes.passes h);
       offers = λ h. omega (arith, rt (λ r. total h r.takes), kt (λ k. total h k.view.offers), turns (offered h), o.offers h, owes.offers h);
-      posts = λ h. omega (arith, rt (λ r. total h r.posts), kt (λ k. total h k.view.returns), turns (posted (as_return h)), o.posts h, owes.posts h);
+      posts = λ h. omega (arith, rt (λ r. total h r.posts), kt (λ k. total h k.view.returns), turns (posted_weight (as_return h)), o.posts h, owes.posts h);
       bounded = λ n some_bound. omega (arith, kt (λ k. count_of n k.view.out), owes.bounded n some_bound);
-      sight = λ h. omega (arith, kt (λ k. total h k.sight), turns (posted h), owes.sight h);
+      sight = λ h. omega (arith, kt (λ k. total h k.sight), turns (posted_weight h), owes.sight h);
       agree = λ i u e. ⊎_elim (λ (q : (i ≡ j) × (w ≡ u)). subst (Agrees t bounds) q.1 owes.agree)
           (λ (q : (i ≢ j) × (get_elem? s.views i ≡ some u)). others i u q.0 q.1) (at_set s.views j i w u e);
     }

@@ -3,19 +3,19 @@ use Rattle.std.proofs.Common.{◌≡◌, ℕ, ◌+◌, ◌<◌, ◌≤◌, ◌�
 use native.Mathlib.Decide.{ℕ_discrete}
 use mathlib.Core.Option.{some, some-injective}
 use lib.ListN.{get_elem?}
-use Rattle.verdict.specs.declared.Ending.{Ending}
+use Rattle.base_verdict.specs.declared.Ending.{Ending}
 use Rattle.grant_board.specs.declared.laws.Word.{Word}
 use Rattle.grant_board.specs.declared.laws.Word.TheVariants.{Empty, Offered, Taken, Posted}
 use Rattle.grant_board.specs.declared.view.View.{View}
 use Rattle.grant_board.specs.BoardWords.{encode_of, IsWord, IsAmong, IsWordAmong}
-use Rattle.list_facts.specs.Weights.{total}
+use Rattle.base_lists.specs.Weights.{total}
 use Rattle.grant_board.specs.Views.{Grant, grant, Terms, KeeperPart, RelayView, at_place, count_at, count_of}
-use Rattle.grant_board.specs.Rule.{BoardState, standing, taken, of_relays, Orderly}
+use Rattle.grant_board.specs.Rule.{BoardState, standing_weight, taken, of_relays, Orderly}
 use Rattle.grant_board.specs.Ruled.{view}
 use Rattle.grant_board.specs.Places.{HasKeeper, HasRelay, HasItsWord, ByPlaces, RuleByPlaces}
-use Rattle.list_facts.proofs.Totals.{term_le, terms_le, has_le, found_at}
-use Rattle.list_facts.proofs.Positions.{along_le, along_found}
-use Rattle.list_facts.proofs.Each.{item_at, item_in, all_at}
+use Rattle.base_lists.proofs.Totals.{term_le, terms_le, has_le, found_at}
+use Rattle.base_lists.proofs.Positions.{along_le, along_found}
+use Rattle.base_lists.proofs.Each.{item_at, item_in, all_at}
 use Rattle.grant_board.proofs.Grants as grants
 use Rattle.grant_board.proofs.Codes.{same_word}
 use Rattle.grant_board.proofs.Finding.{one, one-is, one-same, has_one, empty_there, keeper_alone}
@@ -25,7 +25,7 @@ use Rattle.grant_board.proofs.Finding.{relays_le, number_at, bound_at, taken_the
 abbrev Has : Grant → Word → Type 0
 Has g c = (c ≡ Offered g.ticket g.verdict) ⊎ ((c ≡ Taken g.ticket g.verdict) ⊎ ((e : Ending) × (c ≡ Posted g.ticket g.verdict e)))
 
-standing-case : (g : Grant) (p : ℕ) (c : Word) → 0 < standing (one g) p c → (p ≡ g.place) × Has g c
+standing-case : (g : Grant) (p : ℕ) (c : Word) → 0 < standing_weight (one g) p c → (p ≡ g.place) × Has g c
 standing-case g p Empty h = absurd (omega arith)
 standing-case g p (Offered t d) h = let e = one-is g (grant p t d) h in (ap (λ (x : Grant). x.place) e, inl (λ i. Offered (e i).ticket (e i).verdict))
 standing-case g p (Taken t d) h = let e = one-is g (grant p t d) h in (ap (λ (x : Grant). x.place) e, inr (inl (λ i. Taken (e i).ticket (e i).verdict)))
@@ -59,7 +59,7 @@ module _ (t : Terms) (s : BoardState) (o : Orderly t s) where
   out_there : (k : KeeperPart) → HasKeeper s k → (g : Grant) → Contains k.view.out g → (c : Word) × (get_elem? o.cells g.place ≡ some c) × Has g c
   out_there k at g has =
       let all = keeper_alone t s o at.0 k at.1 at.2 in
-      let f = along_found (standing (one g)) o.cells 0
+      let f = along_found (standing_weight (one g)) o.cells 0
       (omega (arith, has_le (one g) k.view.out g has, one-same g, all (λ x. total (one g) x.view.out), o.out (one g))) in
       let is = standing-case g f.1 f.2 f.5 in
       let place : f.0 ≡ g.place = omega (arith, f.3, is.0) in
@@ -88,9 +88,9 @@ module _ (t : Terms) (s : BoardState) (o : Orderly t s) where
             let c : Word = there.0 in
             let valid : IsWord c = all_at IsWord o.cells place c o.valid there.1 in
             let n = number_at t s o place c there.1 in
-            let counted : count_at place k.view.out ≡ standing (at_place place) place c = sym (all (λ x. total (at_place place) x.view.out))
+            let counted : count_at place k.view.out ≡ standing_weight (at_place place) place c = sym (all (λ x. total (at_place place) x.view.out))
             ∙ out_at t s o place c there.1 (at_place place) (λ g ne. grants.at_place-no place g ne) in (
-              (λ none. counted ∙ ap (standing (at_place place) place) (same_word c Empty valid tt (sym n ∙ none))),
+              (λ none. counted ∙ ap (standing_weight (at_place place) place) (same_word c Empty valid tt (sym n ∙ none))),
               λ none. n ∙ ap encode_of (empty_there place c (sym counted ∙ none)),
             );
         out = λ g has. let w = out_there k at g has in said s.words g w.0 (number_at t s o g.place w.0 w.1) w.2;

@@ -6,25 +6,25 @@ use mathlib.Core.Option.{none}
 use prog.Atomic.{either}
 use Rattle.atomic_table.specs.Seated.{TableId}
 use Rattle.atomic_table.specs.Table.{step, stepped, Allows, Splits, Joins}
-use Rattle.verdict.specs.declared.Verdict.{Verdict}
-use Rattle.verdict.specs.declared.Verdict.TheVariants.{Serve, Told}
-use Rattle.verdict.specs.declared.Ending.{Ending}
+use Rattle.base_verdict.specs.declared.Verdict.{Verdict}
+use Rattle.base_verdict.specs.declared.Verdict.TheVariants.{Serve, Told}
+use Rattle.base_verdict.specs.declared.Ending.{Ending}
 use Rattle.grant_board.specs.declared.laws.Word.TheVariants.{Empty, Offered, Taken, Posted}
 use Rattle.grant_board.specs.BoardWords.{encode_of, IsWord, IsAmong, IsVerdict}
-use Rattle.grant_board.specs.Views.{Grant, grant, Terms, KeeperView, KeeperPart, RelayView, count_at, count_of, serves_at, without}
-use Rattle.list_facts.specs.Weights.{total}
+use Rattle.grant_board.specs.Views.{Grant, grant, Terms, KeeperView, KeeperPart, RelayView, count_at, count_of, serves_at, grants_without}
+use Rattle.base_lists.specs.Weights.{total}
 use Rattle.grant_board.specs.Rule.{Orderly}
 use Rattle.grant_board.specs.Ruled.{view, at_rest, MeetsRule, MeetsRuleWith, KeeperRuled, RelayRuled, VouchRuled, MeetRuled}
 use Rattle.grant_board.specs.KeeperCalls.{Keeper, HasRoom, keeper_looked, collect_after, Collects, MayLimit}
 use Rattle.grant_board.specs.RelayCalls.{Relay, relay_looked, take_after}
 use Rattle.grant_board.specs.Plays.{Seated, seated, blank, ruled, keeper_seat, relay_seat, keeper_of, relay_of, offers, sees, clears, limits, vouches}
-use Rattle.grant_board.specs.Plays.{glances, takes, posts, meets, counts, AreApart, beside, aside, cut_off, parent, child, gathered}
+use Rattle.grant_board.specs.Plays.{glances, takes, posts, meets, counts, AreApart, beside, aside, cut_off, parent, child, views_joined}
 use Rattle.grant_board.specs.Parts.{IsTableOf, IsKeeperSeat, IsRelaySeat}
 use Rattle.grant_board.proofs.Grants.{serves_at-other}
 use Rattle.grant_board.proofs.Keeping.{MayOffer, offered_kept, seen_kept, cleared_kept, limited_kept, vouched_kept}
 use Rattle.grant_board.proofs.Keeping.{glanced_kept, taken_kept, posted_kept, met_kept, counted_kept}
 use Rattle.atomic_table.proofs.Lists.{set_here}
-use Rattle.list_facts.proofs.Each.{item_in}
+use Rattle.base_lists.proofs.Each.{item_in}
 use Rattle.grant_board.proofs.Joining.{branch_kept, gathered_kept}
 
 -- a relay's seat is of the board where what contracts see of it is
@@ -102,10 +102,10 @@ module _ (t : Terms) (slots id : ℕ) (m : Seated) (me : m ≡ relay_seat (relay
   branches_at first = subst (λ (x : Seated). Splits (Orderly t) id x.0 (parent x.0) (child x.0)) (sym me) (branch_kept t id (relay_of m.0.relays) first)
 
   pub gathers_at : (other : ℕ) (n : Seated) → n ≡ relay_seat (relay_of n.0.relays) → (relay_of m.0.relays).first ≡ true
-      → Joins (Orderly t) id m.0 other n.0 (gathered m.0 n.0) blank
+      → Joins (Orderly t) id m.0 other n.0 (views_joined m.0 n.0) blank
   gathers_at other n them first =
-      subst (λ (x : Seated). Joins (Orderly t) id x.0 other n.0 (gathered x.0 n.0) blank) (sym me)
-      (subst (λ (y : Seated). Joins (Orderly t) id (view [] (relay_of m.0.relays ∷ [])) other y.0 (gathered (view [] (relay_of m.0.relays ∷ [])) y.0) blank)
+      subst (λ (x : Seated). Joins (Orderly t) id x.0 other n.0 (views_joined x.0 n.0) blank) (sym me)
+      (subst (λ (y : Seated). Joins (Orderly t) id (view [] (relay_of m.0.relays ∷ [])) other y.0 (views_joined (view [] (relay_of m.0.relays ∷ [])) y.0) blank)
       (sym them)
       (gathered_kept t id (relay_of m.0.relays) other (relay_of n.0.relays) first))
 
@@ -138,8 +138,8 @@ right_alone x s r q is cut = cut ∙ ap (λ (y : Seated). (cut_off y.0, [])) is
 pub relay_again : (m : Seated) (j : RelayView) → m ≡ relay_seat j → m ≡ relay_seat (relay_of m.0.relays)
 relay_again m j is = is ∙ ap relay_seat (sym (ap (λ (y : Seated). relay_of y.0.relays) is))
 
-pub gathered_seat : (m n x : Seated) → m.1 ≡ [] → x ≡ (gathered m.0 n.0, m.1) → x ≡ relay_seat (relay_of x.0.relays)
-gathered_seat m n x no_slot is = relay_again x (relay_of (gathered m.0 n.0).relays) (is ∙ (λ i. (gathered m.0 n.0, no_slot i)))
+pub gathered_seat : (m n x : Seated) → m.1 ≡ [] → x ≡ (views_joined m.0 n.0, m.1) → x ≡ relay_seat (relay_of x.0.relays)
+gathered_seat m n x no_slot is = relay_again x (relay_of (views_joined m.0 n.0).relays) (is ∙ (λ i. (views_joined m.0 n.0, no_slot i)))
 
 -- it stays one of the same terms
 pub relay_kept : (a b : TableId) (n : ℕ) (m : Seated) (r j : RelayView) → m ≡ relay_seat j → j.terms ≡ r.terms → b ≡ a → IsTableOf r.terms a n
@@ -261,7 +261,7 @@ keeper_rests m k v blind is = is ∙ (λ i. keeper_seat (record { view = v; sigh
 abbrev pub Cleared : KeeperView → ℕ → ℕ → Verdict → Ending → Seated → Type 0
 Cleared k p ticket d e x =
     (x ≡ keeper_seat (at_rest (collect_after k (grant p ticket d) e))) × Contains k.out (grant p ticket d) × ((h : Grant → ℕ)
-    → total h (without p k.out) + h (grant p ticket d) ≡ total h k.out)
+    → total h (grants_without p k.out) + h (grant p ticket d) ≡ total h k.out)
 
 -- the second step of a collect
 pub collected : (slots p new : ℕ) (m x : Seated) (k : KeeperView) (ticket : ℕ) (d : Verdict) (e : Ending)

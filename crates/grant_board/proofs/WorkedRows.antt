@@ -2,14 +2,14 @@
 use Rattle.std.proofs.Common.{◌≡◌, ℕ, ◌<◌, zero, suc, List, [], ◌∷◌, slice_index, refl, ap, sym, subst, true, arith}
 use mathlib.Core.Option.{some, some-injective, some-ne-none}
 use lib.ListN.{get_elem?}
-use Rattle.verdict.specs.declared.cause.Cause.TheVariants.{Aborted, NoServer}
-use Rattle.verdict.specs.declared.Verdict.TheVariants.{Serve, Told}
-use Rattle.verdict.specs.declared.Ending.TheVariants.{Done, Failed}
+use Rattle.base_verdict.specs.declared.cause.Cause.TheVariants.{Aborted, NoServer}
+use Rattle.base_verdict.specs.declared.Verdict.TheVariants.{Serve, Told}
+use Rattle.base_verdict.specs.declared.Ending.TheVariants.{Done, Failed}
 use Rattle.grant_board.specs.declared.laws.Word.TheVariants.{Empty, Offered, Taken, Posted}
 use Rattle.grant_board.specs.declared.view.View.{View}
 use Rattle.grant_board.specs.BoardWords.{encode_of, IsWord, nonzero}
-use Rattle.list_facts.specs.Weights.{total}
-use Rattle.grant_board.specs.Views.{Grant, grant, Terms, terms, KeeperView, RelayView, count_at, count_of, without}
+use Rattle.base_lists.specs.Weights.{total}
+use Rattle.grant_board.specs.Views.{Grant, grant, Terms, terms, KeeperView, RelayView, count_at, count_of, grants_without}
 use Rattle.grant_board.specs.Rule.{BoardState, Agrees, Orderly}
 use Rattle.grant_board.specs.Ruled.{view, at_rest}
 use Rattle.grant_board.specs.KeeperCalls.{new_keeper, offer_after, HasRoom, collect_after, MayLimit, limit_after}
@@ -48,7 +48,7 @@ two_of_server_0 = refl
 pub none_at_place_3 : count_at 3 three ≡ 0
 none_at_place_3 = refl
 
-pub without_place_1 : without 1 three ≡ grant 0 7 (Serve 0) ∷ grant 2 9 (Serve 0) ∷ []
+pub without_place_1 : grants_without 1 three ≡ grant 0 7 (Serve 0) ∷ grant 2 9 (Serve 0) ∷ []
 without_place_1 = refl
 
 -- a board of one place and one server of limit 1

@@ -1,16 +1,16 @@
 -- The keeper's calls, for the layer that holds its seat: what `offer`, `collect`, `limit` and
 -- `vouch` learn and change, and what `Board::close` tells at the end.
 use Rattle.std.specs.Prelude.{◌≡◌, ℕ, ◌+◌, ◌<◌, ◌≤◌, List, [], ◌∷◌, ◌++◌, map, slice_index, slice_set, length, Contains}
-use Rattle.verdict.specs.declared.Verdict.{Verdict}
-use Rattle.verdict.specs.declared.Verdict.TheVariants.{Serve, Told}
-use Rattle.verdict.specs.declared.Ending.{Ending}
+use Rattle.base_verdict.specs.declared.Verdict.{Verdict}
+use Rattle.base_verdict.specs.declared.Verdict.TheVariants.{Serve, Told}
+use Rattle.base_verdict.specs.declared.Ending.{Ending}
 use Rattle.atomic_table.specs.Seated.{TableId}
 use Rattle.grant_board.specs.declared.laws.Word.TheVariants.{Posted}
 use Rattle.grant_board.specs.declared.returned.Return.{Return}
 use Rattle.grant_board.specs.BoardWords.{encode_of, MayEnd, IsUnposted}
-use Rattle.list_facts.specs.Weights.{total, along, AreIn}
-use Rattle.grant_board.specs.Views.{Grant, grant, Terms, first_mark, look, KeeperView, RelayView, return_of, count_of, without}
-use Rattle.grant_board.specs.Rule.{BoardState, standing, offered, taken, posted, as_return, Orderly}
+use Rattle.base_lists.specs.Weights.{total, along, AreIn}
+use Rattle.grant_board.specs.Views.{Grant, grant, Terms, first_mark, look, KeeperView, RelayView, return_of, count_of, grants_without}
+use Rattle.grant_board.specs.Rule.{BoardState, standing_weight, offered, taken, posted_weight, as_return, Orderly}
 
 -- a keeper's seat: its board and its view
 pub record Keeper : Type 0 where
@@ -37,7 +37,7 @@ HasRoom k (Told cause) = Unit {0}
 
 -- collect: the place is no longer out, and the return is the last one
 abbrev pub collect_after : KeeperView → Grant → Ending → KeeperView
-collect_after k g ending = record k { out = without g.place k.out; returns = k.returns ++ return_of g ending ∷ [] }
+collect_after k g ending = record k { out = grants_without g.place k.out; returns = k.returns ++ return_of g ending ∷ [] }
 
 -- A collect is a load, and where that finds a posted word a store that empties it. It found this
 -- return's ticket posted at the place, with the verdict with which it was out.
@@ -77,11 +77,11 @@ pub record IsClosed (k : KeeperView) (r : RelayView) (left : ℕ) : Type 0 where
   -- the bounds are the ones that were set last
   pub bounds : rule.bounds ≡ k.bounds
   -- the words of places that aren't empty have the grants that are out, and the taken ones the passes
-  pub out : (weight : Grant → ℕ) → total weight k.out ≡ along (standing weight) 0 rule.cells
+  pub out : (weight : Grant → ℕ) → total weight k.out ≡ along (standing_weight weight) 0 rule.cells
   pub passes : (weight : Grant → ℕ) → total weight r.passes ≡ along (taken weight) 0 rule.cells
   -- each offer was taken or still stands as an offer
   pub takes : (weight : Grant → ℕ) → total weight r.takes + along (offered weight) 0 rule.cells ≡ total weight k.offers
   -- each post has come back or still stands as posted
-  pub posts : (weight : Return → ℕ) → total weight k.returns + along (posted (as_return weight)) 0 rule.cells ≡ total weight r.posts
+  pub posts : (weight : Return → ℕ) → total weight k.returns + along (posted_weight (as_return weight)) 0 rule.cells ≡ total weight r.posts
   -- the number of words of places that aren't empty
-  pub left_over : left ≡ along (standing (λ _. 1)) 0 rule.cells
+  pub left_over : left ≡ along (standing_weight (λ _. 1)) 0 rule.cells

@@ -2,7 +2,7 @@
 use Rattle.std.specs.Prelude.{◌≡◌, ℕ, ◌+◌, ◌<◌, ◌≤◌, ◌↔◌, ◌⊎◌, List, [], ◌∷◌, length, slice_index, Contains}
 use mathlib.Core.Option.{some}
 use lib.ListN.{get_elem?}
-use Rattle.verdict.specs.declared.Ending.{Ending}
+use Rattle.base_verdict.specs.declared.Ending.{Ending}
 use Rattle.grant_board.specs.declared.laws.Word.TheVariants.{Offered, Taken, Posted}
 use Rattle.grant_board.specs.declared.view.View.{View}
 use Rattle.grant_board.specs.BoardWords.{encode_of, IsWord, IsAmong}

@@ -2,14 +2,14 @@
 -- number stored) and the seat after; and how views are split and joined. The public contracts use
 -- none of this.
 use Rattle.std.specs.Prelude.{◌≡◌, ◌≢◌, ℕ, ◌+◌, ◌<◌, ◌≤◌, true, false, List, [], ◌∷◌, ◌++◌, length, Contains}
-use Rattle.verdict.specs.declared.Verdict.{Verdict}
-use Rattle.verdict.specs.declared.Ending.{Ending}
+use Rattle.base_verdict.specs.declared.Verdict.{Verdict}
+use Rattle.base_verdict.specs.declared.Ending.{Ending}
 use Rattle.atomic_table.specs.Table.{Me, Step}
 use Rattle.grant_board.specs.declared.laws.Word.TheVariants.{Offered, Taken, Posted}
 use Rattle.grant_board.specs.declared.view.View.{View}
 use Rattle.grant_board.specs.BoardWords.{encode_of, IsWord, IsAmong, IsUnposted}
-use Rattle.list_facts.specs.Weights.{total}
-use Rattle.grant_board.specs.Views.{Grant, grant, Terms, RelayView, KeeperPart, count_at, count_of, without}
+use Rattle.base_lists.specs.Weights.{total}
+use Rattle.grant_board.specs.Views.{Grant, grant, Terms, RelayView, KeeperPart, count_at, count_of, grants_without}
 use Rattle.grant_board.specs.Names.{no_terms}
 use Rattle.grant_board.specs.Rule.{Slot}
 use Rattle.grant_board.specs.Ruled.{view, at_rest, MeetsRule, MeetsRuleWith}
@@ -80,7 +80,7 @@ clears st m r n =
     let g = grant st.word ticket verdict in
     IsWord (Posted ticket verdict ending) → (keeper_of m.0.keepers).sight ≡ record { pass = g; ending = ending } ∷ []
     → (n ≡ keeper_seat (at_rest (collect_after k g ending))) × Contains k.out g
-    × ((weight : Grant → ℕ) → total weight (without st.word k.out) + weight g ≡ total weight k.out)
+    × ((weight : Grant → ℕ) → total weight (grants_without st.word k.out) + weight g ≡ total weight k.out)
 
 -- the keeper stores a server's mark
 abbrev pub limits : Telling
@@ -119,7 +119,7 @@ posts st m r n =
     let g = grant st.word ticket verdict in
     IsWord (Posted ticket verdict ending) → st.first ≡ encode_of (Posted ticket verdict ending)
     → (n ≡ relay_seat (post_after q g ending))
-    × ((weight : Grant → ℕ) → total weight (without st.word q.passes) + weight g ≡ total weight q.passes)
+    × ((weight : Grant → ℕ) → total weight (grants_without st.word q.passes) + weight g ≡ total weight q.passes)
 
 -- two seats' passes are of different places; they are fewer of this server than its mark, where it
 -- has one; and in all no more than there are places
@@ -170,5 +170,5 @@ abbrev pub child : View → View
 child v = view [] (new_relay (relay_of v.relays).terms false ∷ [])
 
 -- the first seat with another seat's lists after its own
-abbrev pub gathered : View → View → View
-gathered v w = view [] (join_after (relay_of v.relays) (relay_of w.relays) ∷ [])
+abbrev pub views_joined : View → View → View
+views_joined v w = view [] (join_after (relay_of v.relays) (relay_of w.relays) ∷ [])

@@ -1,14 +1,14 @@
 -- The calls of relays' seats, for the layer that holds them: what `try_take`, `post`, `meet`,
 -- `split` and `join` learn and change.
 use Rattle.std.specs.Prelude.{◌≡◌, ◌≢◌, ℕ, ◌+◌, ◌⊎◌, Bool, [], ◌∷◌, ◌++◌, length}
-use Rattle.verdict.specs.declared.Verdict.{Verdict}
-use Rattle.verdict.specs.declared.Ending.{Ending}
+use Rattle.base_verdict.specs.declared.Verdict.{Verdict}
+use Rattle.base_verdict.specs.declared.Ending.{Ending}
 use Rattle.atomic_table.specs.Seated.{TableId}
 use Rattle.grant_board.specs.declared.laws.Word.TheVariants.{Offered}
 use Rattle.grant_board.specs.declared.pass.Taking.{Taking}
 use Rattle.grant_board.specs.declared.pass.Taking.TheVariants.{Taken, NotYet}
 use Rattle.grant_board.specs.BoardWords.{encode_of, IsWord, IsAmong, OffersNot}
-use Rattle.grant_board.specs.Views.{Grant, Terms, look, RelayView, return_of, without}
+use Rattle.grant_board.specs.Views.{Grant, Terms, look, RelayView, return_of, grants_without}
 
 -- a relay's seat: its board and its view
 pub record Relay : Type 0 where
@@ -57,7 +57,7 @@ Answers r r' place ticket NotYet = FindsNoOffer r r' place ticket ⊎ IsTooLate 
 
 -- post: the seat no longer has the pass, and its return is the last one that it posted
 abbrev pub post_after : RelayView → Grant → Ending → RelayView
-post_after r g ending = record r { passes = without g.place r.passes; posts = r.posts ++ return_of g ending ∷ [] }
+post_after r g ending = record r { passes = grants_without g.place r.passes; posts = r.posts ++ return_of g ending ∷ [] }
 
 -- split: one more seat is split off
 abbrev pub split_after : RelayView → RelayView

@@ -11,7 +11,7 @@ use Rattle.grant_board.specs.declared.returned.Return.{Return}
 use Rattle.grant_board.specs.declared.view.View.{View}
 use Rattle.grant_board.specs.declared.view.Plan.{Plan}
 use Rattle.grant_board.specs.BoardWords.{encode_of, IsWord, IsWordAmong}
-use Rattle.list_facts.specs.Weights.{total, along}
+use Rattle.base_lists.specs.Weights.{total, along}
 use Rattle.grant_board.specs.Views.{Grant, grant, Terms, KeeperPart, RelayView, Sighting, return_of, count_of}
 
 -- the terms that a board was opened with
@@ -26,11 +26,11 @@ abbrev pub BoardState : Type 0
 BoardState = State Slot View
 
 -- the weight of the grant in a place's word
-abbrev pub standing : (Grant → ℕ) → ℕ → Word → ℕ
-standing weight place Empty = 0
-standing weight place (Offered ticket verdict) = weight (grant place ticket verdict)
-standing weight place (Taken ticket verdict) = weight (grant place ticket verdict)
-standing weight place (Posted ticket verdict ending) = weight (grant place ticket verdict)
+abbrev pub standing_weight : (Grant → ℕ) → ℕ → Word → ℕ
+standing_weight weight place Empty = 0
+standing_weight weight place (Offered ticket verdict) = weight (grant place ticket verdict)
+standing_weight weight place (Taken ticket verdict) = weight (grant place ticket verdict)
+standing_weight weight place (Posted ticket verdict ending) = weight (grant place ticket verdict)
 
 -- the same for offered words alone
 abbrev pub offered : (Grant → ℕ) → ℕ → Word → ℕ
@@ -43,9 +43,9 @@ taken weight place (Taken ticket verdict) = weight (grant place ticket verdict)
 taken weight place _ = 0
 
 -- the same for posted words, with their endings
-abbrev pub posted : (Sighting → ℕ) → ℕ → Word → ℕ
-posted weight place (Posted ticket verdict ending) = weight (record { pass = grant place ticket verdict; ending = ending })
-posted weight place _ = 0
+abbrev pub posted_weight : (Sighting → ℕ) → ℕ → Word → ℕ
+posted_weight weight place (Posted ticket verdict ending) = weight (record { pass = grant place ticket verdict; ending = ending })
+posted_weight weight place _ = 0
 
 -- the weight of a sighting is that of its return
 abbrev pub as_return : (Return → ℕ) → Sighting → ℕ
@@ -98,7 +98,7 @@ pub record Orderly (terms : Terms) (s : BoardState) : Type 0 where
   pub one_first : of_relays is_first s.views ≡ 1
   pub others : of_relays is_other s.views + of_relays joined_in s.views ≡ of_relays split_off s.views
   -- the words that aren't empty have the grants that are out, each at its place
-  pub out : (weight : Grant → ℕ) → of_keepers (λ k. total weight k.view.out) s.views ≡ along (standing weight) 0 cells
+  pub out : (weight : Grant → ℕ) → of_keepers (λ k. total weight k.view.out) s.views ≡ along (standing_weight weight) 0 cells
   -- the words that are taken have the passes of all seats, so that no two seats have the same pass
   pub passes : (weight : Grant → ℕ) → of_relays (λ r. total weight r.passes) s.views ≡ along (taken weight) 0 cells
   -- each offer was taken or still stands as an offer
@@ -106,9 +106,9 @@ pub record Orderly (terms : Terms) (s : BoardState) : Type 0 where
       → of_relays (λ r. total weight r.takes) s.views + along (offered weight) 0 cells ≡ of_keepers (λ k. total weight k.view.offers) s.views
   -- each post has come back or still stands as posted
   pub posts : (weight : Return → ℕ)
-      → of_keepers (λ k. total weight k.view.returns) s.views + along (posted (as_return weight)) 0 cells ≡ of_relays (λ r. total weight r.posts) s.views
+      → of_keepers (λ k. total weight k.view.returns) s.views + along (posted_weight (as_return weight)) 0 cells ≡ of_relays (λ r. total weight r.posts) s.views
   -- fewer grants of a server are out than its mark, where it has one
   pub bounded : (server : ℕ) → 0 < slice_index bounds server → of_keepers (λ k. count_of server k.view.out) s.views < slice_index bounds server
   -- what the keeper remembers from its load stands posted
-  pub sight : (weight : Sighting → ℕ) → of_keepers (λ k. total weight k.sight) s.views ≤ along (posted weight) 0 cells
+  pub sight : (weight : Sighting → ℕ) → of_keepers (λ k. total weight k.sight) s.views ≤ along (posted_weight weight) 0 cells
   pub agree : (j : ℕ) (v : View) → get_elem? s.views j ≡ some v → Agrees terms bounds v

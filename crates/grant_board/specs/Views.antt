@@ -1,10 +1,10 @@
 -- The views of seats: what each seat knows.
 use Rattle.std.specs.Prelude.{ℕ, ◌+◌, Option, None, Some, Bool, List, [], ◌∷◌, ◌==◌, if◌then◌else◌}
-use Rattle.verdict.specs.declared.Verdict.{Verdict}
-use Rattle.verdict.specs.declared.Verdict.TheVariants.{Serve, Told}
-use Rattle.verdict.specs.declared.Ending.{Ending}
+use Rattle.base_verdict.specs.declared.Verdict.{Verdict}
+use Rattle.base_verdict.specs.declared.Verdict.TheVariants.{Serve, Told}
+use Rattle.base_verdict.specs.declared.Ending.{Ending}
 use Rattle.grant_board.specs.declared.returned.Return.{Return}
-use Rattle.list_facts.specs.Weights.{total}
+use Rattle.base_lists.specs.Weights.{total}
 
 -- a verdict for a ticket, at a place
 pub record Grant : Type 0 where
@@ -94,6 +94,6 @@ abbrev pub count_of : ℕ → List Grant → ℕ
 count_of server grants = total (λ g. serves_at server g.verdict) grants
 
 -- the grants of all other places
-abbrev pub without : ℕ → List Grant → List Grant
-without place [] = []
-without place (g ∷ grants) = if g.place == place then without place grants else (g ∷ without place grants)
+abbrev pub grants_without : ℕ → List Grant → List Grant
+grants_without place [] = []
+grants_without place (g ∷ grants) = if g.place == place then grants_without place grants else (g ∷ grants_without place grants)

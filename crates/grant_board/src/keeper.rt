@@ -11,8 +11,8 @@ use crate::relaying::Relaying;
 use crate::returned::Return;
 use crate::view::View;
 use atomic_table::Seat;
+use base_verdict::Verdict;
 use std::marker::Model;
-use verdict::Verdict;
 
 /// The seat of the one thread at a time that offers verdicts, collects endings and sets bounds.
 /// Contracts see its board and its view.

@@ -4,7 +4,7 @@ ghost use Rattle.grant_board.specs.declared.laws.Word.TheVariants.{Offered, Post
 ghost use Rattle.grant_board.specs.BoardWords.{code_of, encode_of, IsWord, IsVerdict, IsUnposted, OffersNot};
 ghost use Rattle.grant_board.specs.Places.{RuleByPlaces};
 
-use verdict::{Cause, Ending, Verdict};
+use base_verdict::{Cause, Ending, Verdict};
 
 /// The word of a place.
 #[derive(Clone, Copy, Debug, PartialEq, Eq)]

@@ -1,7 +1,7 @@
 // The opening and the closing of a board.
 ghost use Rattle.std.specs.Prelude.{◌≡◌, ◌<◌, ◌≤◌, ◌++◌, true, length, map, take, replicate, IfOk};
 ghost use Rattle.std.specs.Mem.Slots.{slots_items, slots_len, IsFull};
-ghost use Rattle.list_facts.specs.Weights.{total};
+ghost use Rattle.base_lists.specs.Weights.{total};
 ghost use Rattle.grant_board.specs.BoardWords.{nonzero};
 ghost use Rattle.grant_board.specs.Views.{first_mark, terms};
 ghost use Rattle.grant_board.specs.Rule.{terms_of};

@@ -1,7 +1,7 @@
 ghost use Rattle.std.specs.Prelude.{◌≡◌};
 
+use base_verdict::Verdict;
 use std::marker::Model;
-use verdict::Verdict;
 
 /// The right to act on one verdict. It has no `Drop`: a pass that was taken has to be posted.
 /// Contracts see its place, ticket and verdict.

@@ -1,6 +1,6 @@
 // The rule of the board's table, and the names of its steps.
 ghost use Rattle.grant_board.specs.Rule.{Orderly, terms_of};
-ghost use Rattle.grant_board.specs.Plays.{opened, blank, ruled, offers, sees, clears, limits, vouches, glances, takes, posts, meets, counts, beside, aside, cut_off, parent, child, gathered};
+ghost use Rattle.grant_board.specs.Plays.{opened, blank, ruled, offers, sees, clears, limits, vouches, glances, takes, posts, meets, counts, beside, aside, cut_off, parent, child, views_joined};
 
 use crate::view::{Plan, View};
 use atomic_table::{Join, Play, Split, TableRule};
@@ -93,7 +93,7 @@ impl Split<View> for Beside {
 pub struct Branch;
 
 impl Join<View> for Branch {
-    ghost both = { gathered };
+    ghost both = { views_joined };
 
     ghost spent = { blank };
 }

@@ -1,6 +1,6 @@
 ghost use Rattle.std.specs.Prelude.{◌≡◌, ◌+◌, ◌<◌, ◌≤◌, true, false, length, slice_index, Contains};
 ghost use Rattle.grant_board.specs.BoardWords.{MayEnd};
-ghost use Rattle.list_facts.specs.Weights.{total};
+ghost use Rattle.base_lists.specs.Weights.{total};
 ghost use Rattle.grant_board.specs.Views.{Grant, count_at, count_of};
 ghost use Rattle.grant_board.specs.Ruled.{RelayRuled, MeetRuled};
 ghost use Rattle.grant_board.specs.RelayCalls.{Answers, relay_looked, post_after, split_after, join_after, new_relay};
@@ -10,8 +10,8 @@ use crate::laws::offered_in;
 use crate::pass::{Pass, Taking};
 use crate::relaying::Relaying;
 use crate::tally::Tally;
+use base_verdict::Ending;
 use std::marker::Model;
-use verdict::Ending;
 
 /// A thread's seat, which takes passes and posts their endings. Contracts see its board and its view.
 #[derive(Drop)]

@@ -2,7 +2,7 @@
 ghost use Rattle.std.specs.Prelude.{◌≡◌, ◌≢◌, ◌+◌, ◌<◌, ◌≤◌, true, false, length, Contains};
 ghost use Rattle.grant_board.specs.declared.laws.Word.TheVariants.{Offered, Posted};
 ghost use Rattle.grant_board.specs.BoardWords.{encode_of, IsWord, IsAmong};
-ghost use Rattle.list_facts.specs.Weights.{total};
+ghost use Rattle.base_lists.specs.Weights.{total};
 ghost use Rattle.grant_board.specs.Views.{Grant, grant};
 ghost use Rattle.grant_board.specs.Ruled.{RelayRuled, MeetRuled};
 ghost use Rattle.grant_board.specs.RelayCalls.{relay_looked, take_after, post_after, split_after, join_after, new_relay};
@@ -13,8 +13,8 @@ use crate::laws::{Word, encode};
 use crate::plays::{Beside, Branch, Count, Glance, Meet, Post, Take};
 use crate::view::View;
 use atomic_table::Seat;
+use base_verdict::{Ending, Verdict};
 use std::marker::Model;
-use verdict::{Ending, Verdict};
 
 #[derive(Drop)]
 pub struct Relaying {

@@ -1,4 +1,4 @@
-use verdict::Ending;
+use base_verdict::Ending;
 
 /// A return from a place: the ticket whose pass was posted, and how its exchange ended.
 #[derive(Clone, Copy, Debug, PartialEq, Eq)]

@@ -3,7 +3,7 @@ ghost use Rattle.std.specs.Prelude.{◌≡◌, ◌+◌, ◌<◌, ◌≤◌, ◌^
 ghost use Rattle.grant_board.specs.BoardWords.{IsVerdict};
 ghost use Rattle.grant_board.specs.Views.{serves_at};
 
-use verdict::Verdict;
+use base_verdict::Verdict;
 
 const SERVERS: usize = 64;
 

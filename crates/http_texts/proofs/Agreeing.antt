@@ -3,11 +3,11 @@ use Rattle.std.proofs.Common.{◌≡◌, ◌∙◌, ℕ, Bool, true, false, List
 use Rattle.std.specs.List.{AllByRecursion}
 use Rattle.httparse.specs.Grammar.{ResponseHead, print_response}
 use Rattle.httparse.proofs.GrammarLemmas.{response_unique}
-use Rattle.list_facts.specs.Fronts.{AreComparable}
-use Rattle.list_facts.proofs.Fronts.{front_nil, swap, under, comparable_as}
-use Rattle.relay_body.specs.Framings.{PartOfBody}
-use Rattle.relay_body.specs.declared.framing.Framing as Framed
-use Rattle.relay_body.proofs.Comparing.{bodies_agree}
+use Rattle.base_lists.specs.Fronts.{AreComparable}
+use Rattle.base_lists.proofs.Fronts.{front_nil, swap, under, comparable_as}
+use Rattle.http_bodies.specs.Framings.{PartOfBody}
+use Rattle.http_bodies.specs.declared.framing.Framing as Framed
+use Rattle.http_bodies.proofs.Comparing.{bodies_agree}
 use Rattle.http_texts.specs.Framings.{answer_plan, is_interim}
 use Rattle.http_texts.specs.Heads.{IsAnswer}
 use Rattle.http_texts.specs.Messages.{IsForwarded, PartOfForwarded, IsInterim, IsFinal, print_heads, interims_text, IsAnswered, PartOfAnswered}

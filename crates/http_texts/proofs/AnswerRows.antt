@@ -9,9 +9,9 @@ use Rattle.std.proofs.lemmas.List.Sums.{AllPass-from_list_all}
 use Rattle.httparse.specs.Grammar.{Field, IsField, ResponseHead, crlf, print_blank, print_end}
 use Rattle.httparse.specs.Grammar.{print_reason, print_response, print_section, is_token_byte, is_value_byte, trim_ows}
 use Rattle.httparse.proofs.GrammarLemmas.{print_response-append}
-use Rattle.relay_body.specs.Framings.{IsBody, LacksBody}
-use Rattle.relay_body.specs.declared.framing.Framing.{Framing}
-use Rattle.relay_body.specs.declared.framing.Framing.TheVariants.{Length}
+use Rattle.http_bodies.specs.Framings.{IsBody, LacksBody}
+use Rattle.http_bodies.specs.declared.framing.Framing.{Framing}
+use Rattle.http_bodies.specs.declared.framing.Framing.TheVariants.{Length}
 use Rattle.http_texts.specs.Framings.{answer_plan}
 use Rattle.http_texts.specs.Heads.{IsAnswer}
 use Rattle.http_texts.specs.Messages.{IsInterim, IsFinal, AreInterims, print_heads, IsAnswered, PartOfAnswered, EndsEarly, LacksAnswer}
@@ -21,7 +21,7 @@ use Rattle.http_texts.specs.Messages.BadlyFramed.{no_plan, ninth}
 use Rattle.http_texts.specs.declared.fault.Fault.TheVariants as Faulty
 use Rattle.http_texts.specs.declared.plans.Plan.{Plan}
 use Rattle.http_texts.proofs.Agreeing.{same_head}
-use Rattle.list_facts.proofs.Fronts.{some_behind}
+use Rattle.base_lists.proofs.Fronts.{some_behind}
 use Rattle.req_view.specs.Answer.{answer_of}
 use Rattle.http_texts.specs.declared.persistence.Persistence.TheVariants.{Close}
 use Rattle.req_view.specs.AnswerHeads.{HasNoAnswer}

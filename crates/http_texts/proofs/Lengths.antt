@@ -7,12 +7,12 @@ use Rattle.std.proofs.lemmas.List.{length-map}
 use Rattle.std.proofs.lemmas.List.Folds.{list_all-append}
 use Rattle.std.proofs.lemmas.List.Splits.{length-slice_split}
 use Rattle.std.proofs.lemmas.Option.{cond_some}
-use Rattle.list_facts.proofs.Options.{cond_none}
-use Rattle.list_facts.proofs.Filtered.{list_all_flat_map}
+use Rattle.base_lists.proofs.Options.{cond_none}
+use Rattle.base_lists.proofs.Filtered.{list_all_flat_map}
 use Rattle.proxy_words.specs.Numerals.{is_numeral, value_of, numeral}
 use Rattle.proxy_words.specs.Parts.{parts, trimmed, is_comma}
-use Rattle.relay_body.specs.declared.framing.Framing.{Framing}
-use Rattle.relay_body.specs.declared.framing.Framing.TheVariants as Framed
+use Rattle.http_bodies.specs.declared.framing.Framing.{Framing}
+use Rattle.http_bodies.specs.declared.framing.Framing.TheVariants as Framed
 use Rattle.http_texts.specs.Framings.{is_number, common, is_chunked, by_fields}
 use Rattle.http_texts.specs.Summaries.{coding_of, count_or_fault, stated_of, framing_of}
 use Rattle.http_texts.specs.declared.framings.Coding.TheVariants as Coded

@@ -3,14 +3,14 @@ use Rattle.std.proofs.Common.{◌≡◌, ◌∙◌, ℕ, ◌<◌, ◌≤◌, Boo
 use Rattle.std.proofs.Common.{◌++◌, length, refl, sym, ap, arith, append_assoc, append-nil, length-append, subst}
 use Rattle.std.specs.List.{AllByRecursion}
 use Rattle.httparse.specs.Grammar.{ResponseHead, print_response}
-use Rattle.relay_body.specs.Bodies.{print_chunked}
-use Rattle.relay_body.specs.Bodies.PartOfChunked.{some_chunks, all_of_it}
-use Rattle.relay_body.specs.Chunks.PartOfChunk.{nothing}
-use Rattle.relay_body.specs.Framings.{IsBody, PartOfBody}
-use Rattle.relay_body.specs.declared.framing.Framing as Framed
-use Rattle.relay_body.specs.declared.framing.Framing.TheVariants.{Empty, Length, Chunked, ToEnd}
-use Rattle.list_facts.proofs.Filtered.{flat_last}
-use Rattle.list_facts.proofs.Members.{all_append}
+use Rattle.http_bodies.specs.Bodies.{print_chunked}
+use Rattle.http_bodies.specs.Bodies.PartOfChunked.{some_chunks, all_of_it}
+use Rattle.http_bodies.specs.Chunks.PartOfChunk.{nothing}
+use Rattle.http_bodies.specs.Framings.{IsBody, PartOfBody}
+use Rattle.http_bodies.specs.declared.framing.Framing as Framed
+use Rattle.http_bodies.specs.declared.framing.Framing.TheVariants.{Empty, Length, Chunked, ToEnd}
+use Rattle.base_lists.proofs.Filtered.{flat_last}
+use Rattle.base_lists.proofs.Members.{all_append}
 use Rattle.http_texts.specs.Heads.{NoAnswer}
 use Rattle.http_texts.specs.Messages.{NoBody, IsInterim, IsFinal, AreInterims, print_heads, interims_text, BadlyFramed, LacksAnswer}
 use Rattle.http_texts.specs.Messages.EndsEarly.{no_head, no_body}

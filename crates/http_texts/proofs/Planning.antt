@@ -2,7 +2,7 @@
 use Rattle.std.proofs.Common.{◌≡◌, ◌∙◌, ℕ, ◌==◌, Bool, true, false, cond, List, [], ◌∷◌, Option, Some, None, codes, refl, sym, ap}
 use Rattle.std.specs.Prelude.{◌||◌, option_map}
 use Rattle.std.specs.Str.{bytes_eq}
-use Rattle.relay_body.specs.declared.framing.Framing.TheVariants as Framed
+use Rattle.http_bodies.specs.declared.framing.Framing.TheVariants as Framed
 use Rattle.http_texts.specs.Fields.{parts_of}
 use Rattle.http_texts.specs.Framings as framings
 use Rattle.http_texts.specs.Framings.{common, is_chunked, bare, is_interim, by_status, answer_plan}

@@ -2,10 +2,10 @@
 use Rattle.std.proofs.Common.{◌≡◌, ◌∙◌, ℕ, ◌==◌, Bool, true, false, cond, List, [], ◌++◌, refl, arith, append_assoc, subst}
 use Rattle.std.specs.Prelude.{◌&&◌, not}
 use Rattle.std.proofs.lemmas.Bool.Decides.{nat_tests}
-use Rattle.counted_io.specs.Streams.{Stream}
-use Rattle.relay_body.specs.declared.fault.Fault.{Fault}
-use Rattle.body_pipe.specs.declared.pipe.Pipe.{Pipe}
-use Rattle.relay_body.proofs.Emitting.{emits_none, emits_trans, emits_stops, stops_more, stops_as}
+use Rattle.base_streams.specs.Streams.{Stream}
+use Rattle.http_bodies.specs.declared.fault.Fault.{Fault}
+use Rattle.http_bodies.specs.declared.pipe.Pipe.{Pipe}
+use Rattle.http_bodies.proofs.Emitting.{emits_none, emits_trans, emits_stops, stops_more, stops_as}
 use Rattle.http_texts.specs.Emissions.{Puts, Halts}
 
 pub puts_none : (p : Pipe) (w : Stream) → Puts p p w w []

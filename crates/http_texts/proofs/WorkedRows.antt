@@ -3,10 +3,10 @@ use Rattle.std.proofs.Common.{◌≡◌, ◌∙◌, ℕ, ◌≤◌, List, [], �
 use Rattle.std.specs.Fmt.{digits}
 use Rattle.std.specs.Net.Text.{hex, hex_groups_text, ipv6_text}
 use Rattle.std.specs.declared.net.ip_addr.IpAddr.TheVariants.{V4, V6}
-use Rattle.relay_body.specs.declared.framing.Framing.TheVariants.{Empty, Length, Chunked, ToEnd}
+use Rattle.http_bodies.specs.declared.framing.Framing.TheVariants.{Empty, Length, Chunked, ToEnd}
 use Rattle.http_texts.specs.Framings.{request_framing, answer_plan, bare}
-use Rattle.relay_body.specs.Framings.{IsBody, PartOfBody, LacksBody}
-use Rattle.relay_body.specs.declared.framing.Framing.{Framing}
+use Rattle.http_bodies.specs.Framings.{IsBody, PartOfBody, LacksBody}
+use Rattle.http_bodies.specs.declared.framing.Framing.{Framing}
 use Rattle.http_texts.specs.Messages.{IsForwarded, PartOfForwarded, LacksForwarded}
 use Rattle.http_texts.specs.Messages.PartOfForwarded.{nothing, head_and_body}
 use Rattle.http_texts.specs.Messages.LacksForwarded.{no_framing as badly_framed, no_body}

@@ -1,9 +1,9 @@
 -- Texts that a pipe puts on their way, and bytes that it holds for later.
 use Rattle.std.specs.Prelude.{◌≡◌, ℕ, List, ◌++◌}
-use Rattle.counted_io.specs.Streams.{Stream}
-use Rattle.relay_body.specs.Texts.{Emits, Stops}
-use Rattle.relay_body.specs.declared.fault.Fault.{Fault}
-use Rattle.body_pipe.specs.declared.pipe.Pipe.{Pipe}
+use Rattle.base_streams.specs.Streams.{Stream}
+use Rattle.http_bodies.specs.Texts.{Emits, Stops}
+use Rattle.http_bodies.specs.declared.fault.Fault.{Fault}
+use Rattle.http_bodies.specs.declared.pipe.Pipe.{Pipe}
 
 -- the text was put after what waited, and nothing was read
 pub record Puts (p0 p : Pipe) (w0 w : Stream) (text : List ℕ) : Type 0 where

@@ -1,6 +1,6 @@
 -- Faults of messages, in terms of those of their heads and bodies.
-use Rattle.relay_body.specs.declared.fault.Fault as Body
-use Rattle.relay_body.specs.declared.fault.Fault.TheVariants as OfBody
+use Rattle.http_bodies.specs.declared.fault.Fault as Body
+use Rattle.http_bodies.specs.declared.fault.Fault.TheVariants as OfBody
 use Rattle.http_texts.specs.declared.fault.Fault.{Fault}
 use Rattle.http_texts.specs.declared.fault.Fault.TheVariants as Faulty
 use Rattle.req_view.specs.declared.refusal.HeadRefusal.{HeadRefusal}

@@ -2,8 +2,8 @@
 use Rattle.std.specs.Prelude.{◌≡◌, ◌⊎◌, ℕ, ◌<◌, ◌≤◌, Bool, true, false, List, [], ◌++◌, length, Some, None, IsSome}
 use Rattle.std.specs.List.{flat_map, AllByRecursion}
 use Rattle.httparse.specs.Grammar.{ResponseHead, print_response}
-use Rattle.relay_body.specs.Framings.{IsBody, PartOfBody, LacksBody}
-use Rattle.relay_body.specs.declared.framing.Framing as Framed
+use Rattle.http_bodies.specs.Framings.{IsBody, PartOfBody, LacksBody}
+use Rattle.http_bodies.specs.declared.framing.Framing as Framed
 use Rattle.http_texts.specs.Framings.{request_framing, answer_plan, is_interim}
 use Rattle.http_texts.specs.Heads.{IsAnswer}
 use Rattle.http_texts.specs.Texts.{request_text, answer_text, interim_text}

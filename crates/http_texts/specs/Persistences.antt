@@ -1,7 +1,7 @@
 -- What follows for a connection after a message (RFC 9112, section 9.3).
 use Rattle.std.specs.Prelude.{ℕ, Bool, true, false, ◌&&◌, not, List, if◌then◌else◌, codes}
-use Rattle.relay_body.specs.declared.framing.Framing.{Framing}
-use Rattle.relay_body.specs.declared.framing.Framing.TheVariants.{Empty, Length, Chunked, ToEnd}
+use Rattle.http_bodies.specs.declared.framing.Framing.{Framing}
+use Rattle.http_bodies.specs.declared.framing.Framing.TheVariants.{Empty, Length, Chunked, ToEnd}
 use Rattle.http_texts.specs.Fields.{parts_of, is_among}
 use Rattle.http_texts.specs.Texts.{framed_for}
 use Rattle.http_texts.specs.declared.persistence.Persistence.{Persistence}

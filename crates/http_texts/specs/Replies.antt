@@ -2,8 +2,8 @@
 use Rattle.std.specs.Prelude.{ℕ, Bool, true, false, ◌&&◌, nat_lt, List, [], if◌then◌else◌, Option, Some, codes}
 use Rattle.std.specs.List.{list_any}
 use Rattle.std.specs.Str.{str_eq_ignore_ascii_case}
-use Rattle.relay_body.specs.declared.framing.Framing.{Framing}
-use Rattle.relay_body.specs.declared.framing.Framing.TheVariants.{Length, Chunked}
+use Rattle.http_bodies.specs.declared.framing.Framing.{Framing}
+use Rattle.http_bodies.specs.declared.framing.Framing.TheVariants.{Length, Chunked}
 use Rattle.http_texts.specs.Framings.{request_framing}
 use Rattle.http_texts.specs.Texts.{framed_for}
 use Rattle.http_texts.specs.declared.refusals.Code.{Code}

@@ -1,7 +1,7 @@
 -- The framing fields of a head, summarized.
 use Rattle.std.specs.Prelude.{ℕ, Bool, true, ◌==◌, ◌||◌, List, [], ◌∷◌, if◌then◌else◌, Option, Some, None, option_map}
-use Rattle.relay_body.specs.declared.framing.Framing.{Framing}
-use Rattle.relay_body.specs.declared.framing.Framing.TheVariants as Framed
+use Rattle.http_bodies.specs.declared.framing.Framing.{Framing}
+use Rattle.http_bodies.specs.declared.framing.Framing.TheVariants as Framed
 use Rattle.http_texts.specs.Framings.{is_chunked, common, bare, is_interim}
 use Rattle.http_texts.specs.declared.framings.Coding.{Coding}
 use Rattle.http_texts.specs.declared.framings.Coding.TheVariants as Coded

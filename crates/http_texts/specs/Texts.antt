@@ -4,8 +4,8 @@ use Rattle.std.specs.List.{flat_map, list_any}
 use Rattle.std.specs.Net.Text.{ip_text}
 use Rattle.std.specs.declared.net.ip_addr.IpAddr.{IpAddr}
 use Rattle.httparse.specs.Ascii.{crlf_bytes, space}
-use Rattle.relay_body.specs.declared.framing.Framing.{Framing}
-use Rattle.relay_body.specs.declared.framing.Framing.TheVariants.{Empty, Length, Chunked, ToEnd}
+use Rattle.http_bodies.specs.declared.framing.Framing.{Framing}
+use Rattle.http_bodies.specs.declared.framing.Framing.TheVariants.{Empty, Length, Chunked, ToEnd}
 use Rattle.http_texts.specs.Fields.{kept, of_connection, of_request}
 use Rattle.http_texts.specs.declared.additions.Additions.{Additions}
 use Rattle.http_texts.specs.declared.persistence.Persistence.{Persistence}

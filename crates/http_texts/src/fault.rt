@@ -1,7 +1,7 @@
 ghost use Rattle.std.specs.Prelude.{◌≡◌};
 ghost use Rattle.http_texts.specs.Faults.{of_refusal};
 
-use relay_body::Fault as BodyFault;
+use http_bodies::Fault as BodyFault;
 use req_view::HeadRefusal;
 use thiserror::Error;
 

@@ -5,8 +5,8 @@ ghost use Rattle.proxy_words.specs.Parts.{parts};
 ghost use Rattle.http_texts.specs.Framings as framings;
 ghost use Rattle.http_texts.specs.Summaries as summaries;
 
+use http_bodies::Framing;
 use proxy_words::{Parts, long_number};
-use relay_body::Framing;
 use req_view::{Values, Version, View};
 
 /// The values of Transfer-Encoding, summarized.

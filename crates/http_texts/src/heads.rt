@@ -7,9 +7,8 @@ use crate::fields::Way;
 use crate::lines::{put, put_end, put_fields, put_host, put_three};
 use crate::persistence::Persistence;
 use crate::plans::Plan;
-use body_pipe::Page;
-use counted_io::Sink;
-use relay_body::{Fault, Framing};
+use base_streams::Sink;
+use http_bodies::{Fault, Framing, Page};
 use req_view::{AnswerHead, View};
 
 /// The additions to a request's head, as text.

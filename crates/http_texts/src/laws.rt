@@ -1,5 +1,5 @@
 ghost use Rattle.std.specs.Prelude.{◌≡◌, ◌++◌, ℕ, List, Bool};
-ghost use Rattle.list_facts.specs.Fronts.{AreComparable};
+ghost use Rattle.base_lists.specs.Fronts.{AreComparable};
 ghost use Rattle.http_texts.specs.Messages.{IsForwarded, PartOfForwarded, IsAnswered, PartOfAnswered};
 ghost use Rattle.http_texts.specs.declared.additions.Additions as additions;
 ghost use Rattle.http_texts.specs.declared.persistence.Persistence as words;

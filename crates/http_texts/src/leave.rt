@@ -3,7 +3,7 @@ ghost use Rattle.http_texts.specs.Replies as replies;
 
 use crate::framings::request_framing;
 use crate::roles::is_framed;
-use relay_body::Framing;
+use http_bodies::Framing;
 use req_view::{Values, View};
 
 /// Says whether the client waits for a `100` before it sends a body (RFC 9110, section 10.1.1).

@@ -7,10 +7,9 @@ ghost use Rattle.http_texts.specs.Texts as texts;
 
 use crate::fields::{Way, is_kept, keeps_host};
 use crate::persistence::{Persistence, connection_text};
-use body_pipe::Page;
-use counted_io::Sink;
+use base_streams::Sink;
+use http_bodies::{Fault, Framing, Page};
 use itoa::Buffer;
-use relay_body::{Fault, Framing};
 use req_view::Section;
 
 /// Appends the text after what waits.

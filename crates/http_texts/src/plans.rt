@@ -3,7 +3,7 @@ ghost use Rattle.http_texts.specs.Framings as framings;
 ghost use Rattle.http_texts.specs.Summaries as summaries;
 
 use crate::framings::{Coding, Stated, coding_of, framing_of, stated_of};
-use relay_body::Framing;
+use http_bodies::Framing;
 use req_view::{AnswerHead, Version};
 
 /// The plan for an answer: how its body is read, and the framing that its head states.

@@ -5,7 +5,7 @@ use crate::fields::is_of_this_connection;
 use crate::persistence::Persistence;
 use crate::plans::Plan;
 use crate::roles::is_framed;
-use relay_body::Framing;
+use http_bodies::Framing;
 use req_view::{AnswerHead, Section, Version, View};
 
 fn closes(section: &Section) -> bool

@@ -1,12 +1,12 @@
 -- The reports of a legal window certify it.
 use Rattle.std.proofs.Common.{◌≡◌, List, subst}
-use Rattle.dispatch_log.specs.Dispatch.{IsDispatched}
-use Rattle.dispatch_log.specs.Histories.{History}
-use Rattle.dispatch_log.specs.Legal.{IsLegal}
+use Rattle.log_entries.specs.Dispatch.{IsDispatched}
+use Rattle.log_entries.specs.Histories.{History}
+use Rattle.log_entries.specs.Legal.{IsLegal}
 use Rattle.late_cert.specs.Reports.{AreReports}
 use Rattle.late_cert.specs.declared.report.Report.{Report}
 use Rattle.late_cert.proofs.Legal.{legal_reports_sound, legal_reports_least}
-use Rattle.readable_log.specs.Windows.{Window, window_in}
+use Rattle.log_reading.specs.Windows.{Window, window_in}
 use Rattle.late_cert.specs.Certificates.{IsCertified}
 
 pub certified : (history : History) (window : Window) (reports : List Report) → window ≡ window_in history → IsLegal history → IsDispatched history

@@ -5,18 +5,18 @@ use Rattle.std.specs.List.{AllByRecursion, Contains, filter}
 use Rattle.std.proofs.lemmas.Bool.Decides.{nat_tests}
 use Rattle.std.proofs.lemmas.Int.{ints}
 use Rattle.std.proofs.lemmas.List.Elements.{Contains-append_right}
-use Rattle.dispatch_log.specs.declared.setup.Setup.{Setup}
-use Rattle.dispatch_log.specs.States.{State}
-use Rattle.readable_log.specs.Grants.{stays}
-use Rattle.readable_log.specs.declared.grant.Stay.{Stay}
+use Rattle.log_entries.specs.declared.setup.Setup.{Setup}
+use Rattle.log_entries.specs.States.{State}
+use Rattle.log_reading.specs.Grants.{stays}
+use Rattle.log_reading.specs.declared.grant.Stay.{Stay}
 use Rattle.late_cert.specs.Lateness.{own_lateness}
-use Rattle.readable_log.specs.Ordered.{AllKeepOrder, HaveArrived}
+use Rattle.log_reading.specs.Ordered.{AllKeepOrder, HaveArrived}
 use Rattle.late_cert.specs.Reports.{is_within, IsCritical, IsSoundReport, IsChosenReport}
 use Rattle.late_cert.specs.declared.report.Report.{Report}
 use Rattle.late_cert.proofs.Cuts.{cut_from, last_cut-walk}
 use Rattle.late_cert.proofs.Fair.{AreFair, RisesFrom, rises_lower, fair_after, rises_after}
-use Rattle.list_facts.proofs.Members.{all_weaker, all_append}
-use Rattle.readable_log.specs.Windows.{Window}
+use Rattle.base_lists.proofs.Members.{all_weaker, all_append}
+use Rattle.log_reading.specs.Windows.{Window}
 
 rises_front : (n : ℕ) (xs ys : List Stay) → RisesFrom n (xs ++ ys) → RisesFrom n xs
 rises_front n [] ys rises = tt

@@ -2,7 +2,7 @@
 use Rattle.std.proofs.Common.{◌≡◌, ℕ, Bool, true, false, cond, ℤ, int_lt, List, [], ◌∷◌, map, filter, Option, Some, None, refl}
 use Rattle.std.specs.List.{fold, last_or}
 use Rattle.std.specs.Option.{unwrap_or}
-use Rattle.readable_log.specs.declared.grant.Stay.{Stay}
+use Rattle.log_reading.specs.declared.grant.Stay.{Stay}
 use Rattle.late_cert.specs.Reports.{slots_due_after, last_cut}
 
 -- the cut, from a first one on

@@ -6,13 +6,13 @@ use Rattle.std.proofs.lemmas.Bool.Decides.{nat_tests}
 use Rattle.std.proofs.lemmas.Int.{ints}
 use Rattle.std.proofs.lemmas.List.Sorted.{sum_by-IsPermutation}
 use Rattle.std.proofs.lemmas.List.Sums.{sum_by-cons}
-use Rattle.list_facts.proofs.Places.{tally}
-use Rattle.readable_log.specs.Grants.{moment_at}
-use Rattle.readable_log.specs.declared.grant.Stay.{Stay}
+use Rattle.base_lists.proofs.Places.{tally}
+use Rattle.log_reading.specs.Grants.{moment_at}
+use Rattle.log_reading.specs.declared.grant.Stay.{Stay}
 use Rattle.late_cert.specs.Lateness.{lateness, own_slots, AreAfterJoining, latenesses, IsAssignment}
 use Rattle.late_cert.specs.Reports.{is_within, IsCritical}
 use Rattle.late_cert.specs.declared.report.Report.{Report}
-use Rattle.readable_log.specs.Windows.{Window}
+use Rattle.log_reading.specs.Windows.{Window}
 
 -- a slot after the cut and before the end
 abbrev pub is_between : ℕ → ℕ → ℕ → Bool

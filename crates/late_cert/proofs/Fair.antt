@@ -8,20 +8,20 @@ use Rattle.std.proofs.lemmas.Int.{ints}
 use Rattle.std.proofs.lemmas.List.{append-nil}
 use Rattle.due_key.specs.Order.{key_cmp}
 use Rattle.due_key.specs.declared.key.Key.{Key}
-use Rattle.dispatch_log.specs.declared.entry.Entry.{Entry}
-use Rattle.dispatch_log.specs.declared.queue.Queue.{Queue}
-use Rattle.dispatch_log.specs.Rows.{phase_waits_in}
-use Rattle.dispatch_log.specs.declared.setup.Setup.{Setup}
-use Rattle.dispatch_log.specs.States.{State, after, after_all}
-use Rattle.dispatch_log.proofs.Judged.{after_all-push}
-use Rattle.readable_log.specs.Grants.{Wait, grant_in, joins, joining_of, key_known, grant_after, grants_after, is_of}
-use Rattle.readable_log.specs.declared.base.BaseRow.{BaseRow}
-use Rattle.readable_log.specs.declared.grant.SlotGrant.{SlotGrant}
-use Rattle.readable_log.specs.declared.grant.Stay.{Stay}
-use Rattle.readable_log.proofs.Joinings.{none_in_second, grants_no_joining}
-use Rattle.readable_log.proofs.Timely.{follows}
-use Rattle.readable_log.specs.Ordered.{TakesLeast, KeepsOrder, AllKeepOrder, HaveArrived}
-use Rattle.readable_log.proofs.Back.{Waited, step_back, steps_back, have_arrived_after}
+use Rattle.log_entries.specs.declared.entry.Entry.{Entry}
+use Rattle.log_entries.specs.declared.queue.Queue.{Queue}
+use Rattle.log_entries.specs.Rows.{phase_waits_in}
+use Rattle.log_entries.specs.declared.setup.Setup.{Setup}
+use Rattle.log_entries.specs.States.{State, after, after_all}
+use Rattle.log_entries.proofs.Judged.{after_all-push}
+use Rattle.log_reading.specs.Grants.{Wait, grant_in, joins, joining_of, key_known, grant_after, grants_after, is_of}
+use Rattle.log_reading.specs.declared.base.BaseRow.{BaseRow}
+use Rattle.log_reading.specs.declared.grant.SlotGrant.{SlotGrant}
+use Rattle.log_reading.specs.declared.grant.Stay.{Stay}
+use Rattle.log_reading.proofs.Joinings.{none_in_second, grants_no_joining}
+use Rattle.log_reading.proofs.Timely.{follows}
+use Rattle.log_reading.specs.Ordered.{TakesLeast, KeepsOrder, AllKeepOrder, HaveArrived}
+use Rattle.log_reading.proofs.Back.{Waited, step_back, steps_back, have_arrived_after}
 use Rattle.late_cert.proofs.Sorted.{is_of_true}
 
 -- each later stay that joined no later than an earlier one's slot is due no earlier

@@ -9,24 +9,24 @@ use Rattle.std.proofs.lemmas.List.{length-map, map-append, take-append-drop, get
 use Rattle.std.proofs.lemmas.List.Elements.{recursion_from_All, All-from_recursion, filter-append}
 use Rattle.std.proofs.lemmas.List.Sorted.{All-permutation, IsPermutation-sym}
 use Rattle.std.proofs.lemmas.Option.{slice_get_within, get_or_from_slice_get}
-use Rattle.dispatch_log.specs.declared.queue.Queue.{Queue}
-use Rattle.readable_log.specs.Grants.{is_of, grants}
-use Rattle.readable_log.specs.Readable.{IsReadable}
-use Rattle.readable_log.specs.Timely.{IsTimely}
-use Rattle.readable_log.specs.declared.grant.SlotGrant.{SlotGrant}
-use Rattle.readable_log.proofs.Timely.{timely}
+use Rattle.log_entries.specs.declared.queue.Queue.{Queue}
+use Rattle.log_reading.specs.Grants.{is_of, grants}
+use Rattle.log_reading.specs.Readable.{IsReadable}
+use Rattle.log_reading.specs.Timely.{IsTimely}
+use Rattle.log_reading.specs.declared.grant.SlotGrant.{SlotGrant}
+use Rattle.log_reading.proofs.Timely.{timely}
 use Rattle.late_cert.specs.Groups.{is_before, is_later, IsReportOf, AreGroups}
 use Rattle.late_cert.specs.Lateness.{own_lateness}
 use Rattle.late_cert.specs.Reports.{is_within, last_cut, IsChosenFor, IsChosenReport, comes_before, AreAscending, is_covered, AreReports}
 use Rattle.late_cert.specs.Tests.{is_about, late_by}
 use Rattle.late_cert.specs.declared.report.Report.{Report}
-use Rattle.list_facts.proofs.Members.{all_weaker, all_both, all_map, all_append, all_take, all_drop, all_filter, filter_none, one_of}
-use Rattle.list_facts.proofs.Places.{cut_at}
+use Rattle.base_lists.proofs.Members.{all_weaker, all_both, all_map, all_append, all_take, all_drop, all_filter, filter_none, one_of}
+use Rattle.base_lists.proofs.Places.{cut_at}
 use Rattle.late_cert.proofs.Order.{before_other, same_ties}
 use Rattle.late_cert.proofs.Sorted.{AreSorted, are_sorted, sorted_drop, is_of_true, is_of_own}
 use Rattle.late_cert.proofs.Sorted.{NoneBefore, IsSplit, split_sorted, none_before_first, stable_filter}
 use Rattle.late_cert.proofs.Sound.{lateness_of}
-use Rattle.readable_log.specs.Windows.{Window}
+use Rattle.log_reading.specs.Windows.{Window}
 
 -- ---- a group's report
 

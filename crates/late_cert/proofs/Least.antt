@@ -5,19 +5,19 @@ use Rattle.std.specs.List.{AllByRecursion, filter}
 use Rattle.std.specs.Int.{int_max}
 use Rattle.std.proofs.lemmas.Int.{ints, clamps}
 use Rattle.std.proofs.lemmas.List.Sorted.{IsPermutation-refl}
-use Rattle.dispatch_log.specs.declared.queue.Queue.{Queue}
-use Rattle.readable_log.specs.declared.grant.SlotGrant.{SlotGrant}
-use Rattle.readable_log.specs.declared.grant.Stay.{Stay}
-use Rattle.readable_log.specs.Grants.{is_of, grants, stays, moment_at}
-use Rattle.readable_log.specs.Readable.{IsReadable}
-use Rattle.readable_log.specs.Timely.{IsTimely}
-use Rattle.readable_log.proofs.Moments.{moments_rise}
-use Rattle.readable_log.proofs.Timely.{timely}
+use Rattle.log_entries.specs.declared.queue.Queue.{Queue}
+use Rattle.log_reading.specs.declared.grant.SlotGrant.{SlotGrant}
+use Rattle.log_reading.specs.declared.grant.Stay.{Stay}
+use Rattle.log_reading.specs.Grants.{is_of, grants, stays, moment_at}
+use Rattle.log_reading.specs.Readable.{IsReadable}
+use Rattle.log_reading.specs.Timely.{IsTimely}
+use Rattle.log_reading.proofs.Moments.{moments_rise}
+use Rattle.log_reading.proofs.Timely.{timely}
 use Rattle.late_cert.specs.Lateness.{own_lateness, own_slots, AreAfterJoining, latenesses, greatest}
 use Rattle.late_cert.specs.Reports.{IsSoundReport, IsLeast, is_within, IsCritical}
 use Rattle.late_cert.specs.declared.report.Report.{Report}
 use Rattle.late_cert.proofs.Exchange.{Reaches, reached_by_all}
-use Rattle.readable_log.specs.Windows.{Window}
+use Rattle.log_reading.specs.Windows.{Window}
 
 greatest_reaches : (worst : ℤ) (numbers : List ℤ) → Reaches worst numbers → worst ≤ℤ greatest numbers
 greatest_reaches worst [] reached = absurd reached

@@ -1,17 +1,17 @@
 -- The reports of a legal log.
 use Rattle.std.proofs.Common.{List}
 use Rattle.std.specs.List.{AllByRecursion}
-use Rattle.dispatch_log.specs.Histories.{History}
-use Rattle.dispatch_log.specs.Legal.{IsLegal}
-use Rattle.readable_log.specs.Readable.{IsReadable}
-use Rattle.readable_log.specs.Windows.{window_in}
-use Rattle.readable_log.proofs.Based.{base_arrived}
-use Rattle.readable_log.proofs.Judged.{judged_keep_order, judged_readable}
+use Rattle.log_entries.specs.Histories.{History}
+use Rattle.log_entries.specs.Legal.{IsLegal}
+use Rattle.log_reading.specs.Readable.{IsReadable}
+use Rattle.log_reading.specs.Windows.{window_in}
+use Rattle.log_reading.proofs.Based.{base_arrived}
+use Rattle.log_reading.proofs.Judged.{judged_keep_order, judged_readable}
 use Rattle.late_cert.specs.Reports.{IsChosenReport, IsSoundReport, IsLeast, AreReports}
 use Rattle.late_cert.specs.declared.report.Report.{Report}
 use Rattle.late_cert.proofs.Chosen.{chosen_sound}
 use Rattle.late_cert.proofs.Least.{sound_least}
-use Rattle.list_facts.proofs.Members.{all_weaker}
+use Rattle.base_lists.proofs.Members.{all_weaker}
 
 legal_readable : (h : History) → IsLegal h → IsReadable (window_in h)
 legal_readable h legal = judged_readable h.setup h.base h.log legal.begins legal.lawful.judged

@@ -6,19 +6,19 @@ use Rattle.std.specs.Ordering.{int_eq}
 use Rattle.std.proofs.lemmas.Bool.{and_parts}
 use Rattle.std.proofs.lemmas.Bool.Decides.{Decides-int_eq}
 use Rattle.std.proofs.lemmas.Int.{ints}
-use Rattle.list_facts.proofs.Members.{Contains-nil, Contains-head, Contains-tail, Contains-cases, Contains-middle, each_at_member, each_from_members}
-use Rattle.list_facts.proofs.Never.{false_true}
-use Rattle.dispatch_log.specs.declared.queue.Queue.{Queue}
-use Rattle.dispatch_log.specs.Determined.{AreSameHistories}
-use Rattle.dispatch_log.specs.Histories.{History}
-use Rattle.dispatch_log.specs.Legal.{IsLegal}
-use Rattle.dispatch_log.specs.Rows.{same_queue}
-use Rattle.readable_log.specs.declared.grant.SlotGrant.{SlotGrant}
-use Rattle.readable_log.specs.declared.grant.Stay.{Stay}
-use Rattle.readable_log.specs.Grants.{is_of, grants, stays, moment_at}
-use Rattle.readable_log.specs.Windows.{Window, window_in}
-use Rattle.dispatch_log.proofs.Choices.{queue_same}
-use Rattle.readable_log.proofs.Placeless.{same_grants, same_moments}
+use Rattle.base_lists.proofs.Members.{Contains-nil, Contains-head, Contains-tail, Contains-cases, Contains-middle, each_at_member, each_from_members}
+use Rattle.base_lists.proofs.Never.{false_true}
+use Rattle.log_entries.specs.declared.queue.Queue.{Queue}
+use Rattle.log_entries.specs.Determined.{AreSameHistories}
+use Rattle.log_entries.specs.Histories.{History}
+use Rattle.log_entries.specs.Legal.{IsLegal}
+use Rattle.log_entries.specs.Rows.{same_queue}
+use Rattle.log_reading.specs.declared.grant.SlotGrant.{SlotGrant}
+use Rattle.log_reading.specs.declared.grant.Stay.{Stay}
+use Rattle.log_reading.specs.Grants.{is_of, grants, stays, moment_at}
+use Rattle.log_reading.specs.Windows.{Window, window_in}
+use Rattle.log_entries.proofs.Choices.{queue_same}
+use Rattle.log_reading.proofs.Placeless.{same_grants, same_moments}
 use Rattle.late_cert.specs.declared.report.Report.{Report}
 use Rattle.late_cert.specs.Lateness.{own_lateness}
 use Rattle.late_cert.specs.Reports.{stays_of, is_within, last_cut, IsFirstWorst, IsChosenFor}

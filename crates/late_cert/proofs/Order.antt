@@ -4,11 +4,11 @@ use Rattle.std.specs.Ordering.{int_cmp, int_eq, ordering_then}
 use Rattle.std.specs.declared.cmp.Ordering.{Ordering}
 use Rattle.std.proofs.lemmas.Bool.Decides.{nat_tests}
 use Rattle.std.proofs.lemmas.Int.{ints}
-use Rattle.dispatch_log.specs.declared.queue.Queue.{Queue}
-use Rattle.dispatch_log.specs.declared.queue.Queue.TheVariants.{Backend, Server}
-use Rattle.dispatch_log.specs.Rows.{queue_cmp, same_queue}
-use Rattle.dispatch_log.specs.contracts.queue.QueueOrd.TheImpl as derived
-use Rattle.dispatch_log.proofs.QueueOrder.{queue_order}
+use Rattle.log_entries.specs.declared.queue.Queue.{Queue}
+use Rattle.log_entries.specs.declared.queue.Queue.TheVariants.{Backend, Server}
+use Rattle.log_entries.specs.Rows.{queue_cmp, same_queue}
+use Rattle.log_entries.specs.contracts.queue.QueueOrd.TheImpl as derived
+use Rattle.log_entries.proofs.QueueOrder.{queue_order}
 use Rattle.late_cert.specs.Reports.{comes_before}
 
 -- how pairs of a queue and a class compare

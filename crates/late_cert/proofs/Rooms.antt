@@ -6,8 +6,8 @@ use Rattle.std.specs.Bool.{IsTrue}
 use Rattle.std.proofs.Math.ListN.{set, length-set, length-replicate}
 use Rattle.std.proofs.lemmas.Bool.Decides.{Decides-eqb}
 use Rattle.std.proofs.lemmas.Option.{same_Some, slice_get_read}
-use Rattle.list_facts.proofs.Places.{got_set}
-use Rattle.dispatch_log.specs.declared.queue.Queue.{Queue}
+use Rattle.base_lists.proofs.Places.{got_set}
+use Rattle.log_entries.specs.declared.queue.Queue.{Queue}
 use Rattle.late_cert.specs.Table.{row_at, worst_of, IsTable}
 use Rattle.late_cert.specs.declared.worsts.Worsts.{Worsts}
 

@@ -9,12 +9,12 @@ use Rattle.std.proofs.lemmas.Bool.{false≢true, and_parts}
 use Rattle.std.proofs.lemmas.Bool.Decides.{Decides-int_eq}
 use Rattle.std.proofs.lemmas.List.Elements.{recursion_from_All, filter_agree}
 use Rattle.std.proofs.lemmas.List.Sorted.{sorted_far}
-use Rattle.list_facts.proofs.Members.{filter_none}
-use Rattle.dispatch_log.specs.declared.queue.Queue.{Queue}
-use Rattle.dispatch_log.specs.Rows.{same_queue}
-use Rattle.dispatch_log.proofs.Choices.{queue_own, queue_same}
-use Rattle.readable_log.specs.Grants.{is_of}
-use Rattle.readable_log.specs.declared.grant.SlotGrant.{SlotGrant}
+use Rattle.base_lists.proofs.Members.{filter_none}
+use Rattle.log_entries.specs.declared.queue.Queue.{Queue}
+use Rattle.log_entries.specs.Rows.{same_queue}
+use Rattle.log_entries.proofs.Choices.{queue_own, queue_same}
+use Rattle.log_reading.specs.Grants.{is_of}
+use Rattle.log_reading.specs.declared.grant.SlotGrant.{SlotGrant}
 use Rattle.late_cert.specs.Groups.{is_before}
 use Rattle.late_cert.specs.Reports.{comes_before}
 use Rattle.late_cert.proofs.Order.{before_other, ties_same, same_ties, before_one_way, before_chain}

@@ -9,18 +9,18 @@ use Rattle.std.proofs.lemmas.Bool.Decides.{nat_tests, Decides-and, Decides-eqb, 
 use Rattle.std.proofs.lemmas.Int.{ints}
 use Rattle.std.proofs.lemmas.List.{length-map, drop_all}
 use Rattle.std.proofs.lemmas.List.Sums.{length-filter}
-use Rattle.list_facts.proofs.Members.{all_decides}
-use Rattle.readable_log.specs.Grants.{grants, stays}
-use Rattle.readable_log.specs.Readable.{IsReadable}
-use Rattle.readable_log.specs.Timely.{IsTimely}
-use Rattle.readable_log.specs.declared.grant.SlotGrant.{SlotGrant}
-use Rattle.readable_log.specs.declared.grant.Stay.{Stay}
-use Rattle.readable_log.proofs.Timely.{timely}
+use Rattle.base_lists.proofs.Members.{all_decides}
+use Rattle.log_reading.specs.Grants.{grants, stays}
+use Rattle.log_reading.specs.Readable.{IsReadable}
+use Rattle.log_reading.specs.Timely.{IsTimely}
+use Rattle.log_reading.specs.declared.grant.SlotGrant.{SlotGrant}
+use Rattle.log_reading.specs.declared.grant.Stay.{Stay}
+use Rattle.log_reading.proofs.Timely.{timely}
 use Rattle.late_cert.specs.Lateness.{own_lateness}
 use Rattle.late_cert.specs.Reports.{is_within, HasWorst, IsCritical, IsSoundReport}
 use Rattle.late_cert.specs.Tests.{is_about, late_by, keeps_worst, is_worst, is_listed, listed_of, is_urgent, PassesEachTest}
 use Rattle.late_cert.specs.declared.report.Report.{Report}
-use Rattle.readable_log.specs.Windows.{Window}
+use Rattle.log_reading.specs.Windows.{Window}
 
 -- the stays that a report is about, among some grants
 abbrev pub about : Report → List SlotGrant → List Stay

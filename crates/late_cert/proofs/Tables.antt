@@ -11,10 +11,10 @@ use Rattle.std.specs.Option.{option_and_then, option_map_or}
 use Rattle.std.specs.Vec.{with_item}
 use Rattle.std.proofs.Math.ListN.{set}
 use Rattle.std.proofs.lemmas.Bool.Decides.{Decides-eqb, Decides-int_eq}
-use Rattle.list_facts.proofs.Places.{got_set}
-use Rattle.dispatch_log.specs.declared.queue.Queue.{Queue}
-use Rattle.dispatch_log.specs.declared.queue.Queue.TheVariants.{Backend, Server}
-use Rattle.dispatch_log.specs.Rows.{same_queue}
+use Rattle.base_lists.proofs.Places.{got_set}
+use Rattle.log_entries.specs.declared.queue.Queue.{Queue}
+use Rattle.log_entries.specs.declared.queue.Queue.TheVariants.{Backend, Server}
+use Rattle.log_entries.specs.Rows.{same_queue}
 use Rattle.late_cert.specs.Table.{row_at, worst_of, worst_at}
 use Rattle.late_cert.specs.Running.{worst_with}
 use Rattle.late_cert.specs.declared.worsts.Worsts.{Worsts}

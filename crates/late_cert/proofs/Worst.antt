@@ -7,20 +7,20 @@ use Rattle.std.specs.List.{AllByRecursion, filter}
 use Rattle.std.proofs.lemmas.Int.{ints, clamps}
 use Rattle.std.proofs.lemmas.List.{map-append, append-nil}
 use Rattle.std.proofs.lemmas.List.Elements.{Contains-append_left, Contains-append_right, Contains-append_cases, filter-append}
-use Rattle.dispatch_log.specs.declared.queue.Queue.{Queue}
-use Rattle.readable_log.specs.Grants.{is_of, stays, grants}
-use Rattle.readable_log.specs.Readable.{IsReadable}
-use Rattle.readable_log.specs.Timely.{IsTimely}
-use Rattle.readable_log.specs.Windows.{Window}
-use Rattle.readable_log.specs.declared.grant.SlotGrant.{SlotGrant}
-use Rattle.readable_log.specs.declared.grant.Stay.{Stay}
-use Rattle.readable_log.proofs.Timely.{timely}
+use Rattle.log_entries.specs.declared.queue.Queue.{Queue}
+use Rattle.log_reading.specs.Grants.{is_of, stays, grants}
+use Rattle.log_reading.specs.Readable.{IsReadable}
+use Rattle.log_reading.specs.Timely.{IsTimely}
+use Rattle.log_reading.specs.Windows.{Window}
+use Rattle.log_reading.specs.declared.grant.SlotGrant.{SlotGrant}
+use Rattle.log_reading.specs.declared.grant.Stay.{Stay}
+use Rattle.log_reading.proofs.Timely.{timely}
 use Rattle.late_cert.specs.Lateness.{own_lateness}
 use Rattle.late_cert.specs.Reports.{IsSoundReport}
 use Rattle.late_cert.specs.Running.{IsGreatest, IsWorstIn, IsWorstOf, IsWorstAmong, latenesses_of, worst_so_far, worst_with}
 use Rattle.late_cert.specs.declared.table.Running.{Running}
 use Rattle.late_cert.specs.declared.report.Report.{Report}
-use Rattle.list_facts.proofs.Members.{Contains-head, Contains-nil, Contains-one, Contains-map, each_at_member, all_map}
+use Rattle.base_lists.proofs.Members.{Contains-head, Contains-nil, Contains-one, Contains-map, each_at_member, all_map}
 use Rattle.late_cert.specs.Tests.{late_by}
 use Rattle.late_cert.proofs.Sorted.{is_of_true}
 use Rattle.late_cert.proofs.Sound.{lateness_of}

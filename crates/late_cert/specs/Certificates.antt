@@ -1,12 +1,12 @@
 -- What a window of a dispatcher and its reports show together.
 use Rattle.std.specs.Prelude.{List}
 use Rattle.std.specs.List.{AllByRecursion}
-use Rattle.dispatch_log.specs.Dispatch.{IsDispatched}
-use Rattle.dispatch_log.specs.Histories.{History}
-use Rattle.dispatch_log.specs.Legal.{IsLegal}
+use Rattle.log_entries.specs.Dispatch.{IsDispatched}
+use Rattle.log_entries.specs.Histories.{History}
+use Rattle.log_entries.specs.Legal.{IsLegal}
 use Rattle.late_cert.specs.Reports.{AreReports, IsSoundReport, IsLeast}
 use Rattle.late_cert.specs.declared.report.Report.{Report}
-use Rattle.readable_log.specs.Windows.{window_in}
+use Rattle.log_reading.specs.Windows.{window_in}
 
 -- the log is legal, so no server serves more than its limit, each request is in exactly one place,
 -- and no server has a free slot while a request that may take it waits; the reports are the chosen

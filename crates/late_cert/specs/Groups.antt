@@ -1,7 +1,7 @@
 -- The reports of grants that are sorted by queue and class.
 use Rattle.std.specs.Prelude.{◌≡◌, ℕ, ◌<◌, Bool, int_lt, List, [], ◌∷◌, length, take, drop, map, Some, slice_get}
 use Rattle.std.specs.List.{filter, prefix_len, IsFirstBest}
-use Rattle.readable_log.specs.declared.grant.SlotGrant.{SlotGrant}
+use Rattle.log_reading.specs.declared.grant.SlotGrant.{SlotGrant}
 use Rattle.late_cert.specs.Reports.{is_within, last_cut, comes_before}
 use Rattle.late_cert.specs.Tests.{is_about, late_by}
 use Rattle.late_cert.specs.declared.report.Report.{Report}

@@ -2,9 +2,9 @@
 use Rattle.std.specs.Prelude.{ℕ, ◌<◌, ℤ, pos, ◌-ℤ◌, List, [], ◌∷◌, map}
 use Rattle.std.specs.Int.{int_max}
 use Rattle.std.specs.List.Sorted.{IsPermutation}
-use Rattle.readable_log.specs.Windows.{Window}
-use Rattle.readable_log.specs.Grants.{moment_at}
-use Rattle.readable_log.specs.declared.grant.Stay.{Stay}
+use Rattle.log_reading.specs.Windows.{Window}
+use Rattle.log_reading.specs.Grants.{moment_at}
+use Rattle.log_reading.specs.declared.grant.Stay.{Stay}
 
 -- the lateness of a stay that gets the slot at a position: the moment there minus the due date
 abbrev pub lateness : Window → ℕ → Stay → ℤ

@@ -5,21 +5,21 @@ use Rattle.std.specs.Option.{option_map_or}
 use Rattle.std.specs.Ordering.{int_eq}
 use Rattle.due_key.specs.Range.{IsBetween}
 use Rattle.due_key.specs.declared.class.TheConstants.{LOWEST_CLASS, HIGHEST_CLASS}
-use Rattle.dispatch_log.specs.declared.queue.Queue.{Queue}
-use Rattle.dispatch_log.specs.Rows.{same_queue}
-use Rattle.readable_log.specs.Grants.{is_of, stays}
-use Rattle.readable_log.specs.Windows.{Window}
-use Rattle.readable_log.specs.declared.grant.SlotGrant.{SlotGrant}
+use Rattle.log_entries.specs.declared.queue.Queue.{Queue}
+use Rattle.log_entries.specs.Rows.{same_queue}
+use Rattle.log_reading.specs.Grants.{is_of, stays}
+use Rattle.log_reading.specs.Windows.{Window}
+use Rattle.log_reading.specs.declared.grant.SlotGrant.{SlotGrant}
 use Rattle.std.specs.List.{filter}
 use Rattle.late_cert.specs.Lateness.{own_lateness}
-use Rattle.late_cert.specs.Queues.{IsQueueOf}
+use Rattle.log_entries.specs.Queues.{IsQueueOf}
 use Rattle.late_cert.specs.Tests.{late_by}
 use Rattle.late_cert.specs.Table.{row_of, worst_at}
 use Rattle.late_cert.specs.declared.table.Running.{Running}
 
 -- there is room for a class
-abbrev pub has_room : Running → ℤ → Bool
-has_room running class = is_some (row_of running.table.items class)
+abbrev pub has_class_room : Running → ℤ → Bool
+has_class_room running class = is_some (row_of running.table.items class)
 
 -- the worst lateness so far of a queue and class
 abbrev pub worst_so_far : Running → Queue → ℤ → Option ℤ
@@ -56,4 +56,4 @@ IsWorstAmong grants running =
 
 -- a running worst has room for a grant
 abbrev pub HasRoomFor : Running → SlotGrant → Type 0
-HasRoomFor running grant = IsQueueOf running.servers grant.queue × IsTrue (has_room running grant.class)
+HasRoomFor running grant = IsQueueOf running.servers grant.queue × IsTrue (has_class_room running grant.class)

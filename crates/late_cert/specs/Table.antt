@@ -3,8 +3,8 @@ use Rattle.std.specs.Prelude.{◌≡◌, ℕ, ℤ, pos, ◌+ℤ◌, List, [], �
 use Rattle.std.specs.Option.{option_and_then, unwrap_or}
 use Rattle.std.specs.Ordering.{int_eq}
 use Rattle.due_key.specs.declared.class.TheConstants.{LOWEST_CLASS}
-use Rattle.dispatch_log.specs.declared.queue.Queue.{Queue}
-use Rattle.dispatch_log.specs.declared.queue.Queue.TheVariants.{Backend, Server}
+use Rattle.log_entries.specs.declared.queue.Queue.{Queue}
+use Rattle.log_entries.specs.declared.queue.Queue.TheVariants.{Backend, Server}
 use Rattle.late_cert.specs.declared.worsts.Worsts.{Worsts}
 
 -- the row at a number, where there is one

@@ -2,9 +2,9 @@
 use Rattle.std.specs.Prelude.{◌≡◌, ◌<◌, ◌==◌, nat_lt, ◌&&◌, not, Bool, true, ℤ, pos, ◌-ℤ◌, int_lt, List, count_by, map, ◌||◌}
 use Rattle.std.specs.List.{filter, list_all, list_any}
 use Rattle.std.specs.Ordering.{int_eq}
-use Rattle.readable_log.specs.Grants.{is_of}
-use Rattle.readable_log.specs.declared.grant.SlotGrant.{SlotGrant}
-use Rattle.readable_log.specs.declared.grant.Stay.{Stay}
+use Rattle.log_reading.specs.Grants.{is_of}
+use Rattle.log_reading.specs.declared.grant.SlotGrant.{SlotGrant}
+use Rattle.log_reading.specs.declared.grant.Stay.{Stay}
 use Rattle.late_cert.specs.Reports.{is_within}
 use Rattle.late_cert.specs.declared.report.Report.{Report}
 

@@ -1,11 +1,11 @@
 -- Worked examples: a log and reports on it.
 use Rattle.std.specs.Prelude.{ℕ, ℤ, pos, negsuc, List, [], ◌∷◌, None, Some}
-use Rattle.dispatch_log.specs.declared.entry.Arrival.{Arrival}
-use Rattle.dispatch_log.specs.declared.entry.Entry.{Entry}
-use Rattle.dispatch_log.specs.declared.entry.Entry.TheVariants.{Arrive, Done, Direct, Joined, Granted, Freed, Ended}
-use Rattle.dispatch_log.specs.declared.queue.Queue.TheVariants.{Backend}
-use Rattle.readable_log.specs.Windows.{Window}
-use Rattle.readable_log.specs.declared.grant.Stay.{Stay}
+use Rattle.log_entries.specs.declared.entry.Arrival.{Arrival}
+use Rattle.log_entries.specs.declared.entry.Entry.{Entry}
+use Rattle.log_entries.specs.declared.entry.Entry.TheVariants.{Arrive, Done, Direct, Joined, Granted, Freed, Ended}
+use Rattle.log_entries.specs.declared.queue.Queue.TheVariants.{Backend}
+use Rattle.log_reading.specs.Windows.{Window}
+use Rattle.log_reading.specs.declared.grant.Stay.{Stay}
 use Rattle.late_cert.specs.declared.report.Report.{Report}
 
 abbrev pub arrival : ℕ → ℤ → ℕ → Arrival

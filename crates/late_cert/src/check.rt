@@ -1,11 +1,11 @@
 ghost use Rattle.std.specs.Prelude.{◌≡◌, ◌↔◌, IsTrue, pos, ◌-ℤ◌, count_by};
 ghost use Rattle.std.specs.List.{list_all, list_any};
-ghost use Rattle.readable_log.specs.Windows.{window_of};
+ghost use Rattle.log_reading.specs.Windows.{window_of};
 ghost use Rattle.late_cert.specs.Reports.{IsSoundReport, IsLeast};
 ghost use Rattle.late_cert.specs.Tests.{is_about, late_by, keeps_worst, is_worst, is_listed, listed_of, is_urgent, PassesEachTest};
 
 use crate::report::Report;
-use readable_log::{Log, SlotGrant, Stay};
+use log_reading::{Log, SlotGrant, Stay};
 
 /// Says whether a report is sound, whoever made it: it counts the stays of its queue and class,
 /// none of them is later than its worst, one of them has exactly that lateness, slot and due date,

@@ -1,24 +1,24 @@
 ghost use Rattle.std.specs.Prelude.{◌≡◌, pos, ℤ, List, [], ◌∷◌, Some, None};
 ghost use Rattle.due_key.specs.Range.{IsBetween};
 ghost use Rattle.due_key.specs.declared.class.TheConstants.{LOWEST_CLASS, HIGHEST_CLASS};
-ghost use Rattle.dispatch_log.specs.declared.queue.Queue.{Queue};
+ghost use Rattle.log_entries.specs.declared.queue.Queue.{Queue};
 ghost use Rattle.late_cert.specs.Running.{IsWorstOf, worst_so_far};
 ghost use Rattle.late_cert.specs.declared.table.Running.{Running};
-ghost use Rattle.readable_log.specs.Grants.{stays};
-ghost use Rattle.dispatch_log.specs.declared.queue.Queue.TheVariants.{Backend};
+ghost use Rattle.log_reading.specs.Grants.{stays};
+ghost use Rattle.log_entries.specs.declared.queue.Queue.TheVariants.{Backend};
 ghost use Rattle.late_cert.specs.Lateness.{latenesses, IsAssignment};
 ghost use Rattle.late_cert.specs.Worked.{overtaking, stay_2, stay_3, chosen, one_is_missing, joined_before_the_cut, worst_is_too_small, waited_before, chosen_before, joined_in_the_window_before};
-ghost use Rattle.readable_log.specs.Readable.{IsReadable};
+ghost use Rattle.log_reading.specs.Readable.{IsReadable};
 ghost use Rattle.late_cert.specs.declared.report.Report.{Report};
 ghost use Rattle.late_cert.specs.Reports.{IsChosenReport, IsSoundReport, IsLeast, AreReports};
 ghost use Rattle.std.specs.List.{AllByRecursion};
-ghost use Rattle.dispatch_log.specs.Determined.{AreSameHistories};
-ghost use Rattle.dispatch_log.specs.Histories.{History};
-ghost use Rattle.dispatch_log.specs.Legal.{IsLegal};
-ghost use Rattle.readable_log.specs.Windows.{Window, window_in};
-ghost use Rattle.dispatch_log.specs.declared.setup.Setup.{Setup};
-ghost use Rattle.dispatch_log.specs.States.{State};
-ghost use Rattle.readable_log.specs.Ordered.{AllKeepOrder, HaveArrived};
+ghost use Rattle.log_entries.specs.Determined.{AreSameHistories};
+ghost use Rattle.log_entries.specs.Histories.{History};
+ghost use Rattle.log_entries.specs.Legal.{IsLegal};
+ghost use Rattle.log_reading.specs.Windows.{Window, window_in};
+ghost use Rattle.log_entries.specs.declared.setup.Setup.{Setup};
+ghost use Rattle.log_entries.specs.States.{State};
+ghost use Rattle.log_reading.specs.Ordered.{AllKeepOrder, HaveArrived};
 
 /// The law of least lateness: for every readable log and sound report, each assignment of the slots
 /// of the queue and class to their stays, where each slot comes after its stay joined, has a

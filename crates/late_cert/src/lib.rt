@@ -16,7 +16,7 @@ pub use laws::{
     chosen_is_sound, reports_are_determined, reports_of_legal_logs_are_sound,
     running_worst_is_certified, sound_is_least, worked_reports,
 };
+pub use log_reading::Stay;
 pub use making::certify;
-pub use readable_log::Stay;
 pub use report::{Report, Reports, Stays};
 pub use table::Running;

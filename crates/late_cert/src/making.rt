@@ -1,16 +1,16 @@
 ghost use Rattle.std.specs.Prelude.{◌≡◌, ◌<◌, IfOk, length, map, ℤ, ℕ, Option};
 ghost use Rattle.std.specs.List.{filter, prefix_len, IsFirstBest};
 ghost use Rattle.std.specs.List.Sorted.{IsPermutation, IsSortedBy, IsStableBy};
-ghost use Rattle.readable_log.specs.Grants.{is_of};
-ghost use Rattle.readable_log.specs.Windows.{window_of};
+ghost use Rattle.log_reading.specs.Grants.{is_of};
+ghost use Rattle.log_reading.specs.Windows.{window_of};
 ghost use Rattle.late_cert.specs.Reports.{AreReports, is_within, last_cut};
 ghost use Rattle.late_cert.specs.Groups.{is_before, is_later, IsReportOf, AreGroups};
 
 use crate::check::lateness;
 use crate::report::{Report, Reports, Stays};
-use dispatch_log::Queue;
 use due_key::{Class, Due};
-use readable_log::{Log, SlotGrant, Stay};
+use log_entries::Queue;
+use log_reading::{Log, SlotGrant, Stay};
 use std::alloc::{AllocError, Global};
 
 /// Makes the reports of a log: one for each queue and class with a grant, the backend's queue

@@ -1,7 +1,7 @@
-use dispatch_log::Queue;
+use base_lists::Items;
 use due_key::{Class, Due};
-use list_facts::Items;
-use readable_log::Stay;
+use log_entries::Queue;
+use log_reading::Stay;
 
 /// A list of stays, in order.
 pub type Stays = Items<Stay>;

@@ -1,19 +1,19 @@
 ghost use Rattle.std.specs.Prelude.{◌≡◌, ◌<◌, ◌≤◌, ℤ, pos, ◌-ℤ◌, IfOk, OnOk, OnErr, IsTrue, None, length, take, drop};
 ghost use Rattle.std.specs.List.{AllByRecursion};
-ghost use Rattle.readable_log.specs.Grants.{grants};
-ghost use Rattle.readable_log.specs.Windows.{window_of};
+ghost use Rattle.log_reading.specs.Grants.{grants};
+ghost use Rattle.log_reading.specs.Windows.{window_of};
 ghost use Rattle.due_key.specs.Range.{IsBetween};
 ghost use Rattle.due_key.specs.declared.class.TheConstants.{LOWEST_CLASS, HIGHEST_CLASS};
-ghost use Rattle.dispatch_log.specs.declared.queue.Queue.{Queue};
-ghost use Rattle.late_cert.specs.Queues.{IsQueueOf};
-ghost use Rattle.late_cert.specs.Running.{worst_with, worst_so_far, has_room, IsWorstAmong, HasRoomFor};
+ghost use Rattle.log_entries.specs.declared.queue.Queue.{Queue};
+ghost use Rattle.log_entries.specs.Queues.{IsQueueOf};
+ghost use Rattle.late_cert.specs.Running.{worst_with, worst_so_far, has_class_room, IsWorstAmong, HasRoomFor};
 
 use crate::check::lateness;
 use crate::table::{CLASSES, Running};
 use crate::worsts::Worsts;
-use dispatch_log::Queue;
 use due_key::{Class, LOWEST_CLASS};
-use readable_log::Log;
+use log_entries::Queue;
+use log_reading::Log;
 use std::alloc::{AllocError, Global};
 
 impl Running {
@@ -31,8 +31,8 @@ impl Running {
 
     /// Makes room for the grants of a class, from whatever queue. Changes no answer; where memory is refused, nothing.
     pub fn reserve(&mut self, alloc: Global, class: Class) -> Result<(), AllocError>
-        ensures ok { OnOk result (IsTrue (has_room self.new class)) }
-        ensures room { (other : ℤ) → IsTrue (has_room self.old other) → IsTrue (has_room self.new other) }
+        ensures ok { OnOk result (IsTrue (has_class_room self.new class)) }
+        ensures room { (other : ℤ) → IsTrue (has_class_room self.old other) → IsTrue (has_class_room self.new other) }
         ensures worst { (queue : Queue) (other : ℤ) → worst_so_far self.new queue other ≡ worst_so_far self.old queue other }
         ensures servers { self.new.servers ≡ self.old.servers }
         ensures err { OnErr result (self.new ≡ self.old) }
@@ -48,9 +48,9 @@ impl Running {
     /// below 0. Takes no memory.
     pub fn granted(&mut self, queue: Queue, class: Class, late: i64)
         requires queue { IsQueueOf self.old.servers queue }
-        requires room { IsTrue (has_room self.old class) }
+        requires room { IsTrue (has_class_room self.old class) }
         ensures worst { (other : Queue) (number : ℤ) → IsBetween LOWEST_CLASS HIGHEST_CLASS number → worst_so_far self.new other number ≡ worst_with (worst_so_far self.old) queue class late other number }
-        ensures room { (other : ℤ) → has_room self.new other ≡ has_room self.old other }
+        ensures room { (other : ℤ) → has_class_room self.new other ≡ has_class_room self.old other }
         ensures servers { self.new.servers ≡ self.old.servers }
     {
         let Some(row) = &mut self.table[row_of(class)] else {
@@ -65,7 +65,7 @@ impl Running {
         requires told { IsWorstAmong (take from (grants (window_of log.now))) self.old }
         requires room { AllByRecursion (HasRoomFor self.old) (drop from (grants (window_of log.now))) }
         ensures worst { IsWorstAmong (grants (window_of log.now)) self.new }
-        ensures room { (class : ℤ) → has_room self.new class ≡ has_room self.old class }
+        ensures room { (class : ℤ) → has_class_room self.new class ≡ has_class_room self.old class }
         ensures servers { self.new.servers ≡ self.old.servers }
     {
         let grants = log.grants();
@@ -86,7 +86,7 @@ impl Running {
     /// Forgets all grants and keeps the room. Takes no memory.
     pub fn clear(&mut self)
         ensures worst { (queue : Queue) (class : ℤ) → worst_so_far self.new queue class ≡ None }
-        ensures room { (class : ℤ) → has_room self.new class ≡ has_room self.old class }
+        ensures room { (class : ℤ) → has_class_room self.new class ≡ has_class_room self.old class }
         ensures servers { self.new.servers ≡ self.old.servers }
     {
         for at in 0..CLASSES {

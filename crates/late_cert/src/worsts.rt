@@ -1,12 +1,12 @@
 ghost use Rattle.std.specs.Prelude.{◌≡◌, ◌<◌, length, Some, None, if◌then◌else◌, IfOk};
 ghost use Rattle.std.specs.Int.{int_max};
 ghost use Rattle.std.specs.Option.{option_map_or};
-ghost use Rattle.dispatch_log.specs.Rows.{same_queue};
-ghost use Rattle.dispatch_log.specs.declared.queue.Queue.{Queue};
+ghost use Rattle.log_entries.specs.Rows.{same_queue};
+ghost use Rattle.log_entries.specs.declared.queue.Queue.{Queue};
 ghost use Rattle.late_cert.specs.Table.{worst_of};
-ghost use Rattle.late_cert.specs.Queues.{IsQueueOf};
+ghost use Rattle.log_entries.specs.Queues.{IsQueueOf};
 
-use dispatch_log::Queue;
+use log_entries::Queue;
 use std::alloc::{AllocError, Global};
 
 /// The greatest lateness of each queue, in milliseconds, for the requests of one class.

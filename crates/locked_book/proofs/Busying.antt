@@ -2,19 +2,19 @@
 use Rattle.std.proofs.Common.{◌≡◌, ◌≢◌, ℕ, ◌+◌, ◌*◌, ◌<◌, ◌≤◌, ◌⊎◌, ◌↔◌, inl, inr, List, [], ◌∷◌, ◌++◌, sym, subst, arith}
 use mathlib.Core.Logic.{dite}
 use native.Mathlib.Decide.{ℕ_discrete}
-use Rattle.verdict.specs.declared.Verdict.{Verdict}
-use Rattle.list_facts.specs.Weights.{total}
-use Rattle.list_facts.proofs.Totals.{total-push}
-use Rattle.place_set.specs.Sets.{Has}
+use Rattle.base_verdict.specs.declared.Verdict.{Verdict}
+use Rattle.base_lists.specs.Weights.{total}
+use Rattle.base_lists.proofs.Totals.{total-push}
+use Rattle.base_places.specs.Sets.{Has}
 use Rattle.grant_board.specs.declared.returned.Return.{Return}
 use Rattle.grant_board.specs.Views.{grant, KeeperView, at_place, count_at}
 use Rattle.grant_board.specs.KeeperCalls.{offer_after, Collects}
 use Rattle.grant_board.proofs.Grants.{at_place-yes, at_place-no}
-use Rattle.locked_book.specs.Busy.{IsKept}
+use Rattle.locked_book.specs.Busy.{SetIsKept}
 
 pub kept_offer : (view : KeeperView) (places next : List ℕ) (blocks p t : ℕ) (it : Verdict)
-    → IsKept view places blocks → p < view.terms.places → count_at p view.out ≡ 0
-    → ((q : ℕ) → Has next q ↔ ((q ≡ p) ⊎ Has places q)) → IsKept (offer_after view (grant p t it)) next blocks
+    → SetIsKept view places blocks → p < view.terms.places → count_at p view.out ≡ 0
+    → ((q : ℕ) → Has next q ↔ ((q ≡ p) ⊎ Has places q)) → SetIsKept (offer_after view (grant p t it)) next blocks
 kept_offer view places next blocks p t it is low free more = record {
   few = is.few;
   in_blocks = is.in_blocks;
@@ -38,8 +38,8 @@ kept_offer view places next blocks p t it is low free more = record {
     count : (q : ℕ) → total (at_place q) (view.out ++ grant p t it ∷ []) ≡ total (at_place q) view.out + at_place q (grant p t it)
     count q = total-push (at_place q) view.out (grant p t it)
 
-pub kept_collect : (old view : KeeperView) (places next : List ℕ) (blocks p : ℕ) (back : Return) → IsKept old places blocks → Collects old view p back
-    → ((q : ℕ) → Has next q ↔ ((q ≢ p) × Has places q)) → IsKept view next blocks
+pub kept_collect : (old view : KeeperView) (places next : List ℕ) (blocks p : ℕ) (back : Return) → SetIsKept old places blocks → Collects old view p back
+    → ((q : ℕ) → Has next q ↔ ((q ≢ p) × Has places q)) → SetIsKept view next blocks
 kept_collect old view places next blocks p back is collects less = record {
   few = subst (λ (v : KeeperView). v.terms.places ≤ 4096) (sym collects.after) is.few;
   in_blocks = subst (λ (v : KeeperView). v.terms.places ≤ 64 * blocks) (sym collects.after) is.in_blocks;

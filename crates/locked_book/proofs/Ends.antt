@@ -6,41 +6,41 @@ use Rattle.std.specs.Option.{option_map_or}
 use Rattle.std.proofs.lemmas.Bool.Decides.{nat_tests}
 use Rattle.std.proofs.lemmas.List.{append-nil, length-map, map-set}
 use Rattle.std.proofs.lemmas.List.Sums.{count_by-le-length}
-use Rattle.verdict.specs.declared.Verdict.{Verdict}
-use Rattle.verdict.specs.declared.Verdict.TheVariants.{Serve}
-use Rattle.verdict.specs.declared.Ending.{Ending}
-use Rattle.verdict.specs.declared.Ending.TheVariants as ending
-use Rattle.list_facts.proofs.Never.{none_some}
+use Rattle.base_verdict.specs.declared.Verdict.{Verdict}
+use Rattle.base_verdict.specs.declared.Verdict.TheVariants.{Serve}
+use Rattle.base_verdict.specs.declared.Ending.{Ending}
+use Rattle.base_verdict.specs.declared.Ending.TheVariants as ending
+use Rattle.base_lists.proofs.Never.{none_some}
 use Rattle.grant_board.specs.declared.returned.Return.{Return}
 use Rattle.grant_board.specs.Views.{grant, Terms, KeeperView, serves_at, count_of}
 use Rattle.grant_board.specs.BoardWords.{MayEnd}
 use Rattle.grant_board.specs.KeeperCalls.{Keeper, Collects, FindsUnposted, MayLimit, limit_after}
-use Rattle.dispatch_log.specs.declared.allowance.Intake.{Intake}
-use Rattle.dispatch_log.specs.declared.allowance.Intake.TheVariants.{Open, Closed}
-use Rattle.dispatch_log.specs.declared.entry.Entry.TheVariants.{Done, Fail, Limit}
-use Rattle.dispatch_log.specs.declared.refusal.Refusal.TheVariants.{LogFull, NoSuchServer, NoSuchTicket, WrongPhase}
-use Rattle.dispatch_log.specs.declared.row.Phase.{Phase}
-use Rattle.dispatch_log.specs.declared.row.Phase.TheVariants.{Loose, Waiting, Serving, Told}
-use Rattle.dispatch_log.specs.declared.row.Row.{Row}
-use Rattle.dispatch_log.specs.declared.setup.ServerSet.{ServerSet}
-use Rattle.dispatch_log.specs.Dispatch.{bound_from}
-use Rattle.dispatch_log.specs.Histories.{History, state_of, next_window, refuses_limit}
-use Rattle.dispatch_log.specs.Legal.{IsLegal, AddsEvent}
-use Rattle.dispatch_log.specs.Refusals.{first_of, lacks_room, is_waiting, has_a_slot}
-use Rattle.dispatch_log.specs.Rows.{row_of, is_served_by, served}
-use Rattle.dispatch_log.specs.States.{State, after}
-use Rattle.dispatch_log.proofs.Accepted.{none_refuses}
-use Rattle.dispatch_log.proofs.RowLemmas.{row_of_at}
-use Rattle.dispatch_log.proofs.Within.{within}
-use Rattle.dispatch_trace.specs.Histories.{HasEntryRoom}
-use Rattle.outstanding.specs.Books.{mark_by, IsBook, IsOwing}
-use Rattle.outstanding.specs.Calls.{Booked, added, grants_in, with_offers, Wakes, ended_by, event_of, TakesBack, SetsBound}
-use Rattle.outstanding.specs.Outstanding.{verdict_at}
-use Rattle.outstanding.specs.Verdicts.{verdicts, endings}
-use Rattle.outstanding.proofs.Owing.{below_mark, own_tickets, out_row, owes, owes_end, state_on}
-use Rattle.outstanding.proofs.Weighing.{IsOutAt, count_of_served}
+use Rattle.log_entries.specs.declared.allowance.Intake.{Intake}
+use Rattle.log_entries.specs.declared.allowance.Intake.TheVariants.{Open, Closed}
+use Rattle.log_entries.specs.declared.entry.Entry.TheVariants.{Done, Fail, Limit}
+use Rattle.log_entries.specs.declared.refusal.Refusal.TheVariants.{LogFull, NoSuchServer, NoSuchTicket, WrongPhase}
+use Rattle.log_entries.specs.declared.row.Phase.{Phase}
+use Rattle.log_entries.specs.declared.row.Phase.TheVariants.{Loose, Waiting, Serving, Told}
+use Rattle.log_entries.specs.declared.row.Row.{Row}
+use Rattle.log_entries.specs.declared.setup.ServerSet.{ServerSet}
+use Rattle.log_entries.specs.Dispatch.{bound_from}
+use Rattle.log_entries.specs.Histories.{History, state_of, next_window, refuses_limit}
+use Rattle.log_entries.specs.Legal.{IsLegal, AddsEvent}
+use Rattle.log_entries.specs.Refusals.{first_of, lacks_room, is_waiting, has_a_slot}
+use Rattle.log_entries.specs.Rows.{row_of, is_served_by, served}
+use Rattle.log_entries.specs.States.{State, after}
+use Rattle.log_entries.proofs.Accepted.{none_refuses}
+use Rattle.log_entries.proofs.RowLemmas.{row_of_at}
+use Rattle.log_entries.proofs.Within.{within}
+use Rattle.dispatch_state.specs.Histories.{HasEntryRoom}
+use Rattle.locked_book.specs.Books.{mark_by, IsBook, IsOwing}
+use Rattle.locked_book.specs.Calls.{Booked, added, grants_in, with_offers, Wakes, ended_by, event_of, TakesBack, SetsBound}
+use Rattle.locked_book.specs.Outstanding.{verdict_at}
+use Rattle.locked_book.specs.Verdicts.{verdicts, endings}
+use Rattle.locked_book.proofs.Owing.{below_mark, own_tickets, out_row, owes, owes_end, state_on}
+use Rattle.locked_book.proofs.Weighing.{IsOutAt, count_of_served}
 use Rattle.atomic_table.specs.Seated.{TableId}
-use Rattle.locked_book.specs.Books.{IsKeptBook}
+use Rattle.locked_book.specs.KeptBooks.{IsKeptBook}
 use Rattle.locked_book.specs.Ends.{refuses_end, IsAcceptable}
 use Rattle.locked_book.proofs.Events.{added_is, sets_none, limits_kept}
 

@@ -5,34 +5,34 @@ use Rattle.std.specs.List.{cons_option}
 use Rattle.std.proofs.lemmas.List.{append_assoc, append-nil}
 use Rattle.std.proofs.Math.Seq.{drop-append_seam}
 use Rattle.std.proofs.lemmas.List.Elements.{All-head, All-tail}
-use Rattle.verdict.specs.declared.Verdict.{Verdict}
+use Rattle.base_verdict.specs.declared.Verdict.{Verdict}
 use Rattle.grant_board.specs.Views.{first_mark, mark_of, Grant, grant, KeeperView}
 use Rattle.grant_board.specs.KeeperCalls.{Keeper, new_keeper, offer_after}
-use Rattle.list_facts.specs.Weights.{total}
-use Rattle.list_facts.proofs.Never.{false_true}
-use Rattle.dispatch_log.specs.declared.allowance.Intake.TheVariants.{Open}
-use Rattle.dispatch_log.specs.declared.setup.ServerSet.{ServerSet}
-use Rattle.dispatch_log.specs.declared.entry.Entry.{Entry}
-use Rattle.dispatch_log.specs.declared.entry.Entry.TheVariants.{Arrive, Done, Fail, Abort, Tick, Check, Limit}
-use Rattle.dispatch_log.specs.declared.setup.Setup.{Setup}
-use Rattle.dispatch_log.specs.Histories.{History, first_window, state_of, begins_event}
-use Rattle.dispatch_log.specs.Legal.{IsLegal, AddsEvent}
-use Rattle.dispatch_log.specs.States.{State, after, after_all, opening_limits}
-use Rattle.outstanding.specs.Books.{mark_by, terms_of, IsBook, IsOwing}
-use Rattle.outstanding.specs.Calls.{Booked, added, grants_in, with_offers, Wakes, CarriesOut}
-use Rattle.outstanding.specs.Outstanding.{outstanding_from, place_in, grants_of}
-use Rattle.outstanding.specs.Verdicts.{verdict_in, verdicts, ending_in}
-use Rattle.outstanding.proofs.Owing.{owes, paid, owes_rest, offered, state_on}
-use Rattle.outstanding.proofs.Turning.{back}
+use Rattle.base_lists.specs.Weights.{total}
+use Rattle.base_lists.proofs.Never.{false_true}
+use Rattle.log_entries.specs.declared.allowance.Intake.TheVariants.{Open}
+use Rattle.log_entries.specs.declared.setup.ServerSet.{ServerSet}
+use Rattle.log_entries.specs.declared.entry.Entry.{Entry}
+use Rattle.log_entries.specs.declared.entry.Entry.TheVariants.{Arrive, Done, Fail, Abort, Tick, Check, Limit}
+use Rattle.log_entries.specs.declared.setup.Setup.{Setup}
+use Rattle.log_entries.specs.Histories.{History, first_window, state_of, begins_event}
+use Rattle.log_entries.specs.Legal.{IsLegal, AddsEvent}
+use Rattle.log_entries.specs.States.{State, after, after_all, opening_limits}
+use Rattle.locked_book.specs.Books.{mark_by, terms_for, IsBook, IsOwing}
+use Rattle.locked_book.specs.Calls.{Booked, added, grants_in, with_offers, Wakes, CarriesOut}
+use Rattle.locked_book.specs.Outstanding.{outstanding_from, place_in, grants_of}
+use Rattle.locked_book.specs.Verdicts.{verdict_in, verdicts, ending_in}
+use Rattle.locked_book.proofs.Owing.{owes, paid, owes_rest, offered, state_on}
+use Rattle.locked_book.proofs.Turning.{back}
 use Rattle.dispatch_core.specs.declared.event.Event.{Event}
 use Rattle.dispatch_core.specs.declared.event.Event.TheVariants as events
 use Rattle.dispatch_core.specs.Occurrences.{entry_of}
-use Rattle.locked_book.specs.Books.{IsKeptBook}
+use Rattle.locked_book.specs.KeptBooks.{IsKeptBook}
 use Rattle.locked_book.specs.Ends as ends
 use Rattle.atomic_table.specs.Seated.{TableId}
 use Rattle.std.proofs.lemmas.Option.{slice_get_within}
-use Rattle.dispatch_log.specs.declared.entry.Arrival.{Arrival}
-use Rattle.dispatch_log.proofs.Within.{within}
+use Rattle.log_entries.specs.declared.entry.Arrival.{Arrival}
+use Rattle.log_entries.proofs.Within.{within}
 use Rattle.grant_board.specs.Views.{Terms}
 
 -- once all is offered nothing is owed
@@ -161,7 +161,7 @@ nothing_out : (weight : Grant → ℕ) (i n : ℕ) → total weight (outstanding
 nothing_out weight i zero = refl
 nothing_out weight i (suc n) = nothing_out weight (suc i) n
 
-pub first_book : (setup : Setup) → IsBook (first_window setup []) (new_keeper (terms_of setup))
+pub first_book : (setup : Setup) → IsBook (first_window setup []) (new_keeper (terms_for setup))
 first_book setup = record {
   terms = refl;
   bounds = opening_marks setup.servers;

@@ -4,18 +4,18 @@ use Rattle.std.proofs.Common.{Option, None, Some, Contains, map, drop, length, g
 use Rattle.std.specs.List.{cons_option}
 use Rattle.std.proofs.Math.Seq.{drop-cons}
 use Rattle.std.proofs.lemmas.List.{append_assoc, append-nil}
-use Rattle.list_facts.proofs.Members.{Contains-nil, Contains-head, Contains-tail, Contains-cases}
-use Rattle.verdict.specs.declared.Verdict.{Verdict}
-use Rattle.place_set.specs.Sets.{Has}
+use Rattle.base_lists.proofs.Members.{Contains-nil, Contains-head, Contains-tail, Contains-cases}
+use Rattle.base_verdict.specs.declared.Verdict.{Verdict}
+use Rattle.base_places.specs.Sets.{Has}
 use Rattle.grant_board.specs.Views.{Grant, grant, KeeperView}
 use Rattle.grant_board.specs.KeeperCalls.{Keeper, offer_after}
-use Rattle.dispatch_log.specs.declared.entry.Entry.{Entry}
-use Rattle.dispatch_log.specs.Histories.{History, state_of}
-use Rattle.outstanding.specs.Books.{IsOwing}
-use Rattle.outstanding.specs.Calls.{grants_in, with_offers, Wakes}
-use Rattle.outstanding.specs.Outstanding.{place_in, grants_of}
-use Rattle.outstanding.specs.Verdicts.{verdict_in, verdicts}
-use Rattle.outstanding.proofs.Owing.{owes_rest, offered}
+use Rattle.log_entries.specs.declared.entry.Entry.{Entry}
+use Rattle.log_entries.specs.Histories.{History, state_of}
+use Rattle.locked_book.specs.Books.{IsOwing}
+use Rattle.locked_book.specs.Calls.{grants_in, with_offers, Wakes}
+use Rattle.locked_book.specs.Outstanding.{place_in, grants_of}
+use Rattle.locked_book.specs.Verdicts.{verdict_in, verdicts}
+use Rattle.locked_book.proofs.Owing.{owes_rest, offered}
 
 abbrev pub places_of : List Grant → List ℕ
 places_of grants = map (λ g. g.place) grants

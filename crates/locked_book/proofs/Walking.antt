@@ -1,10 +1,10 @@
 -- A walk over a block of places that were out when it began.
 use Rattle.std.proofs.Common.{◌≡◌, ◌≢◌, ℕ, ◌+◌, ◌*◌, ◌/◌, ◌<◌, ◌≤◌, ◌↔◌, List, arith}
-use Rattle.place_set.specs.Sets.{Ahead, HasAhead, IsFirstAhead}
+use Rattle.base_places.specs.Sets.{Ahead, HasAhead, IsFirstAhead}
 use Rattle.grant_board.specs.Views.{count_at}
-use Rattle.outstanding.specs.Calls.{Booked}
-use Rattle.outstanding.specs.Turns.{Visits, Walks}
-use Rattle.outstanding.proofs.Turns.{walks_none, walks_on, walks_further, visit_keeps}
+use Rattle.locked_book.specs.Calls.{Booked}
+use Rattle.locked_book.specs.Turns.{Visits, Walks}
+use Rattle.locked_book.proofs.Turns.{walks_none, walks_on, walks_further, visit_keeps}
 
 -- how far it has come: the places below a number are done with, and those of them that were out at first and come later are ahead, and are out still
 pub record IsWalking (m low high places : ℕ) (first : Booked) (before : List ℕ) (now : Booked) (woken : List ℕ) (ahead : Ahead) : Type 0 where

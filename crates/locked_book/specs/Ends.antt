@@ -1,10 +1,10 @@
 -- Returns that become events, and the events that come otherwise.
 use Rattle.std.specs.Prelude.{◌≡◌, ℕ, Bool, true, false, Option, None}
-use Rattle.verdict.specs.declared.Ending.{Ending}
-use Rattle.verdict.specs.declared.Ending.TheVariants.{Done, Failed}
+use Rattle.base_verdict.specs.declared.Ending.{Ending}
+use Rattle.base_verdict.specs.declared.Ending.TheVariants.{Done, Failed}
 use Rattle.grant_board.specs.declared.returned.Return.{Return}
-use Rattle.dispatch_log.specs.declared.refusal.Refusal.{Refusal}
-use Rattle.dispatch_log.specs.Histories.{History, refuses_done, refuses_failure}
+use Rattle.log_entries.specs.declared.refusal.Refusal.{Refusal}
+use Rattle.log_entries.specs.Histories.{History, refuses_done, refuses_failure}
 use Rattle.dispatch_core.specs.declared.event.Event.{Event}
 use Rattle.dispatch_core.specs.declared.event.Event.TheVariants as events
 

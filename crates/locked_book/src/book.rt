@@ -1,41 +1,41 @@
 ghost use Rattle.std.specs.Prelude.{◌≡◌, ℕ, ◌+◌, ◌*◌, ◌<◌, ◌≤◌, ◌↔◌, List, [], length, drop, IfSome, IfNone, IfOk, IfErr, OnOk, OnErr, IsTrue, Some, pos, ◌+ℤ◌};
-ghost use Rattle.dispatch_log.specs.declared.entry.Entry.TheVariants.{Arrive, Abort, Tick, Check, Limit};
-ghost use Rattle.dispatch_log.specs.declared.refusal.Refusal.TheVariants.{LogFull};
-ghost use Rattle.anteroom.specs.Admission.{due_at};
-ghost use Rattle.dispatch_log.specs.Rows.{served, queued};
-ghost use Rattle.dispatch_log.specs.Scenes.{is_up};
-ghost use Rattle.list_facts.specs.Weights.{AreIn};
-ghost use Rattle.outstanding.specs.Outstanding.{outstanding};
-ghost use Rattle.outstanding.specs.Turns.{VisitsFrom, VisitsSome, Walks, Turns};
+ghost use Rattle.log_entries.specs.declared.entry.Entry.TheVariants.{Arrive, Abort, Tick, Check, Limit};
+ghost use Rattle.log_entries.specs.declared.refusal.Refusal.TheVariants.{LogFull};
+ghost use Rattle.queue_outside.specs.Admission.{due_at};
+ghost use Rattle.log_entries.specs.Rows.{served, queued};
+ghost use Rattle.log_entries.specs.Scenes.{is_up};
+ghost use Rattle.base_lists.specs.Weights.{AreIn};
+ghost use Rattle.locked_book.specs.Outstanding.{outstanding};
+ghost use Rattle.locked_book.specs.Turns.{VisitsFrom, VisitsSome, Walks, Turns};
 ghost use Rattle.dispatch_core.specs.Occurrences.{refuses, entry_of};
 ghost use Rattle.locked_book.specs.Ends.{is_plain, IsAcceptable};
-ghost use Rattle.dispatch_log.specs.Histories.{first_window, next_window, state_of, effective, refuses_arrival, refuses_abort, refuses_tick, refuses_check, refuses_limit, SomeExpires, RefusedOrNoMemory};
-ghost use Rattle.dispatch_log.specs.Legal.{AddsEvent, IsLegal};
-ghost use Rattle.dispatch_trace.specs.Histories.{scene_of, HasEntryRoom};
+ghost use Rattle.log_entries.specs.Histories.{first_window, next_window, state_of, effective, refuses_arrival, refuses_abort, refuses_tick, refuses_check, refuses_limit, SomeExpires, RefusedOrNoMemory};
+ghost use Rattle.log_entries.specs.Legal.{AddsEvent, IsLegal};
+ghost use Rattle.dispatch_state.specs.Histories.{scene_of, HasEntryRoom};
 ghost use Rattle.late_cert.specs.Certificates.{IsCertified};
 ghost use Rattle.late_cert.specs.Running.{IsWorstIn};
-ghost use Rattle.readable_log.specs.Windows.{window_in};
-ghost use Rattle.reporting_core.specs.Lines.{AreLines};
-ghost use Rattle.reporting_core.specs.Reporting.{IsNew};
+ghost use Rattle.log_reading.specs.Windows.{window_in};
+ghost use Rattle.dispatch_reports.specs.Lines.{AreLines};
+ghost use Rattle.dispatch_reports.specs.Reporting.{IsNew};
 ghost use Rattle.grant_board.specs.KeeperCalls.{new_keeper, FindsUnposted, Vouches};
-ghost use Rattle.outstanding.specs.Books.{terms_of, mark_by, IsBook};
-ghost use Rattle.outstanding.specs.Calls.{event_of, CarriesOut, TakesBack, SetsBound};
+ghost use Rattle.locked_book.specs.Books.{terms_for, mark_by, IsBook};
+ghost use Rattle.locked_book.specs.Calls.{event_of, CarriesOut, TakesBack, SetsBound};
 
 use crate::keeping::Keeping;
 use crate::offering::offer_from;
-use anteroom::remaining;
+use base_places::PlaceSet;
+use base_verdict::Ending;
 use dispatch_core::{Core, Event};
-use dispatch_log::{Entry, Intake, Queue, Refusal};
-use dispatch_trace::Ticketed;
+use dispatch_reports::{ReportingCore, ServerLine, Window};
+use dispatch_state::Ticketed;
 use due_key::{Class, Due, Key, Moment, Offset};
 use grant_board::{Board, BoardName, KeeperSeat, RelaySeat, Return};
 use late_cert::{Reports, Running};
+use log_entries::{Entry, Intake, Queue, Refusal};
 use pend_queue::PendQueue;
-use place_set::PlaceSet;
-use reporting_core::{ReportingCore, ServerLine, Window};
+use queue_outside::remaining;
 use std::alloc::{AllocError, Global};
 use std::marker::{Model, PhantomData};
-use verdict::Ending;
 
 /// A dispatcher beside the keeper's seat of the board that N names. Each call makes the
 /// dispatcher's event and then offers the verdicts that followed, so that between calls the
@@ -49,8 +49,8 @@ pub struct Book<Q: PendQueue<Key, usize>, N: BoardName> {
 }
 
 impl<Q: PendQueue<Key, usize>, N: BoardName> Model for Book<Q, N> {
-    ghost use Rattle.outstanding.specs.Calls.{Booked};
-    ghost use Rattle.locked_book.specs.Books.{IsKeptBook};
+    ghost use Rattle.locked_book.specs.Calls.{Booked};
+    ghost use Rattle.locked_book.specs.KeptBooks.{IsKeptBook};
 
     ghost Value = { Booked };
 
@@ -83,7 +83,7 @@ impl<Q: PendQueue<Key, usize>, N: BoardName> Book<Q, N> {
     pub fn new(core: Core<Q>, seat: KeeperSeat, running: Running) -> Book<Q, N>
         requires first { core ≡ first_window core.setup [] }
         requires board { seat.board ≡ N.board }
-        requires terms { N.terms ≡ terms_of core.setup }
+        requires terms { N.terms ≡ terms_for core.setup }
         requires seat { seat.view ≡ new_keeper N.terms }
         requires running { IsNew running (length core.setup.servers) }
         ensures { result ≡ record { history = core; view = seat.view } }

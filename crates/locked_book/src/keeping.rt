@@ -1,13 +1,13 @@
 ghost use Rattle.std.specs.Prelude.{◌≡◌, ℕ, ◌*◌, ◌/◌, ◌<◌, ◌≤◌, ◌^◌, ◌↔◌, ◌∷◌, [], IfSome, IfNone, length};
 ghost use Rattle.grant_board.specs.Views.{grant, count_at};
 ghost use Rattle.grant_board.specs.KeeperCalls.{HasRoom, offer_after, Collects, FindsUnposted, MayLimit, limit_after, Vouches};
-ghost use Rattle.outstanding.specs.Calls.{Wakes};
-ghost use Rattle.place_set.specs.Sets.{HasAhead};
+ghost use Rattle.locked_book.specs.Calls.{Wakes};
+ghost use Rattle.base_places.specs.Sets.{HasAhead};
 
+use base_places::{Block, PlaceSet};
+use base_verdict::Verdict;
 use grant_board::{Board, KeeperSeat, RelaySeat, Return};
-use place_set::{Block, PlaceSet};
 use std::marker::Model;
-use verdict::Verdict;
 
 /// A keeper's seat with the set of the places that are out, so that a walk over them passes no others.
 #[derive(Drop)]
@@ -19,13 +19,13 @@ pub struct Keeping {
 
 impl Model for Keeping {
     ghost use Rattle.grant_board.specs.KeeperCalls.{Keeper};
-    ghost use Rattle.locked_book.specs.Busy.{IsKept};
+    ghost use Rattle.locked_book.specs.Busy.{SetIsKept};
 
     ghost Value = { Keeper };
 
     ghost view = { λ it. it.seat };
 
-    ghost invariant = { λ it. IsKept it.seat.view it.out it.blocks };
+    ghost invariant = { λ it. SetIsKept it.seat.view it.out it.blocks };
 }
 
 impl Keeping {

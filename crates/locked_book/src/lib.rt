@@ -1,10 +1,15 @@
 //! The dispatcher beside its board: each call makes one event of the dispatcher and offers the
-//! verdicts that follow, so that the verdicts that are out at the board are those that are
-//! outstanding in the log. A `Book` is what the lock guards.
+//! verdicts that follow, so that what is out at the board is what is outstanding of the log. A
+//! `Book` is what stands behind the lock.
+//!
+//! What is outstanding of a log, the verdicts that its entries are and the endings that came back
+//! are defined here, too.
 #![tactic(auto)]
 
 mod book;
 mod keeping;
 mod offering;
+mod verdicts;
 
 pub use book::{Book, Deferred, Wanted};
+pub use verdicts::verdict_in;

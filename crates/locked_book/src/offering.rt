@@ -1,14 +1,14 @@
 ghost use Rattle.std.specs.Prelude.{◌≡◌, ◌≤◌, length, drop};
-ghost use Rattle.outstanding.specs.Books.{IsOwing};
-ghost use Rattle.outstanding.specs.Calls.{grants_in, with_offers, Wakes};
+ghost use Rattle.locked_book.specs.Books.{IsOwing};
+ghost use Rattle.locked_book.specs.Calls.{grants_in, with_offers, Wakes};
 
 use crate::keeping::Keeping;
+use crate::verdicts::verdict_in;
+use base_places::PlaceSet;
+use dispatch_reports::ReportingCore;
 use due_key::Key;
 use grant_board::Board;
-use outstanding::verdict_in;
 use pend_queue::PendQueue;
-use place_set::PlaceSet;
-use reporting_core::ReportingCore;
 
 /// Offers the verdicts of the entries from this position on. `O(log n)` in the live requests for each.
 pub fn offer_from<Q: PendQueue<Key, usize>>(

@@ -6,9 +6,9 @@ use Rattle.std.proofs.lemmas.List.{take-append-le, take_all, length-append}
 use Rattle.std.proofs.lemmas.List.Sums.{fold_push}
 use Rattle.std.proofs.Math.ListN.{get_or-append}
 use Rattle.std.proofs.Math.Seq.{get_or-append_seam}
-use Rattle.dispatch_log.specs.declared.entry.Entry.{Entry}
-use Rattle.readable_log.specs.Grants.{moment_of, moment_at}
-use Rattle.readable_log.proofs.Moments.{moment_of-push}
+use Rattle.log_entries.specs.declared.entry.Entry.{Entry}
+use Rattle.log_reading.specs.Grants.{moment_of, moment_at}
+use Rattle.log_reading.proofs.Moments.{moment_of-push}
 use Rattle.log_stretches.specs.Courses.{AreMoments, later, newer_came, came_in}
 
 pub came_more : (log : List Entry) (entry : Entry) (ticket : ℕ) → came_in (log ++ entry ∷ []) ticket ≡ newer_came ticket (came_in log ticket) entry

@@ -2,7 +2,7 @@
 use Rattle.std.proofs.Common.{◌≡◌, ℕ, ◌+◌, ◌==◌, cond, List, [], ◌∷◌, ◌++◌, Option, None, Some, reverse, refl, ap, sym, ◌∙◌}
 use Rattle.std.proofs.lemmas.List.{reverse-append}
 use Rattle.std.specs.Option.{option_map_or}
-use Rattle.dispatch_log.specs.declared.entry.Entry.{Entry}
+use Rattle.log_entries.specs.declared.entry.Entry.{Entry}
 use Rattle.log_stretches.specs.declared.stretch.Lane.{Lane}
 use Rattle.log_stretches.specs.declared.stretch.Placing.{Placing}
 use Rattle.log_stretches.specs.declared.stretch.Stretch.{Stretch}

@@ -2,9 +2,9 @@
 use Rattle.std.specs.Prelude.{◌≡◌, ℕ, ◌+◌, ◌<◌, ◌==◌, List, Option, None, Some, length, slice_index, if◌then◌else◌}
 use Rattle.std.specs.List.{fold}
 use Rattle.std.specs.Option.{unwrap_or}
-use Rattle.dispatch_log.specs.declared.entry.Entry.{Entry}
-use Rattle.dispatch_log.specs.declared.entry.Entry.TheVariants.{Arrive}
-use Rattle.readable_log.specs.Grants.{moment_in, moment_at}
+use Rattle.log_entries.specs.declared.entry.Entry.{Entry}
+use Rattle.log_entries.specs.declared.entry.Entry.TheVariants.{Arrive}
+use Rattle.log_reading.specs.Grants.{moment_in, moment_at}
 use Rattle.log_stretches.specs.declared.course.Came.{Came}
 use Rattle.log_stretches.specs.declared.stretch.Stretch.{Stretch}
 use Rattle.log_stretches.specs.Stretches.{stretches_of}

@@ -1,3 +1,5 @@
 pub mod Stretches
 pub mod ReadBack
 pub mod Courses
+pub mod Orders
+pub mod Services

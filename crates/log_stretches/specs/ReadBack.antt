@@ -1,6 +1,6 @@
 -- What is kept while a log is read from its end.
 use Rattle.std.specs.Prelude.{◌≡◌, ℕ, List, Option, reverse}
-use Rattle.dispatch_log.specs.declared.entry.Entry.{Entry}
+use Rattle.log_entries.specs.declared.entry.Entry.{Entry}
 use Rattle.log_stretches.specs.declared.stretch.Stretch.{Stretch}
 use Rattle.log_stretches.specs.Stretches.{placed_after, stretches_after}
 

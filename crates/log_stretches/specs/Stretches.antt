@@ -1,9 +1,9 @@
 -- The stays and services of the requests of a log. Positions count its entries from 1.
 use Rattle.std.specs.Prelude.{ℕ, ◌+◌, ◌==◌, List, [], ◌∷◌, ◌++◌, Option, None, Some, if◌then◌else◌}
 use Rattle.std.specs.Option.{option_map_or}
-use Rattle.dispatch_log.specs.declared.entry.Entry.{Entry}
-use Rattle.dispatch_log.specs.declared.entry.Entry.TheVariants.{Direct, Joined, Granted, Moved, Freed, Left}
-use Rattle.dispatch_log.specs.declared.queue.Queue.TheVariants.{Backend}
+use Rattle.log_entries.specs.declared.entry.Entry.{Entry}
+use Rattle.log_entries.specs.declared.entry.Entry.TheVariants.{Direct, Joined, Granted, Moved, Freed, Left}
+use Rattle.log_entries.specs.declared.queue.Queue.TheVariants.{Backend}
 use Rattle.log_stretches.specs.declared.stretch.Lane.TheVariants.{Queue, Server}
 use Rattle.log_stretches.specs.declared.stretch.Placing.{Placing}
 use Rattle.log_stretches.specs.declared.stretch.Stretch.{Stretch}

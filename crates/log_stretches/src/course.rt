@@ -1,13 +1,13 @@
 ghost use Rattle.std.specs.Prelude.{◌≡◌, ℕ, IfOk, OnOk};
 ghost use Rattle.std.specs.BTreeMap.{get};
 ghost use Rattle.std.specs.Ordering.{nat_cmp};
-ghost use Rattle.readable_log.specs.Grants.{moment_at};
+ghost use Rattle.log_reading.specs.Grants.{moment_at};
 ghost use Rattle.log_stretches.specs.Stretches.{stretches_of};
 ghost use Rattle.log_stretches.specs.Courses.{came_in, later, newer_came, AreMoments};
 
 use crate::stretch::{Stretch, stretches_of};
-use dispatch_log::{Arrival, Entry};
 use due_key::Moment;
+use log_entries::{Arrival, Entry};
 use std::alloc::{AllocError, Global};
 use std::collections::BTreeMap;
 use std::marker::Model;
@@ -33,7 +33,7 @@ impl<'a> Model for Course<'a> {
     ghost use Rattle.std.specs.Prelude.{◌≡◌, List};
     ghost use Rattle.std.specs.BTreeMap.{get};
     ghost use Rattle.std.specs.Ordering.{nat_cmp};
-    ghost use Rattle.dispatch_log.specs.declared.entry.Entry.{Entry};
+    ghost use Rattle.log_entries.specs.declared.entry.Entry.{Entry};
     ghost use Rattle.log_stretches.specs.Courses.{IsCourse};
 
     ghost Value = { List Entry };

@@ -1,11 +1,11 @@
 ghost use Rattle.std.specs.Prelude.{◌≡◌, ◌+◌, ◌==◌, ◌++◌, ◌∷◌, ℕ, List, Some, IfOk, OnOk, if◌then◌else◌};
 ghost use Rattle.std.specs.BTreeMap.{get};
 ghost use Rattle.std.specs.Ordering.{nat_cmp};
-ghost use Rattle.dispatch_log.specs.declared.entry.Entry.{Entry};
+ghost use Rattle.log_entries.specs.declared.entry.Entry.{Entry};
 ghost use Rattle.log_stretches.specs.Stretches.{placing_in, stretch_to, stretches_of};
 ghost use Rattle.log_stretches.specs.ReadBack.{AreReadBack};
 
-use dispatch_log::{Entry, Queue};
+use log_entries::{Entry, Queue};
 use std::alloc::{AllocError, Global};
 use std::collections::BTreeMap;
 

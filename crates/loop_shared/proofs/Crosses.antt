@@ -7,14 +7,14 @@ use Rattle.std.proofs.Crossing.{crosses}
 use Rattle.std.proofs.sync.Mutex.TheSendSync as mutex
 use Rattle.std.specs.declared.sync.ledger.Ledger as ledger_name
 use Rattle.grant_board.specs.declared.board.BoardName as board_name
-use Rattle.lent_seats.proofs.seats.Seats.TheSendSync as seats
+use Rattle.board_seats.proofs.seats.Seats.TheSendSync as seats
 use Rattle.loop_shared.proofs.parked.Parked.TheSendSync as parked
 use Rattle.loop_shared.proofs.mail.Mailbox.TheSendSync as mailbox
 use Rattle.loop_shared.proofs.outside.Outside.TheSendSync as outside
 use Rattle.loop_shared.proofs.unused.UnusedCounts.TheSendSync as counts
 use Rattle.loop_shared.specs.contracts.shared.Shared as shared
 pub use Rattle.relay_workers.proofs.Crosses.{proxy_sync}
-pub use Rattle.socket_gate.proofs.front.Front.TheSendSync.{the_sync as front_sync}
+pub use Rattle.run_gate.proofs.front.GateShared.TheSendSync.{the_sync as front_sync}
 
 pub shared_sync : (a : NamedLft) (N : RattleType) (g : board_name.Ghosts N.Denot) (l : ledger_name.Ghosts N.Denot) → IsSync (shared.the_row a N g l)
 shared_sync a N g l = declared_sync (shared.the_type a N g l) (

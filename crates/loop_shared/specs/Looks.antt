@@ -1,7 +1,7 @@
 -- The result of looking at a place.
 use Rattle.std.specs.Prelude.{◌≡◌, ℕ, true, List, Option, Some, None}
 use Rattle.grant_board.specs.declared.board.BoardName.{Ghosts}
-use Rattle.place_set.specs.Sets.{Has}
+use Rattle.base_places.specs.Sets.{Has}
 use Rattle.loop_shared.specs.declared.looking.Looked.{Looked}
 use Rattle.loop_shared.specs.declared.looking.Looked.TheVariants.{Granted, Waits, Unwatched, NoSeat, Nobody}
 use Rattle.loop_shared.specs.declared.parked.Parked.{Parked}

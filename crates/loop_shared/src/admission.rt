@@ -7,15 +7,15 @@
 use crate::outside::{Outside, Outsider};
 use crate::shared::Shared;
 use crate::watching::watch_anew;
-use dispatch_log::Refusal;
-use dispatch_trace::Ticketed;
+use dispatch_state::Ticketed;
 use due_key::Moment;
 use grant_board::BoardName;
+use log_entries::Refusal;
 use loop_table::{Subject, Token};
 use mio::{Interest, Registry};
 use prio_rules::Wish;
 use relay_workers::{Gate, arrive_late};
-use socket_gate::has_left;
+use run_gate::has_left;
 use std::os::fd::AsRawFd;
 use std::sync::Wait;
 use std::sync::atomic::Ordering;
@@ -51,7 +51,7 @@ impl<N: BoardName + Ledger> Shared<'_, N> {
         }
     }
 
-    /// Says whether the anteroom is so full that no client is accepted.
+    /// Says whether so many wait outside that no client is accepted.
     pub fn is_crowded(&self) -> bool {
         self.most_outside <= self.outsiders()
     }

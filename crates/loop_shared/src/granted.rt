@@ -1,13 +1,13 @@
 ghost use Rattle.std.specs.Prelude.{◌≡◌};
 
 use crate::parked::Parked;
+use board_seats::Taken;
 use grant_board::BoardName;
-use lent_seats::Taken;
 use std::sync::ledger::Ledger;
 
 /// A request whose verdict was found at its place, and a lent seat with its pass. It has no `Drop`:
 /// its pass has to be posted.
-pub struct Granted<N: BoardName + Ledger> {
+pub struct GrantedGuest<N: BoardName + Ledger> {
     pub taken: Taken<N>,
     pub parked: Parked,
     ghost its_place: { taken.held.pass.place ≡ parked.at.place },

@@ -30,7 +30,7 @@ mod windows;
 
 pub use admission::Turn;
 pub use descriptors::{Most, ServerConnections, most_connections};
-pub use granted::Granted;
+pub use granted::GrantedGuest;
 pub use looking::Looked;
 pub use mail::Mailbox;
 pub use outside::{Outside, Outsider};
@@ -48,4 +48,4 @@ pub use windows::run_windows;
 
 // The loops get the items of the layers below from this crate.
 pub use relay_workers::{Gate, Proxy, arrive_as, join_all, split_off};
-pub use socket_gate::{Front, Site, SocketGate};
+pub use run_gate::{GateShared, Site, SocketGate};

@@ -3,13 +3,13 @@
 ghost use Rattle.std.specs.Prelude.{◌≡◌, ◌<◌, IfSome};
 ghost use Rattle.loop_shared.specs.Looks.{EndsLook};
 
-use crate::granted::Granted;
+use crate::granted::GrantedGuest;
 use crate::parked::Parked;
 use crate::shared::Shared;
 use crate::watching::watch;
-use dispatch_trace::Ticketed;
+use board_seats::{Lent, Taken};
+use dispatch_state::Ticketed;
 use grant_board::BoardName;
-use lent_seats::{Lent, Taken};
 use loop_table::Subject;
 use mio::{Interest, Registry};
 use std::os::fd::AsRawFd;
@@ -19,7 +19,7 @@ use std::sync::ledger::Ledger;
 /// The result of looking at a place.
 pub enum Looked<N: BoardName + Ledger> {
     /// The request that waited there, with its pass.
-    Granted(Granted<N>),
+    Granted(GrantedGuest<N>),
     /// It waits on, and some loop's poll watches its client.
     Waits,
     /// It waits on, and the system refuses to watch its client. It has to be given up: this is its ticket.
@@ -52,7 +52,7 @@ impl<N: BoardName + Ledger> Shared<'_, N> {
         let looked = match lent {
             None => Looked::NoSeat,
             Some(lent) => match self.ask(rt, lent, parked.at) {
-                Some(taken) => return Looked::Granted(Granted { taken, parked }),
+                Some(taken) => return Looked::Granted(GrantedGuest { taken, parked }),
                 None if parked.watched || watches(registry, &parked) => {
                     parked.watched = true;
                     Looked::Waits

@@ -1,5 +1,5 @@
+use base_places::{MOST_PLACES, PlaceSet};
 use mio::Waker;
-use place_set::PlaceSet;
 use std::mem;
 use std::sync::{Mutex, Wait};
 
@@ -13,7 +13,7 @@ pub struct Mailbox {
 impl Mailbox {
     /// Asks the loop to look at one more place.
     pub(crate) fn send<R: Wait>(&self, rt: &R, place: usize) {
-        if place < 4096 {
+        if place < MOST_PLACES {
             self.places.lock(rt).insert(place);
         }
         self.ring();

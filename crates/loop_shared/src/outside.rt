@@ -2,14 +2,14 @@
 //! and the next free place goes to the first.
 
 use crate::presence::Presence;
-use anteroom::Anteroom;
 use due_key::{Key, Moment};
 use exchange_driver::{Line, Live};
+use exchange_seated::Queued;
 use locked_book::Deferred;
 use loop_table::{Limits, Overdue, Slots, Token};
 use pend_queue::ListQueue;
 use prio_rules::Wish;
-use seated_exchange::Queued;
+use queue_outside::OutsideOrder;
 use std::alloc::{AllocError, Global};
 
 /// The most requests that wait for a place.
@@ -34,7 +34,7 @@ struct Standing {
 
 /// All clients whose requests wait for a place. It has no `Drop`, since its table has none.
 pub struct Outside {
-    order: Anteroom<ListQueue<Key, usize>>,
+    order: OutsideOrder<ListQueue<Key, usize>>,
     standing: Slots<Box<Standing>>,
     limits: Limits,
     /// The number of `timeout queue` among the limits. `None`: without limit.
@@ -42,7 +42,7 @@ pub struct Outside {
 }
 
 impl Outside {
-    /// Makes an empty anteroom, with room for all clients, each for this number of milliseconds.
+    /// Makes an empty one, with room for all clients, each for this number of milliseconds.
     /// Fails only where memory is refused.
     pub fn new(alloc: Global, clients: u64, millis: Option<u64>) -> Result<Outside, AllocError> {
         let room = usize::try_from(clients)
@@ -53,7 +53,7 @@ impl Outside {
             None => None,
             Some(millis) => Some(limits.add(alloc, millis, room)?),
         };
-        let order = Anteroom::with_room(alloc, room)?;
+        let order = OutsideOrder::with_room(alloc, room)?;
         let standing = Slots::with_room(alloc, room)?;
         Ok(Outside {
             order,

@@ -1,8 +1,8 @@
 ghost use Rattle.std.specs.Prelude.{◌≡◌, ◌≢◌, ◌↔◌, ℕ, MatchOption};
 ghost use Rattle.loop_shared.specs.Looks.{OwesNoLook};
-ghost use Rattle.place_set.specs.Sets.{Has};
+ghost use Rattle.base_places.specs.Sets.{Has};
 
-use place_set::PlaceSet;
+use base_places::PlaceSet;
 
 /// The places that a loop still has to look at. It has no `Drop`: it can be ended only once no look
 /// is owed, so none is forgotten.

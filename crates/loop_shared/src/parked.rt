@@ -1,8 +1,8 @@
 use crate::presence::Presence;
-use dispatch_trace::Ticketed;
+use dispatch_state::Ticketed;
 use due_key::Moment;
 use exchange_driver::{Line, Live};
-use seated_exchange::Queued;
+use exchange_seated::Queued;
 
 /// A client whose request waits for its pass. It has no `Drop`, since its presence has none.
 pub struct Parked {

@@ -2,10 +2,10 @@
 
 use crate::mail::Mailbox;
 use crate::watching::watch;
+use base_places::PlaceSet;
 use loop_table::Subject;
 use mio::{Interest, Poll, Token, Waker};
-use place_set::PlaceSet;
-use socket_gate::Front;
+use run_gate::GateShared;
 use std::alloc::{AllocError, Global};
 use std::net::{Net, TcpListener, TcpStream};
 use std::os::fd::AsRawFd;
@@ -16,7 +16,7 @@ use std::sync::Mutex;
 pub fn polls_of<R: Net<Listener = TcpListener, Stream = TcpStream>>(
     rt: &R,
     alloc: Global,
-    front: &Front<'_>,
+    front: &GateShared<'_>,
     loops: usize,
 ) -> Result<(Vec<Poll>, Vec<Mailbox>), AllocError> {
     let mut polls = Vec::with_capacity(alloc, loops)?;
@@ -32,7 +32,7 @@ pub fn polls_of<R: Net<Listener = TcpListener, Stream = TcpStream>>(
     Ok((polls, mail))
 }
 
-fn poll_of<R: Net>(rt: &R, front: &Front<'_>) -> Option<(Poll, Mailbox)> {
+fn poll_of<R: Net>(rt: &R, front: &GateShared<'_>) -> Option<(Poll, Mailbox)> {
     let poll = Poll::new(rt).ok()?;
     let registry = poll.registry();
     let waker = Waker::new(registry, Token(Subject::Mailbox.number()?)).ok()?;

@@ -1,6 +1,6 @@
 ghost use Rattle.std.specs.Prelude.{◌≡◌};
 
-use request_lines::Account;
+use log_lines::Account;
 use std::net::IpAddr;
 
 /// The presence of a client that was accepted and isn't done. It has no `Drop`: its end has to be

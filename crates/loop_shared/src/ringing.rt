@@ -1,12 +1,12 @@
 //! The thread that checks the servers, and how threads that aren't loops report places.
 
 use crate::shared::Shared;
+use base_places::PlaceSet;
+use dispatch_reports::Window;
 use due_key::Moment;
 use grant_board::BoardName;
-use place_set::PlaceSet;
 use relay_workers::{Gate, Slot, checker};
-use reporting_core::Window;
-use socket_gate::{Pauses, SocketGate};
+use run_gate::{Pauses, SocketGate};
 use std::net::{Net, TcpListener, TcpStream};
 use std::sync::Wait;
 use std::sync::atomic::AtomicBool;

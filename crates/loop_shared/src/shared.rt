@@ -7,14 +7,13 @@ use crate::parked::Parked;
 use crate::presence::Presence;
 use crate::spots::leave_all;
 use crate::unused::UnusedCounts;
+use base_places::{MOST_PLACES, PlaceSet};
+use board_seats::{Idle, Lent, Seats};
 use exchange_machine::Terms;
 use grant_board::BoardName;
-use lent_seats::{Lent, Seats};
-use pass_seat::Idle;
-use place_set::PlaceSet;
 use relay_http::{Additions, Persistence};
 use relay_workers::Proxy;
-use socket_gate::Front;
+use run_gate::GateShared;
 use std::alloc::AllocError;
 use std::net::{IpAddr, SocketAddr};
 use std::sync::atomic::{AtomicBool, AtomicU64, Ordering};
@@ -39,7 +38,7 @@ pub struct SharedParts {
 /// The state that all threads share.
 pub struct Shared<'a, N: BoardName + Ledger> {
     pub proxy: &'a Proxy<N>,
-    pub front: &'a Front<'a>,
+    pub front: &'a GateShared<'a>,
     /// The spot of each place, where its request lies until its pass is there.
     pub(crate) spots: Vec<Mutex<Option<Parked>>>,
     /// The seats: the idle ones and the lent ones.
@@ -77,7 +76,7 @@ impl<'a, N: BoardName + Ledger> Shared<'a, N> {
     /// Makes the shared state of a proxy, with these seats, which are accounted for on this blank.
     pub fn new(
         proxy: &'a Proxy<N>,
-        front: &'a Front<'a>,
+        front: &'a GateShared<'a>,
         seats: (Vec<Idle<N>>, Blank),
         parts: SharedParts,
     ) -> Shared<'a, N>
@@ -213,7 +212,7 @@ impl<N: BoardName + Ledger> Shared<'_, N> {
     /// Has each place looked at by some loop.
     pub fn post_places<R: Wait>(&self, rt: &R, places: &PlaceSet) {
         let mut from = 0;
-        for _ in 0..4096 {
+        for _ in 0..MOST_PLACES {
             let Some(place) = places.next(from) else {
                 return;
             };

@@ -2,15 +2,14 @@
 
 use crate::ringing::Ringing;
 use crate::shared::Shared;
-use control_socket::attend;
-use dispatch_log::{Intake, Queue, Refusal};
 use due_key::Moment;
 use grant_board::BoardName;
 use late_cert::Reports;
-use proxy_steering::{Helm, Standing, Steered};
+use log_entries::{Intake, Queue, Refusal};
+use log_texts::Names;
 use relay_workers::Gate;
-use script::Names;
-use socket_gate::SocketGate;
+use run_control::{Helm, Standing, Steered, attend};
+use run_gate::SocketGate;
 use std::alloc::AllocError;
 use std::net::{Net, TcpListener, TcpStream};
 use std::sync::Wait;

@@ -3,7 +3,7 @@
 use crate::parked::{Hopeless, Parked};
 use crate::shared::Shared;
 use grant_board::BoardName;
-use socket_gate::has_left;
+use run_gate::has_left;
 use std::os::fd::AsRawFd;
 use std::sync::Wait;
 use std::sync::atomic::Ordering;

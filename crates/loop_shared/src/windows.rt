@@ -3,7 +3,7 @@
 use crate::ringing::Ringing;
 use crate::shared::Shared;
 use grant_board::BoardName;
-use socket_gate::SocketGate;
+use run_gate::SocketGate;
 use std::net::{Net, TcpListener, TcpStream};
 use std::sync::Wait;
 use std::sync::ledger::Ledger;

@@ -2,15 +2,15 @@
 use Rattle.std.proofs.Common.{◌≡◌, ◌≢◌, ℕ, zero, suc, add-one, replicate, ◌+◌, ◌<◌, ◌≤◌, ◌^◌, ◌⊎◌, ◌==◌, not, Bool, true, false, cond, ltb, List, [], ◌∷◌, ◌++◌, Option, Some, None, is_some, IsTrue, Contains, length, slice_get, refl, sym, ap, subst, ◌∙◌, inl, inr, arith, length-set}
 use Rattle.std.proofs.Math.ListN.{set}
 use Rattle.std.proofs.lemmas.Option.{same_Some, slice_get_within}
-use Rattle.list_facts.proofs.Places.{get-set, get-set_same, get-set_other, set_read, same_or_other}
+use Rattle.base_lists.proofs.Places.{get-set, get-set_same, get-set_other, set_read, same_or_other}
 use Rattle.std.proofs.lemmas.Bool.Decides.{Decides-eqb, Decides-ltb}
-use Rattle.list_facts.proofs.Members.{Contains-head, Contains-nil, Contains-filter}
-use Rattle.list_facts.proofs.Replicated.{get-replicate, in_replicate}
+use Rattle.base_lists.proofs.Members.{Contains-head, Contains-nil, Contains-filter}
+use Rattle.base_lists.proofs.Replicated.{get-replicate, in_replicate}
 use Rattle.std.proofs.lemmas.List.{length-replicate}
 use Rattle.std.proofs.lemmas.List.Elements.{Contains-push_cases}
-use Rattle.wait_queues.specs.Order.{Order, without, with_places}
+use Rattle.queue_waits.specs.Order.{Order, places_without, with_places}
 use Rattle.loop_table.specs.declared.token.Token.{Token}
-use Rattle.loop_table.specs.Slots.{Holds, Table, IsNow, IsGone, IsVacant, IsOut, AreSlots, below, lent, closed}
+use Rattle.loop_table.specs.Slots.{HasValue, Table, IsNow, IsGone, IsVacantToken, IsOut, AreSlots, below, lent, closed}
 
 pub other_place : (place p : ℕ) → not (place == p) ≡ true → place ≢ p
 other_place place p e same = let t : (place == p) ≡ true = (Decides-eqb place p).1 same in let no : not true ≡ true = ap not (sym t) ∙ e in cc
@@ -27,7 +27,7 @@ module _ {T : Type 0} (values : List (Option T)) (generations : List ℕ) (free 
   low_generation i among = let low = is.free_below i among in let room = is.generations_room in omega arith
 
   -- a free slot is given away
-  pub slots_given : (i : ℕ) (v : T) → Contains free.places i → AreSlots (set values i (Some v)) generations (with_places free (without i free.places))
+  pub slots_given : (i : ℕ) (v : T) → Contains free.places i → AreSlots (set values i (Some v)) generations (with_places free (places_without i free.places))
   slots_given i v among = record {
     few = is.few;
     values_room = length-set values i (Some v) ∙ is.values_room;
@@ -37,11 +37,11 @@ module _ {T : Type 0} (values : List (Option T)) (generations : List ℕ) (free 
     free_young = λ j times still now. is.free_young j times (kept j still).0 now;
   }
     where
-      kept : (j : ℕ) → Contains (without i free.places) j → Contains free.places j × (j ≢ i)
+      kept : (j : ℕ) → Contains (places_without i free.places) j → Contains free.places j × (j ≢ i)
       kept j still = let it = Contains-filter _ free.places j still in (it.0, other_place j i it.1)
 
   -- a free slot is free no more, and stays empty
-  pub slots_opened : (i : ℕ) → Contains free.places i → AreSlots values generations (with_places free (without i free.places))
+  pub slots_opened : (i : ℕ) → Contains free.places i → AreSlots values generations (with_places free (places_without i free.places))
   slots_opened i among = record {
     few = is.few;
     values_room = is.values_room;
@@ -51,11 +51,11 @@ module _ {T : Type 0} (values : List (Option T)) (generations : List ℕ) (free 
     free_young = λ j times still now. is.free_young j times (kept j still).0 now;
   }
     where
-      kept : (j : ℕ) → Contains (without i free.places) j → Contains free.places j × (j ≢ i)
+      kept : (j : ℕ) → Contains (places_without i free.places) j → Contains free.places j × (j ≢ i)
       kept j still = let it = Contains-filter _ free.places j still in (it.0, other_place j i it.1)
 
   pub out_opened : (token : Token) → Contains free.places token.index → slice_get generations token.index ≡ Some token.generation
-      → IsOut (record { values = values; generations = generations; free = without token.index free.places }) token
+      → IsOut (record { values = values; generations = generations; free = places_without token.index free.places }) token
   out_opened token among now = record {
     now = now;
     there = is.free_empty token.index among;
@@ -138,8 +138,8 @@ abbrev pub shown : {T : Type 0} → List (Option T) → List ℕ → Order → T
 shown values generations free = record { values = values; generations = generations; free = free.places }
 
 module _ {T : Type 0} (values : List (Option T)) (generations : List ℕ) (free : Order) (table : Table T) (view : shown values generations free ≡ table) where
-  pub vacant : (token : Token) → slice_get generations token.index ≡ Some token.generation → Contains free.places token.index → IsVacant table token
-  vacant token now among = subst (λ (t : Table T). IsVacant t token) view (record { now = now; free = among })
+  pub vacant : (token : Token) → slice_get generations token.index ≡ Some token.generation → Contains free.places token.index → IsVacantToken table token
+  vacant token now among = subst (λ (t : Table T). IsVacantToken t token) view (record { now = now; free = among })
 
   pub unchanged : (i : ℕ) (after : List (Option T)) → slice_get values i ≡ Some None → after ≡ set values i None → shown after generations free ≡ table
   unchanged i after e new = ap (λ (vs : List (Option T)). shown vs generations free) (new ∙ set_read values i None e) ∙ view
@@ -231,13 +231,13 @@ module _ {T : Type 0} (values : List (Option T)) (generations : List ℕ) (free 
       omega arith
 
   pub held_yes : (token : Token) (o : Option T) (b : Bool) → IsNow table token → slice_get values token.index ≡ Some o → b ≡ is_some o → IsTrue b
-      → (v : T) × Holds table token v
+      → (v : T) × HasValue table token v
   held_yes token None b now at e holds = let fails : false ≡ true = sym e ∙ holds in cc
-  held_yes token (Some v) b now at e holds = (v, subst (λ (t : Table T). Holds t token v) view (record { now = times_now token now; there = at }))
+  held_yes token (Some v) b now at e holds = (v, subst (λ (t : Table T). HasValue t token v) view (record { now = times_now token now; there = at }))
 
-  pub held_others : (token : Token) (o : Option T) (b : Bool) → slice_get values token.index ≡ Some o → b ≡ is_some o → (v : T) → Holds table token v → IsTrue b
+  pub held_others : (token : Token) (o : Option T) (b : Bool) → slice_get values token.index ≡ Some o → b ≡ is_some o → (v : T) → HasValue table token v → IsTrue b
   held_others token o b at e v holds =
-      let h = subst (λ (t : Table T). Holds t token v) (sym view) holds in
+      let h = subst (λ (t : Table T). HasValue t token v) (sym view) holds in
       let same : o ≡ Some v = same_Some o (Some v) (sym at ∙ h.there) in
       e ∙ ap is_some same
 

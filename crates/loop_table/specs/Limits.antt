@@ -22,19 +22,19 @@ abbrev pub later_at : Timeouts → ℕ → Timeouts
 later_at it now = record { timed = it.timed; clock = max it.clock now }
 
 -- a keyword's timeout
-abbrev pub IsAt : Timeouts → ℕ → Timed → Type 0
-IsAt it keyword timed = slice_get it.timed keyword ≡ Some timed
+abbrev pub IsTimeoutOf : Timeouts → ℕ → Timed → Type 0
+IsTimeoutOf it keyword timed = slice_get it.timed keyword ≡ Some timed
 
 -- the runs of one keyword's timeout change, and nothing else
 pub record Changes (old new : Timeouts) (keyword : ℕ) (after : Runs → Runs) : Type 0 where
   pub timed : Timed
-  pub there : IsAt old keyword timed
+  pub there : IsTimeoutOf old keyword timed
   pub is : new ≡ record { timed = slice_set old.timed keyword (record { limit = timed.limit; running = after timed.running }); clock = old.clock }
 
 -- it may run for a key
 pub record MayRun (it : Timeouts) (keyword key : ℕ) : Type 0 where
   pub timed : Timed
-  pub there : IsAt it keyword timed
+  pub there : IsTimeoutOf it keyword timed
   pub low : key < timed.running.room
 
 -- no timeout has expired
@@ -43,7 +43,7 @@ AreQuiet now all = AllByRecursion (λ timed. NoneOverdue timed.limit now timed.r
 
 pub record IsOverdueAt (it : Timeouts) (keyword key : ℕ) : Type 0 where
   pub timed : Timed
-  pub there : IsAt it keyword timed
+  pub there : IsTimeoutOf it keyword timed
   pub first : IsFirstOverdue timed.limit it.clock timed.running.runs key
 
 -- nothing expires before this number of milliseconds has passed, and something does then

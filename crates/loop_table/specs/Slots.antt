@@ -1,6 +1,6 @@
 -- Tables of values by token, as contracts see them.
 use Rattle.std.specs.Prelude.{◌≡◌, ℕ, zero, suc, ◌+◌, ◌<◌, ◌^◌, ltb, List, [], ◌∷◌, ◌++◌, Option, Some, None, length, replicate, slice_get, slice_set, Contains, if◌then◌else◌}
-use Rattle.wait_queues.specs.Order.{Order, without}
+use Rattle.queue_waits.specs.Order.{Order, places_without}
 use Rattle.loop_table.specs.declared.token.Token.{Token}
 
 -- the value in each slot, how often each slot was closed, and the free slots, the next one at the front
@@ -14,12 +14,12 @@ abbrev pub IsNow : {T : Type 0} → Table T → Token → Type 0
 IsNow table token = slice_get table.generations token.index ≡ Some token.generation
 
 -- a token has a value
-pub record Holds {T : Type 0} (table : Table T) (token : Token) (value : T) : Type 0 where
+pub record HasValue {T : Type 0} (table : Table T) (token : Token) (value : T) : Type 0 where
   pub now : IsNow table token
   pub there : slice_get table.values token.index ≡ Some (Some value)
 
 -- a token that the next value may get
-pub record IsVacant {T : Type 0} (table : Table T) (token : Token) : Type 0 where
+pub record IsVacantToken {T : Type 0} (table : Table T) (token : Token) : Type 0 where
   pub now : IsNow table token
   pub free : Contains table.free token.index
 
@@ -47,11 +47,11 @@ abbrev pub given : {T : Type 0} → Table T → Token → T → Table T
 given table token value = record {
   values = slice_set table.values token.index (Some value);
   generations = table.generations;
-  free = without token.index table.free;
+  free = places_without token.index table.free;
 }
 
-abbrev pub opened : {T : Type 0} → Table T → Token → Table T
-opened table token = record { values = table.values; generations = table.generations; free = without token.index table.free }
+abbrev pub table_with_open : {T : Type 0} → Table T → Token → Table T
+table_with_open table token = record { values = table.values; generations = table.generations; free = places_without token.index table.free }
 
 abbrev pub lent : {T : Type 0} → Table T → Token → Table T
 lent table token = record { values = slice_set table.values token.index None; generations = table.generations; free = table.free }

@@ -7,13 +7,13 @@ use Rattle.loop_table.specs.declared.subject.Subject.TheVariants.{Listener, Mail
 abbrev pub token_number : Token → ℕ
 token_number token = token.generation * 1048576 + token.index
 
-abbrev pub number_of : Subject → ℕ
-number_of Listener = 0
-number_of Mailbox = 1
-number_of (Client token) = 8 * token_number token + 2
-number_of (Server token) = 8 * token_number token + 3
-number_of (Waiting place ticket) = 8 * (4096 * ticket + place) + 4
-number_of (Outside token) = 8 * token_number token + 5
+abbrev pub subject_number : Subject → ℕ
+subject_number Listener = 0
+subject_number Mailbox = 1
+subject_number (Client token) = 8 * token_number token + 2
+subject_number (Server token) = 8 * token_number token + 3
+subject_number (Waiting place ticket) = 8 * (4096 * ticket + place) + 4
+subject_number (Outside token) = 8 * token_number token + 5
 
 -- the two are the same
 abbrev pub AreSame : Subject → Subject → Type 0

@@ -1,11 +1,11 @@
 ghost use Rattle.std.specs.Prelude.{◌≡◌, ◌<◌, ◌≤◌, ◌↔◌, [], ◌∷◌, ◌++◌, IfOk, IsTrue, MatchOption, Contains, slice_get};
-ghost use Rattle.wait_queues.specs.Order.{without};
+ghost use Rattle.queue_waits.specs.Order.{places_without};
 ghost use Rattle.loop_table.specs.Agendas.{nothing_noted, with_soon, with_later, turned_over};
 
+use queue_waits::JoinOrder;
 use std::alloc::{AllocError, Global};
 use std::marker::Model;
 use std::mem;
-use wait_queues::JoinOrder;
 
 /// A list of numbers below a bound that are to be looked at, soon or in the next round. Each number
 /// stands at most once in each list, so none is looked at more often than others. All calls but
@@ -64,7 +64,7 @@ impl Agenda {
     /// Takes the next number to be looked at; `None` only where there is none.
     pub fn take(&mut self) -> Option<usize>
         ensures first { result ≡ slice_get self.old.soon 0 }
-        ensures left { MatchOption result (self.new ≡ self.old) (λ number. self.new ≡ with_soon self.old (without number self.old.soon)) }
+        ensures left { MatchOption result (self.new ≡ self.old) (λ number. self.new ≡ with_soon self.old (places_without number self.old.soon)) }
     {
         let Some(number) = self.soon.first() else {
             return None;

@@ -1,11 +1,11 @@
 ghost use Rattle.std.specs.Prelude.{◌≡◌, ◌<◌, ◌-◌, [], IfOk, MatchOption, slice_get, Contains};
-ghost use Rattle.wait_queues.specs.Order.{with_places, without};
+ghost use Rattle.queue_waits.specs.Order.{with_places, places_without};
 ghost use Rattle.loop_table.specs.Runs.{runs_for, begun_once, touched, NoneOverdue, IsFirstOverdue, left, IsLeastLeft, none_running, begun, stopped};
 
 use due_key::Moment;
+use queue_waits::JoinOrder;
 use std::alloc::{AllocError, Global};
 use std::marker::Model;
-use wait_queues::JoinOrder;
 
 /// The keys that one timeout runs for. Since it is equally long for all, it expires first for the
 /// key that began first, so the order of beginnings suffices: no call but `with_room` costs more
@@ -125,7 +125,7 @@ impl Running {
 
 // Takes a key out where it is there.
 fn take_out(order: &mut JoinOrder, key: usize)
-    ensures { order.new ≡ with_places order.old (without key order.old.places) }
+    ensures { order.new ≡ with_places order.old (places_without key order.old.places) }
 {
     if order.contains(key) {
         order.remove(key);

@@ -1,12 +1,12 @@
 ghost use Rattle.std.specs.Prelude.{◌≡◌, ◌≤◌, ◌^◌, [], IfOk, OnOk, IfErr, IfSome, IfNone, IsTrue, ◌↔◌, MatchOption, Some, None, slice_get};
-ghost use Rattle.loop_table.specs.Slots.{IsNow, Holds, IsVacant, IsOut, IsGone, fresh, given, opened, lent, filled, closed};
+ghost use Rattle.loop_table.specs.Slots.{IsNow, HasValue, IsVacantToken, IsOut, IsGone, fresh, given, table_with_open, lent, filled, closed};
 ghost use Rattle.loop_table.specs.declared.token.Token.{Token};
 
 use crate::cells;
 use crate::token::{GENERATIONS, Hole, MOST_SLOTS, Token};
+use queue_waits::JoinOrder;
 use std::alloc::{AllocError, Global};
 use std::marker::Model;
-use wait_queues::JoinOrder;
 
 /// A table of values by token, without `Drop`: each value is put in, lent out, and given back or
 /// closed. A slot that was closed is used again, the one that has been free for the longest first,
@@ -50,7 +50,7 @@ impl<T> Slots<T> {
     /// Puts a value into a free slot, and returns its token, which is new. The value comes back
     /// only where no slot is free. `O(1)`.
     pub fn put(&mut self, value: T) -> Result<Token, T>
-        ensures token { IfOk result (λ token. IsVacant self.old token) }
+        ensures token { IfOk result (λ token. IsVacantToken self.old token) }
         ensures empty { IfOk result (λ token. slice_get self.old.values token.index ≡ Some None) }
         ensures ok { IfOk result (λ token. self.new ≡ given self.old token value) }
         ensures err { IfErr result (λ back. (back ≡ value) × (self.old.free ≡ []) × (self.new ≡ self.old)) }
@@ -67,9 +67,9 @@ impl<T> Slots<T> {
 
     /// Returns an empty slot with a new token; `None` only where no slot is free. `O(1)`.
     pub fn open(&mut self) -> Option<Hole>
-        ensures token { IfSome result (λ hole. IsVacant self.old hole.token) }
+        ensures token { IfSome result (λ hole. IsVacantToken self.old hole.token) }
         ensures out { IfSome result (λ hole. IsOut self.new hole.token) }
-        ensures some { IfSome result (λ hole. self.new ≡ opened self.old hole.token) }
+        ensures some { IfSome result (λ hole. self.new ≡ table_with_open self.old hole.token) }
         ensures none { IfNone result ((self.old.free ≡ []) × (self.new ≡ self.old)) }
         ensures gone { (other : Token) → IsGone self.old other → IsGone self.new other }
     {
@@ -92,7 +92,7 @@ impl<T> Slots<T> {
 
     /// Lends out the value of a token; `None` exactly where it has none. `O(1)`.
     pub fn lend(&mut self, token: Token) -> Option<(T, Hole)>
-        ensures held { MatchOption result ((value : T) → ¬ (Holds self.old token value)) (λ it. Holds self.old token it.0) }
+        ensures held { MatchOption result ((value : T) → ¬ (HasValue self.old token value)) (λ it. HasValue self.old token it.0) }
         ensures hole { IfSome result (λ it. it.1.token ≡ token) }
         ensures left { MatchOption result (self.new ≡ self.old) (λ _. (self.new ≡ lent self.old token) × IsOut self.new token) }
         ensures gone { (other : Token) → IsGone self.old other → IsGone self.new other }
@@ -108,7 +108,7 @@ impl<T> Slots<T> {
 
     /// Returns the value of a token; `None` exactly where it has none. `O(1)`.
     pub fn get(&self, token: Token) -> Option<&T>
-        ensures { MatchOption result ((value : T) → ¬ (Holds self.now token value)) (λ value. Holds self.now token value.now) }
+        ensures { MatchOption result ((value : T) → ¬ (HasValue self.now token value)) (λ value. HasValue self.now token value.now) }
     {
         if !self.is_now(token) {
             return None;
@@ -149,7 +149,7 @@ impl<T> Slots<T> {
 
     /// Returns the token of the value in a slot, where there is one. `O(1)`.
     pub fn token_of(&self, index: usize) -> Option<Token>
-        ensures held { IfSome result (λ token. (value : T) × Holds self.now token value) }
+        ensures held { IfSome result (λ token. (value : T) × HasValue self.now token value) }
         ensures index { IfSome result (λ token. token.index ≡ index) }
     {
         let generation = *self.generations.as_slice().get(index)?;
@@ -178,8 +178,8 @@ impl<T> Slots<T> {
 
     /// Says whether a token has a value. `O(1)`.
     pub fn is_held(&self, token: Token) -> bool
-        ensures yes { IsTrue result → (value : T) × Holds self.now token value }
-        ensures others { (value : T) → Holds self.now token value → IsTrue result }
+        ensures yes { IsTrue result → (value : T) × HasValue self.now token value }
+        ensures others { (value : T) → HasValue self.now token value → IsTrue result }
     {
         self.is_now(token) && self.values[token.index].is_some()
     }

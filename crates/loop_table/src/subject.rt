@@ -1,5 +1,5 @@
 ghost use Rattle.std.specs.Prelude.{◌≡◌, ◌<◌, ◌^◌, IfSome};
-ghost use Rattle.loop_table.specs.Subjects.{number_of, AreSame};
+ghost use Rattle.loop_table.specs.Subjects.{subject_number, AreSame};
 ghost use Rattle.loop_table.specs.declared.subject.Subject.{Subject};
 
 use crate::token::Token;
@@ -30,7 +30,7 @@ const TICKETS: u64 = 1 << 40;
 impl Subject {
     /// Returns its number for the poll; `None` where its place or its ticket is too large.
     pub fn number(self) -> Option<usize>
-        ensures { IfSome result (λ number. number ≡ number_of self) }
+        ensures { IfSome result (λ number. number ≡ subject_number self) }
     {
         match self {
             Subject::Listener => Some(0),
@@ -50,7 +50,7 @@ impl Subject {
 
     /// Returns the subject with this number, if any.
     pub fn of(number: usize) -> Option<Subject>
-        ensures { IfSome result (λ subject. number_of subject ≡ number) }
+        ensures { IfSome result (λ subject. subject_number subject ≡ number) }
     {
         let above = number / 8;
         match number % 8 {
@@ -92,5 +92,5 @@ impl Token {
 
 /// Different subjects have different numbers.
 pub fn numbers_differ()
-    ensures { (a b : Subject) → number_of a ≡ number_of b → AreSame a b }
+    ensures { (a b : Subject) → subject_number a ≡ subject_number b → AreSame a b }
 {}

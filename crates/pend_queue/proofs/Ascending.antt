@@ -6,9 +6,9 @@ use Rattle.std.specs.List.{AllByRecursion}
 use Rattle.std.proofs.lemmas.Cmp.{tied_itself, tied_back}
 use Rattle.std.proofs.lemmas.List.Elements.{Contains-append_left, Contains-append_right, Contains-append_cases}
 use Rattle.std.proofs.lemmas.List.Sorted.{Contains-permutation, IsPermutation-sym}
-use Rattle.pend_queue.specs.Pairs.{IsAscending, IsAbsent, HaveNoCommonKey, pair_at}
-use Rattle.list_facts.proofs.Orders.{less_one_way, less_not_tied, same_not_less}
-use Rattle.list_facts.proofs.Members.{Contains-nil, Contains-head, Contains-tail, Contains-cases, Contains-filter, each_from_members, each_at_member}
+use Rattle.pend_queue.specs.Pairs.{IsAscending, KeyIsAbsent, HaveNoCommonKey, pair_at}
+use Rattle.base_lists.proofs.Orders.{less_one_way, less_not_tied, same_not_less}
+use Rattle.base_lists.proofs.Members.{Contains-nil, Contains-head, Contains-tail, Contains-cases, Contains-filter, each_from_members, each_at_member}
 
 module _ {K V : Type 0} (cmp : K → K → Ordering) where
   -- parts of an ascending list, and lists that make one
@@ -67,28 +67,28 @@ module _ {K V : Type 0} (cmp : K → K → Ordering) where
   ]
 
   -- what has no pair of a key, by its pairs
-  pub absent_from_members : (key : K) (ps : List (K × V)) → ((p : K × V) → Contains ps p → cmp p.0 key ≢ Equal) → IsAbsent cmp key ps
+  pub absent_from_members : (key : K) (ps : List (K × V)) → ((p : K × V) → Contains ps p → cmp p.0 key ≢ Equal) → KeyIsAbsent cmp key ps
   absent_from_members key ps differs = each_from_members (λ p. cmp p.0 key ≢ Equal) ps differs
 
-  pub absent_at_member : (key : K) (ps : List (K × V)) (p : K × V) → IsAbsent cmp key ps → Contains ps p → cmp p.0 key ≢ Equal
+  pub absent_at_member : (key : K) (ps : List (K × V)) (p : K × V) → KeyIsAbsent cmp key ps → Contains ps p → cmp p.0 key ≢ Equal
   absent_at_member key ps p absent among = each_at_member (λ p. cmp p.0 key ≢ Equal) ps p absent among
 
-  pub absent-append : (key : K) (ps qs : List (K × V)) → IsAbsent cmp key ps → IsAbsent cmp key qs → IsAbsent cmp key (ps ++ qs)
+  pub absent-append : (key : K) (ps qs : List (K × V)) → KeyIsAbsent cmp key ps → KeyIsAbsent cmp key qs → KeyIsAbsent cmp key (ps ++ qs)
   absent-append key ps qs first second = absent_from_members key (ps ++ qs) (λ p among. elim (Contains-append_cases ps qs p among) [
     | inl left ↦ absent_at_member key ps p first left
     | inr right ↦ absent_at_member key qs p second right
   ])
 
-  pub absent-IsPermutation : (key : K) (ps qs : List (K × V)) → IsPermutation ps qs → IsAbsent cmp key ps → IsAbsent cmp key qs
+  pub absent-IsPermutation : (key : K) (ps qs : List (K × V)) → IsPermutation ps qs → KeyIsAbsent cmp key ps → KeyIsAbsent cmp key qs
   absent-IsPermutation key ps qs moved absent =
       absent_from_members key qs (λ q among. absent_at_member key ps q absent (Contains-permutation qs ps q (IsPermutation-sym ps qs moved) among))
 
   pub apart_from_members : (ps qs : List (K × V)) → ((p q : K × V) → Contains ps p → Contains qs q → cmp p.0 q.0 ≢ Equal) → HaveNoCommonKey cmp ps qs
-  apart_from_members ps qs differ = each_from_members (λ q. IsAbsent cmp q.0 ps) qs
+  apart_from_members ps qs differ = each_from_members (λ q. KeyIsAbsent cmp q.0 ps) qs
       (λ q second. absent_from_members q.0 ps (λ p first. differ p q first second))
 
   pub apart_at_members : (ps qs : List (K × V)) (p q : K × V) → HaveNoCommonKey cmp ps qs → Contains ps p → Contains qs q → cmp p.0 q.0 ≢ Equal
-  apart_at_members ps qs p q apart first second = absent_at_member q.0 ps p (each_at_member (λ q. IsAbsent cmp q.0 ps) qs q apart second) first
+  apart_at_members ps qs p q apart first second = absent_at_member q.0 ps p (each_at_member (λ q. KeyIsAbsent cmp q.0 ps) qs q apart second) first
 
   -- a look-up by key, at the head and then in the rest
   module _ (key : K) (q : K × V) (ps : List (K × V)) where
@@ -99,8 +99,8 @@ module _ {K V : Type 0} (cmp : K → K → Ordering) where
     some_step p Less below rest found = let later = rest found in (Contains-tail q ps p later.0, later.1)
     some_step p Greater above rest found = let later = rest found in (Contains-tail q ps p later.0, later.1)
 
-    none_step : (o : Ordering) → cmp q.0 key ≡ o → (pair_at cmp key ps ≡ None → IsAbsent cmp key ps) → cond (is_eq o) (Some q) (pair_at cmp key ps) ≡ None
-        → IsAbsent cmp key (q ∷ ps)
+    none_step : (o : Ordering) → cmp q.0 key ≡ o → (pair_at cmp key ps ≡ None → KeyIsAbsent cmp key ps) → cond (is_eq o) (Some q) (pair_at cmp key ps) ≡ None
+        → KeyIsAbsent cmp key (q ∷ ps)
     none_step Equal tied rest found = cc
     none_step Less below rest found = (λ tied. cc, rest found)
     none_step Greater above rest found = (λ tied. cc, rest found)
@@ -114,11 +114,11 @@ module _ {K V : Type 0} (cmp : K → K → Ordering) where
   pair_at-Some key [] p found = cc
   pair_at-Some key (q ∷ ps) p found = some_step key q ps p (cmp q.0 key) refl (pair_at-Some key ps p) found
 
-  pub pair_at-None : (key : K) (ps : List (K × V)) → pair_at cmp key ps ≡ None → IsAbsent cmp key ps
+  pub pair_at-None : (key : K) (ps : List (K × V)) → pair_at cmp key ps ≡ None → KeyIsAbsent cmp key ps
   pair_at-None key [] found = tt
   pair_at-None key (q ∷ ps) found = none_step key q ps (cmp q.0 key) refl (pair_at-None key ps) found
 
-  pub pair_at-absent : (key : K) (ps : List (K × V)) → IsAbsent cmp key ps → pair_at cmp key ps ≡ None
+  pub pair_at-absent : (key : K) (ps : List (K × V)) → KeyIsAbsent cmp key ps → pair_at cmp key ps ≡ None
   pair_at-absent key [] absent = refl
   pair_at-absent key (q ∷ ps) absent = absent_step key q ps (cmp q.0 key) refl absent.0 (pair_at-absent key ps absent.1)
 
@@ -131,7 +131,7 @@ module _ {K V : Type 0} {cmp : K → K → Ordering} (order : IsTotalOrder cmp) 
   ]
 
   -- a key above which the head is stands nowhere in the list
-  pub absent_below_head : (key : K) (p : K × V) (ps : List (K × V)) → IsAscending cmp (p ∷ ps) → cmp key p.0 ≡ Less → IsAbsent cmp key (p ∷ ps)
+  pub absent_below_head : (key : K) (p : K × V) (ps : List (K × V)) → IsAscending cmp (p ∷ ps) → cmp key p.0 ≡ Less → KeyIsAbsent cmp key (p ∷ ps)
   absent_below_head key p ps up below = (
     less_not_tied order key p.0 below,
     absent_from_members cmp key ps (λ q among.
@@ -139,7 +139,7 @@ module _ {K V : Type 0} {cmp : K → K → Ordering} (order : IsTotalOrder cmp) 
   )
 
   -- the head's key is not among the rest
-  pub absent_from_rest : (p : K × V) (ps : List (K × V)) → IsAscending cmp (p ∷ ps) → IsAbsent cmp p.0 ps
+  pub absent_from_rest : (p : K × V) (ps : List (K × V)) → IsAscending cmp (p ∷ ps) → KeyIsAbsent cmp p.0 ps
   absent_from_rest p ps up = absent_from_members cmp p.0 ps (λ q among. less_not_tied order p.0 q.0 (each_at_member (λ q. cmp p.0 q.0 ≡ Less) ps q up.0 among))
 
   -- one key, one pair

@@ -10,11 +10,11 @@ use Rattle.std.proofs.lemmas.Bool.{cases_eq}
 use Rattle.std.proofs.lemmas.List.{reverse-append, get_or-take, get_or-drop}
 use Rattle.std.proofs.lemmas.List.Elements.{Contains-get_or}
 use Rattle.std.proofs.lemmas.List.Sorted.{IsPermutation-reverse, Contains-permutation}
-use Rattle.pend_queue.specs.Pairs.{IsAscending, IsAbsent, inserted, pair_at, without}
-use Rattle.pend_queue.specs.Places.{IsAt, IsGapFor}
-use Rattle.list_facts.proofs.Orders.{greater_from_less, less_from_greater, less_then_tied}
-use Rattle.list_facts.proofs.Members.{Contains-head, each_at_member}
-use Rattle.list_facts.proofs.Reversed.{reverse-cons, reverse_around, reverse_parts, each_in_reverse}
+use Rattle.pend_queue.specs.Pairs.{IsAscending, KeyIsAbsent, inserted, pair_at, pairs_without}
+use Rattle.pend_queue.specs.Places.{KeyIsAt, IsGapFor}
+use Rattle.base_lists.proofs.Orders.{greater_from_less, less_from_greater, less_then_tied}
+use Rattle.base_lists.proofs.Members.{Contains-head, each_at_member}
+use Rattle.base_lists.proofs.Reversed.{reverse-cons, reverse_around, reverse_parts, each_in_reverse}
 use Rattle.pend_queue.proofs.Ascending.{ascending_parts, absent_from_members, absent-append, absent_at_member, pair_at-member}
 use Rattle.pend_queue.proofs.Inserted.{inserted_between}
 use Rattle.pend_queue.proofs.Without.{without_between}
@@ -52,7 +52,7 @@ module _ {K V : Type 0} {cmp : K → K → Ordering} (order : IsTotalOrder cmp) 
 
     -- a binary search by key ends at the key, or at the gap for it
     pub searched : (r : Result ℕ ℕ) → IsSearchInRange r (length xs) → IsBinarySearchResult (λ p. cmp key p.0) xs r
-        → record { found : IfOk r (IsAt cmp key xs); absent : IfErr r (IsGapFor cmp key xs) }
+        → record { found : IfOk r (KeyIsAt cmp key xs); absent : IfErr r (IsGapFor cmp key xs) }
     searched (Ok at) in_range tied = record {
       found = record { in_range = in_range; has_key = λ d. tied_back order key (get_or xs at d).0 (tied d) };
       absent = tt;
@@ -82,19 +82,19 @@ module _ {K V : Type 0} {cmp : K → K → Ordering} (order : IsTotalOrder cmp) 
       ∙ ap (inserted cmp new) (sym (reverse_parts i xs))
 
   -- a key that has a gap is absent
-  pub absent_in_gap : (xs : List (K × V)) (key : K) (i : ℕ) → IsGapFor cmp key xs i → IsAbsent cmp key (reverse xs)
-  absent_in_gap xs key i gap = subst (IsAbsent cmp key) (sym (reverse_parts i xs)) (absent-append cmp key (reverse (drop i xs)) (reverse (take i xs))
+  pub absent_in_gap : (xs : List (K × V)) (key : K) (i : ℕ) → IsGapFor cmp key xs i → KeyIsAbsent cmp key (reverse xs)
+  absent_in_gap xs key i gap = subst (KeyIsAbsent cmp key) (sym (reverse_parts i xs)) (absent-append cmp key (reverse (drop i xs)) (reverse (take i xs))
       (absent_from_members cmp key _ (λ p among tied. let below : cmp p.0 key ≡ Less =
       each_at_member (λ p. cmp p.0 key ≡ Less) _ p (each_in_reverse (λ p. cmp p.0 key ≡ Less) (drop i xs) gap.smaller_after) among in cc))
       (absent_from_members cmp key _ (λ p among tied. let above : cmp p.0 key ≡ Greater =
       each_at_member (λ p. cmp p.0 key ≡ Greater) _ p (each_in_reverse (λ p. cmp p.0 key ≡ Greater) (take i xs) gap.greater_before) among in cc)))
 
   -- a key that has a place is not
-  module _ (xs : List (K × V)) (key : K) (i : ℕ) (d : K × V) (at : IsAt cmp key xs i) where
+  module _ (xs : List (K × V)) (key : K) (i : ℕ) (d : K × V) (at : KeyIsAt cmp key xs i) where
     among_reverse : Contains (reverse xs) (get_or xs i d)
     among_reverse = Contains-permutation xs (reverse xs) _ (IsPermutation-reverse xs) (Contains-get_or xs i d at.in_range)
 
-    pub present_at : IsAbsent cmp key (reverse xs) → ⊥
+    pub present_at : KeyIsAbsent cmp key (reverse xs) → ⊥
     present_at absent = absent_at_member cmp key (reverse xs) (get_or xs i d) absent among_reverse (at.has_key d)
 
     pub pair_at-reverse : IsAscending cmp (reverse xs) → pair_at cmp key (reverse xs) ≡ Some (get_or xs i d)
@@ -105,9 +105,9 @@ module _ {K V : Type 0} {cmp : K → K → Ordering} (order : IsTotalOrder cmp) 
         let cut : drop i xs ≡ get_or xs i d ∷ drop (suc i) xs = drop-cons xs i d at.in_range in
         ap reverse (sym (take-append-drop i xs) ∙ ap (λ (l : List (K × V)). take i xs ++ l) cut) ∙ reverse_around (take i xs) (drop (suc i) xs) (get_or xs i d)
 
-    pub reverse-remove : IsAscending cmp (reverse xs) → reverse (remove xs i) ≡ without cmp key (reverse xs)
+    pub reverse-remove : IsAscending cmp (reverse xs) → reverse (remove xs i) ≡ pairs_without cmp key (reverse xs)
     reverse-remove up =
         reverse-append (take i xs) (drop (suc i) xs)
         ∙ sym (without_between order key (get_or xs i d) (reverse (drop (suc i) xs)) (reverse (take i xs)) (subst (IsAscending cmp) around_place up)
         (at.has_key d))
-        ∙ ap (without cmp key) (sym around_place)
+        ∙ ap (pairs_without cmp key) (sym around_place)

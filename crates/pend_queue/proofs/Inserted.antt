@@ -7,10 +7,10 @@ use Rattle.std.proofs.lemmas.List.{append-nil}
 use Rattle.std.proofs.lemmas.List.Elements.{filter-append}
 use Rattle.std.proofs.lemmas.List.Sorted.{Contains-permutation, IsPermutation-sym, IsPermutation-trans, IsPermutation-cons}
 use Rattle.std.proofs.lemmas.List.Sorted.{IsPermutation-middle, IsPermutation-filter_both, length_permutation}
-use Rattle.pend_queue.specs.Pairs.{IsAscending, IsAbsent, inserted}
-use Rattle.list_facts.proofs.Orders.{less_from_greater}
-use Rattle.list_facts.proofs.Members.{Contains-head, Contains-tail, Contains-cases, Contains-filter, each_from_members, each_at_member}
-use Rattle.list_facts.proofs.Members.{all_filter, all_append, filter_all, filter_none, filter_alike}
+use Rattle.pend_queue.specs.Pairs.{IsAscending, KeyIsAbsent, inserted}
+use Rattle.base_lists.proofs.Orders.{less_from_greater}
+use Rattle.base_lists.proofs.Members.{Contains-head, Contains-tail, Contains-cases, Contains-filter, each_from_members, each_at_member}
+use Rattle.base_lists.proofs.Members.{all_filter, all_append, filter_all, filter_none, filter_alike}
 use Rattle.pend_queue.proofs.Ascending.{IsAscending-filter, IsAscending-append, absent_at_member}
 
 -- what a test of an order says
@@ -32,7 +32,7 @@ one_or_other Greater differs = refl
 
 module _ {K V : Type 0} (cmp : K → K → Ordering) where
   -- the old pairs and the new one
-  pub IsPermutation-inserted : (new : K × V) (ps : List (K × V)) → IsAbsent cmp new.0 ps → IsPermutation (new ∷ ps) (inserted cmp new ps)
+  pub IsPermutation-inserted : (new : K × V) (ps : List (K × V)) → KeyIsAbsent cmp new.0 ps → IsPermutation (new ∷ ps) (inserted cmp new ps)
   IsPermutation-inserted new ps absent =
       let is_below = λ (p : K × V). is_lt (cmp p.0 new.0) in
       let isn't_below = λ (p : K × V). not (is_lt (cmp p.0 new.0)) in
@@ -45,19 +45,19 @@ module _ {K V : Type 0} (cmp : K → K → Ordering) where
       subst (λ (l : List (K × V)). IsPermutation ps (filter is_below ps ++ l)) (sym above) both in
       IsPermutation-trans _ _ _ (IsPermutation-cons new _ _ parts) (IsPermutation-sym _ _ (IsPermutation-middle (filter is_below ps) new (filter is_above ps)))
 
-  pub length-inserted : (new : K × V) (ps : List (K × V)) → IsAbsent cmp new.0 ps → length (inserted cmp new ps) ≡ length ps + 1
+  pub length-inserted : (new : K × V) (ps : List (K × V)) → KeyIsAbsent cmp new.0 ps → length (inserted cmp new ps) ≡ length ps + 1
   length-inserted new ps absent =
       let moved : length (inserted cmp new ps) ≡ length (new ∷ ps) = length_permutation _ _ (IsPermutation-inserted new ps absent) in
       omega arith
 
-  pub Contains-inserted : (new : K × V) (ps : List (K × V)) (p : K × V) → IsAbsent cmp new.0 ps → Contains (inserted cmp new ps) p → (new ≡ p) ⊎ Contains ps p
+  pub Contains-inserted : (new : K × V) (ps : List (K × V)) (p : K × V) → KeyIsAbsent cmp new.0 ps → Contains (inserted cmp new ps) p → (new ≡ p) ⊎ Contains ps p
   Contains-inserted new ps p absent among =
       Contains-cases new ps p (Contains-permutation _ _ p (IsPermutation-sym _ _ (IsPermutation-inserted new ps absent)) among)
 
-  pub Contains-inserted_new : (new : K × V) (ps : List (K × V)) → IsAbsent cmp new.0 ps → Contains (inserted cmp new ps) new
+  pub Contains-inserted_new : (new : K × V) (ps : List (K × V)) → KeyIsAbsent cmp new.0 ps → Contains (inserted cmp new ps) new
   Contains-inserted_new new ps absent = Contains-permutation _ _ new (IsPermutation-inserted new ps absent) (Contains-head new ps)
 
-  pub Contains-inserted_old : (new : K × V) (ps : List (K × V)) (p : K × V) → IsAbsent cmp new.0 ps → Contains ps p → Contains (inserted cmp new ps) p
+  pub Contains-inserted_old : (new : K × V) (ps : List (K × V)) (p : K × V) → KeyIsAbsent cmp new.0 ps → Contains ps p → Contains (inserted cmp new ps) p
   Contains-inserted_old new ps p absent among = Contains-permutation _ _ p (IsPermutation-inserted new ps absent) (Contains-tail new ps p among)
 
   -- what holds of the new pair and of each old one

@@ -7,8 +7,8 @@ use Rattle.std.proofs.lemmas.List.{append-nil}
 use Rattle.std.proofs.lemmas.List.Elements.{Contains-append_left, Contains-append_right, Contains-append_cases}
 use Rattle.std.proofs.lemmas.List.Sorted.{Contains-permutation, IsPermutation-refl, IsPermutation-sym, IsPermutation-trans}
 use Rattle.std.proofs.lemmas.List.Sorted.{IsPermutation-cons, IsPermutation-middle, IsPermutation-append_left, length_permutation}
-use Rattle.pend_queue.specs.Pairs.{IsAscending, IsAbsent, HaveNoCommonKey, inserted, merged}
-use Rattle.list_facts.proofs.Members.{each_at_member, Contains-tail}
+use Rattle.pend_queue.specs.Pairs.{IsAscending, KeyIsAbsent, HaveNoCommonKey, inserted, merged}
+use Rattle.base_lists.proofs.Members.{each_at_member, Contains-tail}
 use Rattle.pend_queue.proofs.Ascending.{absent-append, absent-IsPermutation, absent_from_rest, apart_from_members, apart_at_members, same_from_permutation}
 use Rattle.pend_queue.proofs.Inserted.{AllByRecursion-inserted, IsAscending-inserted, IsPermutation-inserted, Contains-inserted}
 
@@ -28,7 +28,7 @@ module _ {K V : Type 0} {cmp : K → K → Ordering} (order : IsTotalOrder cmp) 
   IsPermutation-merged ps [] over apart = subst (λ (l : List (K × V)). IsPermutation l ps) (sym (append-nil ps)) (IsPermutation-refl ps)
   IsPermutation-merged ps (q ∷ qs) over apart =
       let before : IsPermutation (ps ++ qs) (merged cmp ps qs) = IsPermutation-merged ps qs over.1 apart.1 in
-      let absent : IsAbsent cmp q.0 (merged cmp ps qs) =
+      let absent : KeyIsAbsent cmp q.0 (merged cmp ps qs) =
       absent-IsPermutation cmp q.0 _ _ before (absent-append cmp q.0 ps qs apart.0 (absent_from_rest order q qs over)) in
       IsPermutation-trans _ _ _ (IsPermutation-middle ps q qs)
       (IsPermutation-trans _ _ _ (IsPermutation-cons q _ _ before) (IsPermutation-inserted cmp q (merged cmp ps qs) absent))

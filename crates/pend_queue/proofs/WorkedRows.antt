@@ -1,6 +1,6 @@
 -- The definitions at worked examples: what must hold, and wrong lists that must not be taken.
 use Rattle.std.proofs.Common.{◌≡◌, ◌≢◌, ℕ, List, [], ◌∷◌, Some, None, refl, nat_cmp}
-use Rattle.pend_queue.specs.Pairs.{IsAscending, IsAbsent, HaveNoCommonKey, inserted, pair_at, without, merged}
+use Rattle.pend_queue.specs.Pairs.{IsAscending, KeyIsAbsent, HaveNoCommonKey, inserted, pair_at, pairs_without, merged}
 
 abbrev queue : List (ℕ × ℕ)
 queue = (1, 10) ∷ (4, 40) ∷ (9, 90) ∷ []
@@ -33,10 +33,10 @@ pair_row = refl
 no_pair : pair_at nat_cmp 5 queue ≡ None
 no_pair = refl
 
-without_row : without nat_cmp 4 queue ≡ (1, 10) ∷ (9, 90) ∷ []
+without_row : pairs_without nat_cmp 4 queue ≡ (1, 10) ∷ (9, 90) ∷ []
 without_row = refl
 
-without_absent_key : without nat_cmp 5 queue ≡ queue
+without_absent_key : pairs_without nat_cmp 5 queue ≡ queue
 without_absent_key = refl
 
 merged_row : merged nat_cmp queue ((0, 0) ∷ (5, 50) ∷ []) ≡ (0, 0) ∷ (1, 10) ∷ (4, 40) ∷ (5, 50) ∷ (9, 90) ∷ []
@@ -45,10 +45,10 @@ merged_row = refl
 apart_row : HaveNoCommonKey nat_cmp queue ((0, 0) ∷ (5, 50) ∷ [])
 apart_row = (absent, (absent_too, tt))
   where
-    absent : IsAbsent nat_cmp 0 queue
+    absent : KeyIsAbsent nat_cmp 0 queue
     absent = (λ same. cc same, (λ same. cc same, (λ same. cc same, tt)))
 
-    absent_too : IsAbsent nat_cmp 5 queue
+    absent_too : KeyIsAbsent nat_cmp 5 queue
     absent_too = (λ same. cc same, (λ same. cc same, (λ same. cc same, tt)))
 
 not_apart : HaveNoCommonKey nat_cmp queue ((4, 41) ∷ []) → ⊥

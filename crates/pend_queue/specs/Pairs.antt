@@ -12,12 +12,12 @@ IsAscending cmp [] = Unit {0}
 IsAscending cmp (p ∷ ps) = AllByRecursion (λ q. cmp p.0 q.0 ≡ Less) ps × IsAscending cmp ps
 
 -- no pair has the key
-abbrev pub IsAbsent : {K V : Type 0} → (K → K → Ordering) → K → List (K × V) → Type 0
-IsAbsent cmp key ps = AllByRecursion (λ p. cmp p.0 key ≢ Equal) ps
+abbrev pub KeyIsAbsent : {K V : Type 0} → (K → K → Ordering) → K → List (K × V) → Type 0
+KeyIsAbsent cmp key ps = AllByRecursion (λ p. cmp p.0 key ≢ Equal) ps
 
 -- no key of the second list is in the first
 abbrev pub HaveNoCommonKey : {K V : Type 0} → (K → K → Ordering) → List (K × V) → List (K × V) → Type 0
-HaveNoCommonKey cmp ps qs = AllByRecursion (λ q. IsAbsent cmp q.0 ps) qs
+HaveNoCommonKey cmp ps qs = AllByRecursion (λ q. KeyIsAbsent cmp q.0 ps) qs
 
 -- the pairs with smaller keys, the new pair, the pairs with greater keys
 abbrev pub inserted : {K V : Type 0} → (K → K → Ordering) → K × V → List (K × V) → List (K × V)
@@ -28,8 +28,8 @@ abbrev pub pair_at : {K V : Type 0} → (K → K → Ordering) → K → List (K
 pair_at cmp key ps = find (λ p. is_eq (cmp p.0 key)) ps
 
 -- the pairs with other keys
-abbrev pub without : {K V : Type 0} → (K → K → Ordering) → K → List (K × V) → List (K × V)
-without cmp key ps = filter (λ p. not (is_eq (cmp p.0 key))) ps
+abbrev pub pairs_without : {K V : Type 0} → (K → K → Ordering) → K → List (K × V) → List (K × V)
+pairs_without cmp key ps = filter (λ p. not (is_eq (cmp p.0 key))) ps
 
 -- the first list with each pair of the second one inserted
 abbrev pub merged : {K V : Type 0} → (K → K → Ordering) → List (K × V) → List (K × V) → List (K × V)

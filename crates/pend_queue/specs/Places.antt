@@ -4,7 +4,7 @@ use Rattle.std.specs.declared.cmp.Ordering.{Ordering}
 use Rattle.std.specs.declared.cmp.Ordering.TheVariants.{Less, Equal, Greater}
 
 -- the pair at place i has the key
-pub record IsAt {K V : Type 0} (cmp : K → K → Ordering) (key : K) (ps : List (K × V)) (i : ℕ) : Type 0 where
+pub record KeyIsAt {K V : Type 0} (cmp : K → K → Ordering) (key : K) (ps : List (K × V)) (i : ℕ) : Type 0 where
   pub in_range : i < length ps
   pub has_key : HoldsAt (λ p. cmp p.0 key ≡ Equal) ps i
 

@@ -1,6 +1,6 @@
 ghost use Rattle.std.specs.Prelude.{◌≡◌, ◌+◌, ◌<◌, ◌≤◌, [], reverse, vec_len, vec_capacity, option_copied, option_map, IfOk, IfErr};
-ghost use Rattle.pend_queue.specs.Pairs.{IsAscending, IsAbsent, HaveNoCommonKey, inserted, pair_at, without, merged};
-ghost use Rattle.pend_queue.specs.Places.{IsAt, IsGapFor};
+ghost use Rattle.pend_queue.specs.Pairs.{IsAscending, KeyIsAbsent, HaveNoCommonKey, inserted, pair_at, pairs_without, merged};
+ghost use Rattle.pend_queue.specs.Places.{KeyIsAt, IsGapFor};
 
 use crate::queue::PendQueue;
 use std::alloc::{AllocError, AllocFailed, Global};
@@ -125,7 +125,7 @@ fn move_over<K: Ord + Drop, V: Drop>(items: &mut Vec<(K, V)>, more: &mut Vec<(K,
 fn put<K: Ord + Drop, V: Drop>(items: &mut Vec<(K, V)>, pair: (K, V))
     requires ascending { IsAscending K.cmp (reverse items.old.items) }
     requires room { vec_len items.old < vec_capacity items.old }
-    requires absent { IsAbsent K.cmp pair.0 (reverse items.old.items) }
+    requires absent { KeyIsAbsent K.cmp pair.0 (reverse items.old.items) }
     ensures items { reverse items.new.items ≡ inserted K.cmp pair (reverse items.old.items) }
     ensures len { vec_len items.new ≡ vec_len items.old + 1 }
     ensures capacity { vec_capacity items.new ≡ vec_capacity items.old }
@@ -142,7 +142,7 @@ fn put<K: Ord + Drop, V: Drop>(items: &mut Vec<(K, V)>, pair: (K, V))
 fn take_out<K: Ord, V>(items: &mut Vec<(K, V)>, key: &K) -> Option<(K, V)>
     requires { IsAscending K.cmp (reverse items.old.items) }
     ensures value { result ≡ pair_at K.cmp key.now (reverse items.old.items) }
-    ensures items { reverse items.new.items ≡ without K.cmp key.now (reverse items.old.items) }
+    ensures items { reverse items.new.items ≡ pairs_without K.cmp key.now (reverse items.old.items) }
     ensures capacity { vec_capacity items.new ≡ vec_capacity items.old }
 {
     match place_of(items, key) {
@@ -154,7 +154,7 @@ fn take_out<K: Ord, V>(items: &mut Vec<(K, V)>, key: &K) -> Option<(K, V)>
 // Returns the place of the key, or the place where it would go.
 fn place_of<K: Ord, V>(items: &[(K, V)], key: &K) -> Result<usize, usize>
     requires { IsAscending K.cmp (reverse items.now) }
-    ensures found { IfOk result (IsAt K.cmp key.now items.now) }
+    ensures found { IfOk result (KeyIsAt K.cmp key.now items.now) }
     ensures absent { IfErr result (IsGapFor K.cmp key.now items.now) }
 {
     items.binary_search_by(|pair| key.cmp(&pair.0))

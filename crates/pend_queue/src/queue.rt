@@ -1,5 +1,5 @@
 ghost use Rattle.std.specs.Prelude.{◌≡◌, ℕ, ◌+◌, ◌<◌, ◌≤◌, ◌↔◌, List, [], ◌∷◌, ◌++◌, length, drop, slice_get, option_map, option_copied, option_to_list, IfOk, IfErr, IsTrue, IsPermutation};
-ghost use Rattle.pend_queue.specs.Pairs.{IsAscending, IsAbsent, HaveNoCommonKey, inserted, pair_at, without, merged};
+ghost use Rattle.pend_queue.specs.Pairs.{IsAscending, KeyIsAbsent, HaveNoCommonKey, inserted, pair_at, pairs_without, merged};
 
 use std::alloc::{AllocError, AllocFailed, Global};
 
@@ -58,7 +58,7 @@ pub trait PendQueue<K: Ord, V>: Drop {
     /// Inserts a pair.
     fn push(&mut self, node: Self::Node)
         requires room { length (pairs self.old) < room self.old }
-        requires absent { IsAbsent K.cmp (pair_of node).0 (pairs self.old) }
+        requires absent { KeyIsAbsent K.cmp (pair_of node).0 (pairs self.old) }
         ensures pairs { pairs self.new ≡ inserted K.cmp (pair_of node) (pairs self.old) }
         ensures room { room self.new ≡ room self.old }
 
@@ -75,7 +75,7 @@ pub trait PendQueue<K: Ord, V>: Drop {
     /// Takes out the pair of a key; `None` only where no pair has the key.
     fn remove(&mut self, key: &K) -> Option<Self::Node>
         ensures value { option_map pair_of result ≡ pair_at K.cmp key.now (pairs self.old) }
-        ensures pairs { pairs self.new ≡ without K.cmp key.now (pairs self.old) }
+        ensures pairs { pairs self.new ≡ pairs_without K.cmp key.now (pairs self.old) }
         ensures room { room self.new ≡ room self.old }
 
         // The returned pair and the rest, still by rising key, are the old pairs.

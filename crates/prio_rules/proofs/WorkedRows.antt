@@ -22,7 +22,7 @@ use Rattle.req_view.specs.Request.{Request}
 use Rattle.req_view.specs.declared.version.Version.TheVariants.{Http11}
 use Rattle.prio_rules.specs.FieldValues.{field_values}
 use Rattle.prio_rules.specs.Truth.{test_holds, operand_holds, condition_holds, guard_holds}
-use Rattle.prio_rules.specs.Wishes.{number_of, standing, pinned, wish}
+use Rattle.prio_rules.specs.Wishes.{asked_number, standing, pinned, wish}
 
 abbrev looks : Subject → List (List ℕ) → Test
 looks subject values = record { subject = subject; ignore_case = false; values = values }
@@ -156,14 +156,14 @@ second_field = refl
 part_of_a_value : test_holds two_fields (looks (Header (codes "x-due")) (codes "-8" ∷ [])) ≡ true → ⊥
 part_of_a_value same = cc
 
-last_of_two_fields : number_of two_fields (HeaderValue (codes "x-due")) ≡ Some (pos 9)
+last_of_two_fields : asked_number two_fields (HeaderValue (codes "x-due")) ≡ Some (pos 9)
 last_of_two_fields = refl
 
 -- an empty last value is no number
-empty_last_value : number_of (due (codes "5,")) (HeaderValue (codes "x-due")) ≡ None
+empty_last_value : asked_number (due (codes "5,")) (HeaderValue (codes "x-due")) ≡ None
 empty_last_value = refl
 
-no_field : number_of two_fields (HeaderValue (codes "x-du")) ≡ None
+no_field : asked_number two_fields (HeaderValue (codes "x-du")) ≡ None
 no_field = refl
 
 -- case

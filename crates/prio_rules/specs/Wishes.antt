@@ -23,9 +23,9 @@ abbrev pub last_value : List ℕ → Request → Option (List ℕ)
 last_value name request = last_or None (field_values name request)
 
 -- an integer, or the last value of a field where that is a number of at most 18 digits
-abbrev pub number_of : Request → Expression → Option ℤ
-number_of request (Int number) = Some number
-number_of request (HeaderValue name) = option_and_then (signed_numeral 18) (last_value name request)
+abbrev pub asked_number : Request → Expression → Option ℤ
+asked_number request (Int number) = Some number
+asked_number request (HeaderValue name) = option_and_then (signed_numeral 18) (last_value name request)
 
 abbrev pub is_same : Action → Action → Bool
 is_same SetPriorityClass SetPriorityClass = true
@@ -35,7 +35,7 @@ is_same SetPriorityOffset SetPriorityOffset = true
 
 -- the number that a rule sets, if its action is this one and takes effect: the rule applies, and there is a number
 abbrev pub set_by : Action → List Acl → Request → Rule → Option ℤ
-set_by action acls request rule = if is_same rule.action action && applies acls request rule.guard then number_of request rule.value else None
+set_by action acls request rule = if is_same rule.action action && applies acls request rule.guard then asked_number request rule.value else None
 
 -- the number of the last action of a kind that takes effect, and 0 where none does
 abbrev pub standing : Action → Config → Request → ℤ

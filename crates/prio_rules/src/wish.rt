@@ -52,14 +52,14 @@ fn set_by(action: Action, acls: &Items<Acl>, view: &View, rule: &Rule) -> Option
     ensures { result ≡ rules.set_by action acls.now view.now rule.now }
 {
     if rule.action == action && applies(acls, view, &rule.guard) {
-        number_of(view, &rule.value)
+        asked_number(view, &rule.value)
     } else {
         None
     }
 }
 
-fn number_of(view: &View, expression: &Expression) -> Option<i64>
-    ensures { result ≡ rules.number_of view.now expression.now }
+fn asked_number(view: &View, expression: &Expression) -> Option<i64>
+    ensures { result ≡ rules.asked_number view.now expression.now }
 {
     match expression {
         Expression::Int(number) => Some(*number),

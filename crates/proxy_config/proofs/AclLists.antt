@@ -6,7 +6,7 @@ use Rattle.std.specs.Str.{bytes_eq}
 use Rattle.std.proofs.lemmas.List.Sums.{fails_before_first}
 use Rattle.std.proofs.lemmas.List.Quantifiers.{position-Some}
 use borrow.Author.Tests.{ltb-false}
-use Rattle.list_facts.proofs.Options.{cond_none}
+use Rattle.base_lists.proofs.Options.{cond_none}
 use Rattle.proxy_config.specs.declared.parts.Acl.{Acl}
 use Rattle.proxy_config.specs.declared.parts.Test.{Test}
 use Rattle.proxy_config.specs.Conditions.{acl_index}

@@ -1,7 +1,7 @@
 -- Each cause stands where it is said to.
 use Rattle.std.proofs.Common.{◌≡◌, ℕ, true, List, [], ◌∷◌, ◌++◌, Option, Some, None, Err, refl, ap, ◌∙◌}
 use Rattle.std.specs.Option.{ok_or}
-use Rattle.list_facts.proofs.Never.{false_true}
+use Rattle.base_lists.proofs.Never.{false_true}
 use Rattle.proxy_config.specs.declared.draft.Section.{Section}
 use Rattle.proxy_config.specs.declared.draft.Section.TheVariants as sections
 use Rattle.proxy_config.specs.declared.faults.FaultCause.{FaultCause}

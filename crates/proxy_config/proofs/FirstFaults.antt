@@ -12,7 +12,7 @@ use Rattle.proxy_config.specs.declared.parts.Bind.{Bind}
 use Rattle.proxy_config.specs.declared.parts.Config.{Config}
 use Rattle.proxy_config.specs.declared.parts.Server.{Server}
 use Rattle.proxy_config.specs.Resolved.{Resolved, start, resolved_line}
-use Rattle.proxy_config.specs.File.{Answers, declared_servers, finished, is_line, long_line, missing, reading, run, then_lines, whole}
+use Rattle.proxy_config.specs.File.{FileAnswers, declared_servers, finished, is_line, long_line, missing, reading, run, then_lines, whole}
 use Rattle.proxy_config.specs.Laws.{TakenIn, FirstFault, Says, Lacks, Blames}
 
 same_err : {A : Type 0} (f g : ConfigFault) → (let one : Result A ConfigFault = Err f in one ≡ Err g) → f ≡ g
@@ -137,11 +137,11 @@ reading-fault bytes fault is =
     ]
 
 -- the same of what a function returned
-pub answers-ok : (result : Result Config ReadError) (bytes : List ℕ) → Answers result (reading bytes) → IfOk result (Says bytes)
+pub answers-ok : (result : Result Config ReadError) (bytes : List ℕ) → FileAnswers result (reading bytes) → IfOk result (Says bytes)
 answers-ok (Ok config) bytes is = reading-ok bytes config is
 answers-ok (Err e) bytes is = tt
 
-pub answers-fault : (result : Result Config ReadError) (bytes : List ℕ) → Answers result (reading bytes) → IfErr result (Blames bytes)
+pub answers-fault : (result : Result Config ReadError) (bytes : List ℕ) → FileAnswers result (reading bytes) → IfErr result (Blames bytes)
 answers-fault (Ok config) bytes is = tt
 answers-fault (Err errors.NoMemory) bytes is = tt
 answers-fault (Err (errors.Fault fault)) bytes is = reading-fault bytes fault is

@@ -5,7 +5,7 @@ use Rattle.std.specs.Option.{IfSome, ok_or}
 use Rattle.std.specs.List.{All, AllByRecursion}
 use Rattle.std.specs.Str.{bytes_eq}
 use Rattle.std.proofs.lemmas.List.Elements.{All-from_recursion, All-weaker}
-use Rattle.list_facts.proofs.Found.{position_below}
+use Rattle.base_lists.proofs.Found.{position_below}
 use Rattle.proxy_config.specs.declared.faults.FaultCause.TheVariants as causes
 use Rattle.proxy_config.specs.declared.parts.Acl.{Acl}
 use Rattle.proxy_config.specs.declared.parts.Condition.{Condition}

@@ -29,14 +29,14 @@ same_then n (Err cause) f g same = refl
 same_pins : {A : Type 0} (servers : List Server) (wishes : List Wish) (f g : List Pin → Result A ConfigFault)
     → ((ps : List Pin) → length ps ≡ length wishes → f ps ≡ g ps) → with_pins servers wishes f ≡ with_pins servers wishes g
 same_pins servers [] f g same = same [] refl
-same_pins servers (wish ∷ wishes) f g same = same_then wish.line (wished.pin_of servers wish) _ _ (λ pin.
+same_pins servers (wish ∷ wishes) f g same = same_then wish.line (wished.asked_pin servers wish) _ _ (λ pin.
     same_pins servers wishes (λ ps. f (pin ∷ ps)) (λ ps. g (pin ∷ ps)) (λ ps count. same (pin ∷ ps) (ap (λ (n : ℕ). suc n) count)))
 
 -- one wish more at the end
 one_more : {A : Type 0} (servers : List Server) (wishes : List Wish) (wish : Wish) (f : List Pin → Result A ConfigFault)
-    → with_pins servers (wishes ++ wish ∷ []) f ≡ with_pins servers wishes (λ ps. then_lines wish.line (wished.pin_of servers wish) (λ pin. f (ps ++ pin ∷ [])))
+    → with_pins servers (wishes ++ wish ∷ []) f ≡ with_pins servers wishes (λ ps. then_lines wish.line (wished.asked_pin servers wish) (λ pin. f (ps ++ pin ∷ [])))
 one_more servers [] wish f = refl
-one_more servers (first ∷ wishes) wish f = same_then first.line (wished.pin_of servers first) _ _ (λ pin. one_more servers wishes wish (λ ps. f (pin ∷ ps)))
+one_more servers (first ∷ wishes) wish f = same_then first.line (wished.asked_pin servers first) _ _ (λ pin. one_more servers wishes wish (λ ps. f (pin ∷ ps)))
 
 chained : {A B : Type 0} → Result A ConfigFault → (A → Result B ConfigFault) → Result B ConfigFault
 chained (Ok x) f = f x
@@ -54,7 +54,7 @@ pins_first : {A B : Type 0} (servers : List Server) (wishes : List Wish) (f : Li
     → with_pins servers wishes (λ ps. chained (f ps) g) ≡ chained (with_pins servers wishes f) g
 unfolding chained
 pins_first servers [] f g = refl
-pins_first servers (wish ∷ wishes) f g = first_pin wish.line (wished.pin_of servers wish) _ _ g (λ pin. pins_first servers wishes (λ ps. f (pin ∷ ps)) g)
+pins_first servers (wish ∷ wishes) f g = first_pin wish.line (wished.asked_pin servers wish) _ _ g (λ pin. pins_first servers wishes (λ ps. f (pin ∷ ps)) g)
 
 -- What is known comes to the first fault of a pin, to the known fault behind the pins, or to a draft with the pins.
 settled_first : (servers : List Server) (p : Progress) (r : Result (List Pin) ConfigFault) → with_pins servers p.wishes Ok ≡ r
@@ -82,8 +82,8 @@ abbrev pub coming : List Server → Option ℕ → Progress → ℕ → List (Li
 coming servers long p n lines = with_pins servers p.wishes (λ ps. unless_known p.fault (run servers long (fit ps p.draft) n lines))
 
 then_resolved : (servers : List Server) (ps : List Pin) (n : ℕ) (d : Draft) (wish : Wish) (k : Resolved → Result Resolved ConfigFault) → wish.line ≡ n
-    → then_lines n (resolve servers ps (d, Some wish)) k ≡ then_lines wish.line (wished.pin_of servers wish) (λ pin. k (fit (ps ++ pin ∷ []) d))
-then_resolved servers ps n d wish k line = by_pin (wished.pin_of servers wish)
+    → then_lines n (resolve servers ps (d, Some wish)) k ≡ then_lines wish.line (wished.asked_pin servers wish) (λ pin. k (fit (ps ++ pin ∷ []) d))
+then_resolved servers ps n d wish k line = by_pin (wished.asked_pin servers wish)
   where
     by_pin : (r : Result Pin FaultCause) → then_lines n (r >>= λ pin. Ok (fit (ps ++ pin ∷ []) d)) k
         ≡ then_lines wish.line r (λ pin. k (fit (ps ++ pin ∷ []) d))

@@ -36,10 +36,10 @@ pin_line servers acls words = do
 
 -- a pin is what its wish comes to
 pin_granted : (servers : List Server) (n : ℕ) (acls : List Acl) (ws : List (List ℕ))
-    → pin_line servers acls ws ≡ (wished.wish_line n acls ws >>= wished.pin_of servers)
+    → pin_line servers acls ws ≡ (wished.wish_line n acls ws >>= wished.asked_pin servers)
 unfolding pin_line wished.wish_line
-pin_granted servers n acls ws = sym (assoc (word_at ws) _ (wished.pin_of servers) ∙ same_next (word_at ws) _ _ (λ name name_is.
-    assoc (unless (not (is_name name.0)) causes.Name) _ (wished.pin_of servers) ∙ same_next (unless (not (is_name name.0)) causes.Name) _ _ (λ named named_is.
+pin_granted servers n acls ws = sym (assoc (word_at ws) _ (wished.asked_pin servers) ∙ same_next (word_at ws) _ _ (λ name name_is.
+    assoc (unless (not (is_name name.0)) causes.Name) _ (wished.asked_pin servers) ∙ same_next (unless (not (is_name name.0)) causes.Name) _ _ (λ named named_is.
     same_next (ok_or (server_index name.0 servers) causes.Unknown) _ _ (λ server server_is.
     assoc (word_at name.1) _ (λ guard. Ok (record { server = server; guard = guard }))))))
 
@@ -51,7 +51,7 @@ placed ps read = read >>= λ d. Ok (record { draft = d; pins = ps })
 unfoldable pub pinned_line : List Server → Resolved → List (List ℕ) → Result Resolved FaultCause
 pinned_line servers r words = do
   place ← unless (not (draft.in_listen r.draft.section)) causes.Place
-  limit ← draft.has_room (length r.pins) r.draft
+  limit ← draft.has_rule_room (length r.pins) r.draft
   pin ← pin_line servers r.draft.acls words
   Ok (record r { pins = r.pins ++ pin ∷ [] })
 
@@ -86,9 +86,9 @@ use_resolved servers r n ws =
     sym (assoc (draft.use_line (length r.pins) r.draft n ws) _ (resolve servers r.pins)
     ∙ assoc (unless (not (draft.in_listen r.draft.section)) causes.Place) _ asked
     ∙ same_next (unless (not (draft.in_listen r.draft.section)) causes.Place) _ _ (λ place place_is.
-    assoc (draft.has_room (length r.pins) r.draft) _ asked ∙ same_next (draft.has_room (length r.pins) r.draft) _ _ (λ limit limit_is.
+    assoc (draft.has_rule_room (length r.pins) r.draft) _ asked ∙ same_next (draft.has_rule_room (length r.pins) r.draft) _ _ (λ limit limit_is.
     sym (ap (λ (pin : Result Pin FaultCause). pin >>= pinned) (pin_granted servers n r.draft.acls ws)
-    ∙ assoc (wished.wish_line n r.draft.acls ws) (wished.pin_of servers) pinned))))
+    ∙ assoc (wished.wish_line n r.draft.acls ws) (wished.asked_pin servers) pinned))))
 
 line_resolved : (servers : List Server) (r : Resolved) (n : ℕ) (keyword : Keyword) (ws : List (List ℕ))
     → (draft.keyword_line (length r.pins) r.draft n keyword ws >>= resolve servers r.pins) ≡ line_of servers r n keyword ws

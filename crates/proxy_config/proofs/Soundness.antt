@@ -11,7 +11,7 @@ use Rattle.std.specs.Result.{IfOk}
 use Rattle.std.proofs.lemmas.Bool.Decides.{nat_tests}
 use Rattle.std.proofs.lemmas.Bool.{leb-false}
 use Rattle.std.proofs.lemmas.Option.{same_Some}
-use Rattle.list_facts.proofs.Members.{all_push}
+use Rattle.base_lists.proofs.Members.{all_push}
 use borrow.Author.Tests.{ltb-false, ltb-true}
 use Rattle.proxy_words.specs.Numerals.{numeral}
 use Rattle.proxy_words.specs.Times.{time}
@@ -52,7 +52,7 @@ use Rattle.proxy_config.specs.Resolved.{Resolved, start, resolved_line}
 use Rattle.proxy_config.specs.declared.parts.Pin.{Pin}
 use Rattle.proxy_config.proofs.Resolving.{pin_line, pinned_line, placed, line_of, line_by, line_stepped}
 use Rattle.proxy_config.specs.Draft as draft
-use Rattle.proxy_config.specs.File.{Answers, declared_servers, is_line, long_line, reading, whole}
+use Rattle.proxy_config.specs.File.{FileAnswers, declared_servers, is_line, long_line, reading, whole}
 use Rattle.proxy_config.specs.Laws.{TakenIn, Says}
 use Rattle.proxy_config.specs.Sound.{IsSoundCheck, IsSoundGuard, IsSoundServer, IsSoundTime, IsSoundConfig}
 use Rattle.proxy_config.proofs.Outcomes.{bind_ok, chosen, from_ok, ok_or_ok, unless_ok}
@@ -390,7 +390,7 @@ request_keeps : (known : List Server) (ps : List Pin) (d e : Draft) (words : Lis
 unfolding draft.request_line
 request_keeps known ps d e words is sound =
     let place = bind_ok (unless (not (draft.in_listen d.section)) causes.Place) _ e is in
-    let limit = bind_ok (draft.has_room (length ps) d) _ e place.2 in
+    let limit = bind_ok (draft.has_rule_room (length ps) d) _ e place.2 in
     let rule = bind_ok (rule_line d.acls words) _ e limit.2 in
     let room : length d.rules + length ps < 256 = leb-false 256 _ (unless_ok _ causes.Limit limit.0 limit.1) in
     subst (SoundDraft known ps) (from_ok _ e rule.2) (record {
@@ -411,7 +411,7 @@ use_keeps known r e words is sound =
     let d = r.draft in
     let ps = r.pins in
     let place = bind_ok (unless (not (draft.in_listen d.section)) causes.Place) _ e is in
-    let limit = bind_ok (draft.has_room (length ps) d) _ e place.2 in
+    let limit = bind_ok (draft.has_rule_room (length ps) d) _ e place.2 in
     let pin = bind_ok (pin_line known d.acls words) _ e limit.2 in
     let room : length d.rules + length ps < 256 = leb-false 256 _ (unless_ok _ causes.Limit limit.0 limit.1) in
     let one = pin_sound known d.acls words pin.0 pin.1 in
@@ -563,6 +563,6 @@ says-sound bytes config says =
     (subst (λ (servers : List Server). SoundResolved servers says.read) same
     (taken_keep known (long_line bytes) start says.read 1 (lines bytes) says.taken_in begun))
 
-pub answers-sound : (result : Result Config ReadError) (bytes : List ℕ) → Answers result (reading bytes) → IfOk result IsSoundConfig
+pub answers-sound : (result : Result Config ReadError) (bytes : List ℕ) → FileAnswers result (reading bytes) → IfOk result IsSoundConfig
 answers-sound (Ok config) bytes is = says-sound bytes config (reading-ok bytes config is)
 answers-sound (Err e) bytes is = tt

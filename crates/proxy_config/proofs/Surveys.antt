@@ -19,7 +19,7 @@ use Rattle.proxy_config.specs.Keywords.{keyword_of}
 use Rattle.proxy_config.specs.Rules.{rule_line}
 use Rattle.proxy_config.specs.Draft as draft
 use Rattle.proxy_config.specs.Resolved.{Resolved, resolve}
-use Rattle.proxy_config.specs.Wishes.{pin_of}
+use Rattle.proxy_config.specs.Wishes.{asked_pin}
 use Rattle.proxy_config.specs.Progress.{took, take_line}
 use Rattle.proxy_config.specs.File.{is_line, survey, first_keyword, keyword_in, ends_listen, after_fault, unless_faulty}
 use Rattle.proxy_config.specs.Laws.{TakenIn}
@@ -70,7 +70,7 @@ request_same : (pins : ℕ) (d e : Draft) (ws : List (List ℕ)) → draft.reque
 unfolding draft.request_line
 request_same pins d e ws is =
     let place = bind_ok (unless (not (draft.in_listen d.section)) causes.Place) _ e is in
-    let limit = bind_ok (draft.has_room pins d) _ e place.2 in
+    let limit = bind_ok (draft.has_rule_room pins d) _ e place.2 in
     let rule = bind_ok (rule_line d.acls ws) _ e limit.2 in
     ap bare (sym (from_ok _ e rule.2))
 
@@ -162,7 +162,7 @@ survey-take long p n line lines = survey_same long (next long p.draft n line) (t
 resolved_draft : (servers : List Server) (ps : List Pin) (x : Draft × Option Wish) (e : Resolved) → resolve servers ps x ≡ Ok e → e.draft ≡ x.0
 resolved_draft servers ps (d, None) e is = ap (λ (r : Resolved). r.draft) (sym (from_ok _ e is))
 resolved_draft servers ps (d, Some wish) e is =
-    let pin = bind_ok (pin_of servers wish) _ e is in ap (λ (r : Resolved). r.draft) (sym (from_ok _ e pin.2))
+    let pin = bind_ok (asked_pin servers wish) _ e is in ap (λ (r : Resolved). r.draft) (sym (from_ok _ e pin.2))
 
 -- where all lines are taken in, the survey finds the same servers
 pub survey-taken : (servers : List Server) (long : Option ℕ) (r e : Resolved) (n : ℕ) (lines : List (List ℕ)) → TakenIn servers long r n lines e

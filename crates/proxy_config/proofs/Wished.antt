@@ -43,7 +43,7 @@ use_numbered : (pins : ℕ) (d : Draft) (n : ℕ) (ws : List (List ℕ)) (wish :
 unfolding draft.use_line
 use_numbered pins d n ws wish is =
     let place = bind_ok (unless (not (draft.in_listen d.section)) causes.Place) _ wish is in
-    let limit = bind_ok (draft.has_room pins d) _ wish place.2 in
+    let limit = bind_ok (draft.has_rule_room pins d) _ wish place.2 in
     wish_numbered n d.acls ws wish limit.2
 
 -- its number, and the draft

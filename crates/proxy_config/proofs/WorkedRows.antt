@@ -11,7 +11,7 @@ use Rattle.proxy_config.specs.Conditions.{alternatives, condition, operand_at, t
 use Rattle.proxy_config.specs.Settings.{built_in, settings}
 use Rattle.proxy_config.specs.Draft.{step, words_line, optional_name, defaults_line, listen_line, bind_line, server_of}
 use Rattle.proxy_config.specs.File.{reading}
-use Rattle.proxy_config.specs.Wishes.{pin_of, wish_line}
+use Rattle.proxy_config.specs.Wishes.{asked_pin, wish_line}
 use Rattle.proxy_config.specs.Progress.{with_pins}
 use Rattle.proxy_config.specs.declared.parts.Host.TheVariants as hosts
 use Rattle.proxy_config.specs.declared.parts.Server.{Server}
@@ -83,10 +83,10 @@ wish_row : wish_line 4 [] (words (codes "a")) ≡ Ok (unguarded (codes "a"))
 unfolding wish_line
 wish_row = refl
 
-guard_counts : pin_of one_server (unguarded (codes "a")) ≡ Err causes.Words
+guard_counts : asked_pin one_server (unguarded (codes "a")) ≡ Err causes.Words
 guard_counts = refl
 
-unknown_first : pin_of one_server (unguarded (codes "b")) ≡ Err causes.Unknown
+unknown_first : asked_pin one_server (unguarded (codes "b")) ≡ Err causes.Unknown
 unknown_first = refl
 
 named_with_its_line : with_pins one_server (unguarded (codes "b") ∷ unguarded (codes "a") ∷ []) Ok ≡ Err (record { line = 4; cause = causes.Unknown })

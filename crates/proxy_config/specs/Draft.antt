@@ -125,14 +125,14 @@ test_line d words = do
   Ok (record d { acls = acls; acl_lines = d.acl_lines + 1 })
 
 -- there is room for one more rule beside those of the draft and this number of pins
-abbrev pub has_room : ℕ → Draft → Result (Unit {0}) FaultCause
-has_room pins d = unless (nat_le most_rules (length d.rules + pins)) causes.Limit
+abbrev pub has_rule_room : ℕ → Draft → Result (Unit {0}) FaultCause
+has_rule_room pins d = unless (nat_le most_rules (length d.rules + pins)) causes.Limit
 
 -- `http-request ..`, after this number of pins
 unfoldable pub request_line : ℕ → Draft → List (List ℕ) → Result Draft FaultCause
 request_line pins d words = do
   place ← unless (not (in_listen d.section)) causes.Place
-  limit ← has_room pins d
+  limit ← has_rule_room pins d
   rule ← rule_line d.acls words
   Ok (record d { rules = d.rules ++ rule ∷ [] })
 
@@ -140,7 +140,7 @@ request_line pins d words = do
 unfoldable pub use_line : ℕ → Draft → ℕ → List (List ℕ) → Result Wish FaultCause
 use_line pins d n words = do
   place ← unless (not (in_listen d.section)) causes.Place
-  limit ← has_room pins d
+  limit ← has_rule_room pins d
   wish_line n d.acls words
 
 -- a line that asks for no pin

@@ -107,7 +107,7 @@ abbrev pub reading : List ℕ → Result Config ConfigFault
 reading bytes = finished (run (declared_servers bytes) (long_line bytes) start 1 (lines bytes))
 
 -- what a function returned is the definition's result, except for want of memory
-abbrev pub Answers : {X : Type 0} → Result X ReadError → Result X ConfigFault → Type 0
-Answers (Ok x) read = read ≡ Ok x
-Answers (Err errors.NoMemory) read = Unit {0}
-Answers (Err (errors.Fault fault)) read = read ≡ Err fault
+abbrev pub FileAnswers : {X : Type 0} → Result X ReadError → Result X ConfigFault → Type 0
+FileAnswers (Ok x) read = read ≡ Ok x
+FileAnswers (Err errors.NoMemory) read = Unit {0}
+FileAnswers (Err (errors.Fault fault)) read = read ≡ Err fault

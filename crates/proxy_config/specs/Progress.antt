@@ -11,7 +11,7 @@ use Rattle.proxy_config.specs.declared.wishes.Wish.{Wish}
 use Rattle.proxy_config.specs.Draft as draft
 use Rattle.proxy_config.specs.File.{keyword_in, after_fault, then_lines}
 use Rattle.proxy_config.specs.Resolved.{Resolved}
-use Rattle.proxy_config.specs.Wishes.{pin_of}
+use Rattle.proxy_config.specs.Wishes.{asked_pin}
 
 -- the knowledge before the first line
 abbrev pub start : Progress
@@ -36,7 +36,7 @@ unless_known (Some fault) more = Err fault
 -- all pins that are asked for, or the first line whose pin is faulty, and what comes after them
 abbrev pub with_pins : {A : Type 0} → List Server → List Wish → (List Pin → Result A ConfigFault) → Result A ConfigFault
 with_pins servers [] more = more []
-with_pins servers (wish ∷ wishes) more = then_lines wish.line (pin_of servers wish) (λ pin. with_pins servers wishes (λ pins. more (pin ∷ pins)))
+with_pins servers (wish ∷ wishes) more = then_lines wish.line (asked_pin servers wish) (λ pin. with_pins servers wishes (λ pins. more (pin ∷ pins)))
 
 -- the result of the knowledge, by the servers of the whole file
 abbrev pub settled : List Server → Progress → Result Resolved ConfigFault

@@ -7,7 +7,7 @@ use Rattle.proxy_config.specs.declared.parts.Server.{Server}
 use Rattle.proxy_config.specs.declared.wishes.Wish.{Wish}
 use Rattle.proxy_config.specs.Outcomes.{◌>>=◌}
 use Rattle.proxy_config.specs.Draft as draft
-use Rattle.proxy_config.specs.Wishes.{pin_of}
+use Rattle.proxy_config.specs.Wishes.{asked_pin}
 
 -- the result of lines: a draft, and the pins that they ask for
 pub record Resolved : Type 0 where
@@ -21,7 +21,7 @@ start = record { draft = draft.start; pins = [] }
 -- a line's outcome after these pins: the pin that it asks for is resolved by the servers of the file
 abbrev pub resolve : List Server → List Pin → Draft × Option Wish → Result Resolved FaultCause
 resolve servers pins (d, None) = Ok (record { draft = d; pins = pins })
-resolve servers pins (d, Some wish) = pin_of servers wish >>= λ pin. Ok (record { draft = d; pins = pins ++ pin ∷ [] })
+resolve servers pins (d, Some wish) = asked_pin servers wish >>= λ pin. Ok (record { draft = d; pins = pins ++ pin ∷ [] })
 
 -- the words of a line, and a line, after the result of the lines before it
 abbrev pub resolved_words : List Server → Resolved → ℕ → List (List ℕ) → Result Resolved FaultCause

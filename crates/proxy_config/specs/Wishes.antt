@@ -26,8 +26,8 @@ wish_line n acls words = do
   Ok (record { line = n; server = name.0; guard = guard_of acls name.1 })
 
 -- the pin that is asked for: an undeclared server is a fault before that of the guard
-abbrev pub pin_of : List Server → Wish → Result Pin FaultCause
-pin_of servers wish = do
+abbrev pub asked_pin : List Server → Wish → Result Pin FaultCause
+asked_pin servers wish = do
   server ← ok_or (server_index wish.server servers) causes.Unknown
   guard ← wish.guard
   Ok (record { server = server; guard = guard })

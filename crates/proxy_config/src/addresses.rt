@@ -11,7 +11,7 @@ use crate::faults::{FaultCause, LineError};
 use crate::names::is_host;
 use crate::parts::{Address, Bind, Host};
 use crate::pieces::{is, number_in};
-use list_facts::Items;
+use base_lists::Items;
 use std::alloc::Global;
 
 /// Reads the address to listen at: `A:PORT`, where A is empty, `*` or an IPv4 address.

@@ -10,7 +10,7 @@ use crate::names::is_acl_name;
 use crate::parts::{Acl, Condition, Guard, Operand, Term};
 use crate::pieces::{is, word};
 use crate::samples::test_in_braces;
-use list_facts::Items;
+use base_lists::Items;
 use proxy_words::Words;
 use std::alloc::Global;
 use std::mem;

@@ -16,7 +16,7 @@ use crate::rules::{acl_line, rule_line, server_index};
 use crate::settings::{Settings, settings_to_end};
 use crate::values::{Shared, Values, shared_line};
 use crate::wishes::{Wish, wish_line};
-use list_facts::Items;
+use base_lists::Items;
 use proxy_words::{Words, is_name, without_comment};
 use std::alloc::Global;
 
@@ -325,7 +325,7 @@ impl Draft {
     }
 
     fn has_room(&self, pins: usize) -> Result<(), FaultCause>
-        ensures { Sees (λ x. x) result (grammar.has_room pins self.now) }
+        ensures { Sees (λ x. x) result (grammar.has_rule_room pins self.now) }
     {
         let rules = self.rules.len();
         if rules >= MOST_RULES || pins >= MOST_RULES - rules {

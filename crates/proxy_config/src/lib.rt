@@ -18,8 +18,8 @@ mod settings;
 mod values;
 mod wishes;
 
+pub use base_lists::Items;
 pub use faults::{ConfigFault, FaultCause, ReadError};
-pub use list_facts::Items;
 pub use parts::{
     Acl, Action, Address, Bind, Checks, Condition, Config, Expression, Guard, Host, Operand, Pin,
     Rule, Server, Subject, Term, Test, Text,

@@ -1,6 +1,6 @@
 //! The parts of a configuration.
 
-use list_facts::Items;
+use base_lists::Items;
 
 /// A text, as its bytes.
 pub type Text = Items<u8>;

@@ -2,7 +2,7 @@
 
 ghost use Rattle.std.specs.Prelude.{◌≡◌, OnOk, IfErr};
 ghost use Rattle.proxy_config.specs.File as file;
-ghost use Rattle.proxy_config.specs.File.{Answers};
+ghost use Rattle.proxy_config.specs.File.{FileAnswers};
 ghost use Rattle.proxy_config.specs.Progress as grammar;
 
 use crate::draft::Draft;
@@ -10,7 +10,7 @@ use crate::faults::{ConfigFault, FaultCause, LineError, ReadError};
 use crate::parts::{Config, Pin};
 use crate::values::set_time;
 use crate::wishes::{Wish, pins_of};
-use list_facts::Items;
+use base_lists::Items;
 use std::alloc::Global;
 
 #[derive(Drop)]
@@ -76,7 +76,7 @@ impl Progress {
     /// Returns the configuration or its first fault, once all lines are read.
     #[tactic(auto, using(crate::proofs::OnePass::settled_err))]
     pub(crate) fn finish(self, alloc: Global) -> Result<Config, ReadError>
-        ensures { Answers result (file.finished (grammar.settled self.draft.servers self)) }
+        ensures { FileAnswers result (file.finished (grammar.settled self.draft.servers self)) }
     {
         let Progress {
             draft,
@@ -93,7 +93,7 @@ impl Progress {
 
 // Returns the configuration, if the lines have all that it needs.
 fn whole(draft: Draft, pins: Items<Pin>) -> Result<Config, ReadError>
-    ensures { Answers result (file.whole draft.listen draft.bind (record { draft = draft; pins = pins })) }
+    ensures { FileAnswers result (file.whole draft.listen draft.bind (record { draft = draft; pins = pins })) }
 {
     let Draft {
         section: _,

@@ -22,7 +22,7 @@ pub const MOST_BYTES: usize = 1_048_576;
 /// configuration itself.
 pub fn read(alloc: Global, bytes: &[u8]) -> Result<Config, ReadError>
     // The meaning of each line decides the answer, except for want of memory.
-    ensures exact { grammar.Answers result (grammar.reading bytes.now) }
+    ensures exact { grammar.FileAnswers result (grammar.reading bytes.now) }
     // An accepted file has no faulty line.
     ensures says { IfOk result (Says bytes.now) }
     // An accepted configuration is within the limits, so callers need no test of their own.
@@ -35,7 +35,7 @@ pub fn read(alloc: Global, bytes: &[u8]) -> Result<Config, ReadError>
 }
 
 fn read_lines(alloc: Global, bytes: &[u8]) -> Result<Config, ReadError>
-    ensures { grammar.Answers result (grammar.reading bytes.now) }
+    ensures { grammar.FileAnswers result (grammar.reading bytes.now) }
 {
     let long = long_line(bytes);
     let mut progress = Progress::new(alloc);

@@ -11,7 +11,7 @@ use crate::names::is_acl_name;
 use crate::parts::{Acl, Action, Rule, Server, Test};
 use crate::pieces::{is, word};
 use crate::samples::{expression, test_to_end};
-use list_facts::Items;
+use base_lists::Items;
 use proxy_words::Words;
 use std::alloc::{AllocError, Global};
 

@@ -10,7 +10,7 @@ use crate::faults::{FaultCause, LineError};
 use crate::names::is_token;
 use crate::parts::{Expression, Subject, Test, Text};
 use crate::pieces::{is, word};
-use list_facts::Items;
+use base_lists::Items;
 use proxy_words::{Words, signed_long_number};
 use std::alloc::Global;
 

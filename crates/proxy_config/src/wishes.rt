@@ -1,7 +1,7 @@
 //! Pins whose servers may stand later.
 
 ghost use Rattle.std.specs.Prelude.{◌≡◌, Ok, IfOk, IfErr};
-ghost use Rattle.proxy_config.specs.File.{Answers};
+ghost use Rattle.proxy_config.specs.File.{FileAnswers};
 ghost use Rattle.proxy_config.specs.Outcomes.{Gives, Sees};
 ghost use Rattle.proxy_config.specs.Progress.{with_pins};
 ghost use Rattle.proxy_config.specs.Wishes as grammar;
@@ -11,7 +11,7 @@ use crate::faults::{ConfigFault, FaultCause, LineError, ReadError};
 use crate::parts::{Acl, Guard, Pin, Server, Text};
 use crate::pieces::word;
 use crate::rules::server_index;
-use list_facts::Items;
+use base_lists::Items;
 use proxy_words::{Words, is_name};
 use std::alloc::Global;
 
@@ -76,12 +76,12 @@ pub(crate) fn pins_of(
     servers: &Items<Server>,
     wishes: Items<Wish>,
 ) -> Result<Items<Pin>, ReadError>
-    ensures { Answers result (with_pins servers.now wishes Ok) }
+    ensures { FileAnswers result (with_pins servers.now wishes Ok) }
 {
     let mut pins = Items::new(alloc);
     'wishes: for wish in wishes.into_vec() {
         let line = wish.line;
-        match pin_of(servers, wish) {
+        match asked_pin(servers, wish) {
             Ok(pin) => pins.push(pin)?,
             Err(cause) => return Err(ReadError::Fault(ConfigFault { line, cause })),
         }
@@ -89,8 +89,8 @@ pub(crate) fn pins_of(
     Ok(pins)
 }
 
-fn pin_of(servers: &Items<Server>, wish: Wish) -> Result<Pin, FaultCause>
-    ensures { Sees (λ x. x) result (grammar.pin_of servers.now wish) }
+fn asked_pin(servers: &Items<Server>, wish: Wish) -> Result<Pin, FaultCause>
+    ensures { Sees (λ x. x) result (grammar.asked_pin servers.now wish) }
 {
     let Wish {
         line: _,

@@ -10,7 +10,7 @@ use Rattle.std.proofs.lemmas.Option.{cond_some}
 use Rattle.std.proofs.lemmas.Bool.Decides.{nat_tests}
 use Rattle.std.proofs.lemmas.List.{length-take}
 use borrow.Author.Tests.{ltb-true, ltb-false}
-use Rattle.list_facts.proofs.Options.{cond_none}
+use Rattle.base_lists.proofs.Options.{cond_none}
 use Rattle.proxy_words.specs.Text.{is_line_feed, is_blank, is_filled, words}
 
 -- up to the first element that passes there is one part

@@ -1,14 +1,14 @@
 -- Steps, and then a fault.
 use Rattle.std.proofs.Common.{◌≡◌, ◌∙◌, ℕ, ◌+◌, List, [], ◌++◌, refl, sym, ap, arith, append_assoc, append-nil, subst, inl, inr}
 use Rattle.std.specs.Io.KnownBytes.{Appends, IsAtEnd}
-use Rattle.counted_io.specs.Streams.{Stream}
-use Rattle.relay_body.specs.declared.fault.Fault as Body
-use Rattle.relay_body.specs.declared.fault.Fault.TheVariants as OfBody
-use Rattle.body_pipe.specs.declared.pipe.Pipe.{Pipe}
-use Rattle.body_pipe.specs.Steps.{Ends, ends, Reads, Moves, Breaks, LacksNothing}
-use Rattle.body_pipe.specs.Steps as Body_steps
-use Rattle.body_pipe.proofs.Stepping.{joined, Reads-trans, moves_emit, breaks_emit}
-use Rattle.relay_body.proofs.Writing.{Wrote-trans}
+use Rattle.base_streams.specs.Streams.{Stream}
+use Rattle.http_bodies.specs.declared.fault.Fault as Body
+use Rattle.http_bodies.specs.declared.fault.Fault.TheVariants as OfBody
+use Rattle.http_bodies.specs.declared.pipe.Pipe.{Pipe}
+use Rattle.http_bodies.specs.Steps.{Ends, ends, Reads, Moves, Breaks, LacksNothing}
+use Rattle.http_bodies.specs.Steps as Body_steps
+use Rattle.http_bodies.proofs.Stepping.{joined, Reads-trans, moves_emit, breaks_emit}
+use Rattle.http_bodies.proofs.Writing.{Wrote-trans}
 use Rattle.http_texts.specs.Emissions.{Puts, Halts}
 use Rattle.relay_http.specs.Failures.{Blames, Fails, Explains, Passes, Misses}
 use Rattle.http_texts.specs.Faults.{relayed}

@@ -5,10 +5,10 @@ use Rattle.std.specs.Prelude.{◌||◌, nat_lt}
 use Rattle.std.specs.Io.KnownBytes.{Appends, Keeps}
 use Rattle.std.proofs.lemmas.Bool.{or_parts, true_from_ne_false, true≢false}
 use Rattle.std.proofs.lemmas.Bool.Decides.{nat_tests}
-use Rattle.counted_io.specs.Streams.{Stream}
-use Rattle.list_facts.proofs.Fronts.{some_behind}
-use Rattle.relay_body.specs.Texts.{Wrote}
-use Rattle.body_pipe.specs.declared.pipe.Pipe.{Pipe}
+use Rattle.base_streams.specs.Streams.{Stream}
+use Rattle.base_lists.proofs.Fronts.{some_behind}
+use Rattle.http_bodies.specs.Texts.{Wrote}
+use Rattle.http_bodies.specs.declared.pipe.Pipe.{Pipe}
 use Rattle.http_texts.specs.Messages.{IsAnswered, interims_text}
 use Rattle.relay_http.specs.States.{Marks, emptied}
 use Rattle.http_texts.specs.Texts.{answer_text}

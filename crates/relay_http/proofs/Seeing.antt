@@ -2,11 +2,11 @@
 use Rattle.std.proofs.Common.{◌≡◌, ◌∙◌, ℕ, List, ◌++◌, length, drop, inl, inr, refl, sym, ap, arith, append_assoc, subst}
 use Rattle.std.specs.Prelude.{IsSome, Option}
 use Rattle.httparse.specs.Grammar.{ResponseHead, print_response}
-use Rattle.counted_io.specs.Streams.{Stream}
-use Rattle.body_pipe.specs.declared.pipe.Pipe.{Pipe}
-use Rattle.body_pipe.specs.Steps.{Ends, ends, Moves}
+use Rattle.base_streams.specs.Streams.{Stream}
+use Rattle.http_bodies.specs.declared.pipe.Pipe.{Pipe}
+use Rattle.http_bodies.specs.Steps.{Ends, ends, Moves}
 use Rattle.exchange_machine.specs.Findings.{NoneStands}
-use Rattle.list_facts.proofs.Fronts.{behind}
+use Rattle.base_lists.proofs.Fronts.{behind}
 use Rattle.http_texts.specs.Framings.{answer_plan, is_interim}
 use Rattle.http_texts.specs.Messages.{AreInterims, print_heads, LacksAnswer}
 use Rattle.http_texts.specs.Messages.BadlyFramed.{no_plan}

@@ -3,13 +3,13 @@ use Rattle.std.proofs.Common.{◌≡◌, ◌∙◌, ℕ, ◌+◌, ◌-◌, ◌�
 use Rattle.std.specs.Prelude.{IsSome, Option}
 use Rattle.std.proofs.lemmas.List.{take-append-drop, take_rest, take_all, length-take-le}
 use Rattle.httparse.specs.Grammar.{print_request}
-use Rattle.list_facts.proofs.Fronts.{behind}
-use Rattle.relay_body.specs.declared.framing.Framing.{Framing}
+use Rattle.base_lists.proofs.Fronts.{behind}
+use Rattle.http_bodies.specs.declared.framing.Framing.{Framing}
 use Rattle.http_texts.specs.Framings.{request_framing}
 use Rattle.http_texts.specs.Heads.{LacksRequest}
 use Rattle.http_texts.specs.declared.fault.Fault.{Fault}
 use Rattle.http_texts.specs.declared.fault.Fault.TheVariants as Faulty
-use Rattle.body_pipe.specs.Steps.{Ends, Moves}
+use Rattle.http_bodies.specs.Steps.{Ends, Moves}
 use Rattle.std.specs.Io.KnownBytes.{IsAtEnd}
 use Rattle.exchange_machine.specs.Requests.{LacksHead}
 use Rattle.exchange_machine.specs.Stages.{IsAsking}

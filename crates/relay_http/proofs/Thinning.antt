@@ -2,12 +2,12 @@
 use Rattle.std.proofs.Common.{◌≡◌, ◌∙◌, ap, sym, ℕ, Bool, List, [], Option, Result, Ok, Err, ◌+◌, refl, subst}
 use Rattle.std.specs.Prelude.{IfErr, IfOk, OnOk, IsSome}
 use Rattle.std.specs.Io.KnownBytes.{Appends, Consumes, Keeps, IsAtEnd}
-use Rattle.counted_io.specs.Streams.{Stream}
+use Rattle.base_streams.specs.Streams.{Stream}
 use Rattle.httparse.specs.Grammar.{RequestHead, print_request}
-use Rattle.body_pipe.specs.declared.pipe.Pipe.{Pipe}
-use Rattle.body_pipe.specs.Steps.{Ends, ends, Moves}
-use Rattle.relay_body.specs.Texts.{Wrote, WritesFront}
-use Rattle.relay_body.specs.declared.framing.Framing.TheVariants.{ToEnd}
+use Rattle.http_bodies.specs.declared.pipe.Pipe.{Pipe}
+use Rattle.http_bodies.specs.Steps.{Ends, ends, Moves}
+use Rattle.http_bodies.specs.Texts.{Wrote, WritesFront}
+use Rattle.http_bodies.specs.declared.framing.Framing.TheVariants.{ToEnd}
 use Rattle.relay_http.specs.Failures.{Fails, Passes, Misses, WrotePrefix}
 use Rattle.http_texts.specs.Framings.{request_framing}
 use Rattle.http_texts.specs.Heads.{IsRequest}

@@ -1,7 +1,7 @@
 -- Turns are spent and never won.
 use Rattle.std.proofs.Common.{◌≡◌, ℕ, ◌≤◌, List, ◌++◌, subst, arith}
 use Rattle.std.specs.Prelude.{Err, Result}
-use Rattle.body_pipe.specs.Steps.{Ends, Moves}
+use Rattle.http_bodies.specs.Steps.{Ends, Moves}
 use Rattle.relay_http.specs.Failures.{Fails, Blames}
 use Rattle.http_texts.specs.declared.fault.Fault.{Fault}
 use Rattle.http_texts.specs.declared.fault.Fault.TheVariants.{Turns}

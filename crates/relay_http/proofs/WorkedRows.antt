@@ -1,13 +1,13 @@
 -- Worked examples of what an exchange is after its calls.
 use Rattle.std.proofs.Common.{◌≡◌, ℕ, List, [], Some, true, false, codes, length, refl, ap, arith}
 use base.Fml.{GName}
-use Rattle.counted_io.specs.Streams.{Stream}
-use Rattle.body_pipe.specs.Steps.{Ends}
+use Rattle.base_streams.specs.Streams.{Stream}
+use Rattle.http_bodies.specs.Steps.{Ends}
 use Rattle.http_texts.specs.declared.fault.Fault.TheVariants.{Turns as TurnsSpent}
 use Rattle.relay_http.specs.Failures.{Blames, NoCause}
 use Rattle.relay_http.specs.States.{Serves, Marks}
-use Rattle.verdict.specs.declared.cause.Cause.TheVariants.{Aborted}
-use Rattle.verdict.specs.declared.Verdict.TheVariants.{Serve, Told}
+use Rattle.base_verdict.specs.declared.cause.Cause.TheVariants.{Aborted}
+use Rattle.base_verdict.specs.declared.Verdict.TheVariants.{Serve, Told}
 
 -- a verdict that drops the request gives no slot
 slot : Serves (Serve 0)

@@ -4,5 +4,5 @@ use Rattle.relay_http.specs.declared.exchange.Stage.{Stage}
 use Rattle.relay_http.specs.declared.exchange.Stage.TheVariants.{Forwarded}
 
 -- the stage of the exchange that was set aside, and so of the one that goes on with it
-abbrev pub stage_of : Aside → Stage
-stage_of aside = Forwarded aside.ticket aside.verdict
+abbrev pub aside_stage : Aside → Stage
+aside_stage aside = Forwarded aside.ticket aside.verdict

@@ -1,7 +1,7 @@
 -- A request's head that is read from the bytes that a pipe holds.
 use Rattle.std.specs.Prelude.{◌≡◌, ◌<◌, ℕ, List, ◌++◌, length, IsSome}
 use Rattle.httparse.specs.Grammar.{RequestHead, print_request}
-use Rattle.body_pipe.specs.declared.pipe.Pipe.{Pipe}
+use Rattle.http_bodies.specs.declared.pipe.Pipe.{Pipe}
 use Rattle.exchange_machine.specs.Requests.{LacksHead}
 use Rattle.exchange_machine.specs.declared.asking.Asking.{Asking}
 use Rattle.http_texts.specs.Framings.{request_framing}
@@ -19,8 +19,8 @@ pub record HasAsked (asking : Asking) (inbox : List ℕ) : Type 0 where
 
 -- the machine's answer to the held bytes: it was given all of them, and they aren't a whole head
 -- yet; or a head stands there, whose bytes are used; or none will
-abbrev pub IsTold : Told → Pipe → Pipe → Type 0
-IsTold (More a) p q = (q ≡ p) × (a.held.items ≡ p.inbox) × HasNoHead p.inbox × (length p.inbox < 16384)
-IsTold (Whole v) p q = (h : RequestHead) × IsRequest h × (v ≡ request_of h) × IsSome (request_framing v) × (p.inbox ≡ print_request h ++ q.inbox)
+abbrev pub AskingIsTold : Told → Pipe → Pipe → Type 0
+AskingIsTold (More a) p q = (q ≡ p) × (a.held.items ≡ p.inbox) × HasNoHead p.inbox × (length p.inbox < 16384)
+AskingIsTold (Whole v) p q = (h : RequestHead) × IsRequest h × (v ≡ request_of h) × IsSome (request_framing v) × (p.inbox ≡ print_request h ++ q.inbox)
     × (q.outbox ≡ p.outbox) × (q.turns ≡ p.turns)
-IsTold (Refused why) p q = (q ≡ p) × LacksHead why p.inbox
+AskingIsTold (Refused why) p q = (q ≡ p) × LacksHead why p.inbox

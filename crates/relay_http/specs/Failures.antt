@@ -1,8 +1,8 @@
 -- Steps of a pipe that end in a fault, and the side where it arose.
 use Rattle.std.specs.Prelude.{◌≡◌, ℕ, ◌+◌, ◌⊎◌, List, ◌++◌, Option}
 use Rattle.std.specs.Io.KnownBytes.{Appends, Consumes, IsAtEnd}
-use Rattle.body_pipe.specs.Steps.{Ends, Reads}
-use Rattle.relay_body.specs.Texts.{WritesFront}
+use Rattle.http_bodies.specs.Steps.{Ends, Reads}
+use Rattle.http_bodies.specs.Texts.{WritesFront}
 use Rattle.http_texts.specs.declared.fault.Fault.{Fault}
 use Rattle.http_texts.specs.declared.fault.Fault.TheVariants.{NoMemory, Head, Framing, Read, Write, Turns, Closed}
 

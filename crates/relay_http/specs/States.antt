@@ -1,14 +1,14 @@
 -- The state of an exchange after each of its calls.
 use Rattle.std.specs.Prelude.{◌≡◌, ℕ, ◌<◌, Bool, false, List, [], length, ◌⊎◌, IsTrue, IsFalse}
 use Rattle.std.specs.Io.KnownBytes.{Appends, Keeps}
-use Rattle.counted_io.specs.Streams.{Stream}
+use Rattle.base_streams.specs.Streams.{Stream}
 use Rattle.grant_board.specs.Views.{Grant}
-use Rattle.body_pipe.specs.declared.pipe.Pipe.{Pipe}
+use Rattle.http_bodies.specs.declared.pipe.Pipe.{Pipe}
 use Rattle.relay_http.specs.declared.exchange.Exchange.{Exchange}
 use Rattle.relay_http.specs.declared.exchange.Stage.{Stage}
 use Rattle.relay_http.specs.declared.exchange.Stage.TheVariants.{New, Forwarded, Failed}
-use Rattle.verdict.specs.declared.Verdict.{Verdict}
-use Rattle.verdict.specs.declared.Verdict.TheVariants.{Serve, Told}
+use Rattle.base_verdict.specs.declared.Verdict.{Verdict}
+use Rattle.base_verdict.specs.declared.Verdict.TheVariants.{Serve, Told}
 
 -- nothing was read or written yet
 pub record IsFresh (most : ℕ) (e : Exchange) : Type 0 where
@@ -19,8 +19,8 @@ pub record IsFresh (most : ℕ) (e : Exchange) : Type 0 where
   pub begun : e.begun ≡ false
 
 -- it is at this stage, or has met a fault
-abbrev pub IsAt : Stage → Exchange → Type 0
-IsAt stage e = (e.stage ≡ stage) ⊎ (e.stage ≡ Failed)
+abbrev pub IsAtOrFailed : Stage → Exchange → Type 0
+IsAtOrFailed stage e = (e.stage ≡ stage) ⊎ (e.stage ≡ Failed)
 
 -- a verdict that gives a slot of a server, and so doesn't refuse the request
 abbrev pub Serves : Verdict → Type 0

@@ -1,11 +1,11 @@
 ghost use Rattle.std.specs.Prelude.{◌≡◌, [], false};
 ghost use Rattle.grant_board.specs.Views.{Grant};
-ghost use Rattle.relay_http.specs.Asides.{stage_of};
+ghost use Rattle.relay_http.specs.Asides.{aside_stage};
 ghost use Rattle.relay_http.specs.States as states;
 ghost use Rattle.relay_http.specs.States.{IsFresh};
 
 use crate::exchange::{Exchange, Stage};
-use verdict::Verdict;
+use base_verdict::Verdict;
 
 /// What an exchange whose request was handed on keeps until the answer comes.
 #[derive(Clone, Copy, Debug, PartialEq, Eq)]
@@ -20,7 +20,7 @@ impl Exchange {
     pub fn set_aside(&self) -> Aside
         requires forwarded { (pass : Grant) × (self.now.stage ≡ states.forwarded_on pass) }
         requires unbegun { self.now.begun ≡ false }
-        ensures { stage_of result ≡ self.now.stage }
+        ensures { aside_stage result ≡ self.now.stage }
     {
         match self.stage {
             Stage::Forwarded { ticket, verdict } => Aside { ticket, verdict },
@@ -32,7 +32,7 @@ impl Exchange {
     /// same pass for the answer.
     pub fn resume(&mut self, aside: &Aside)
         requires fresh { IsFresh self.old.most self.old }
-        ensures stage { self.new.stage ≡ stage_of aside.now }
+        ensures stage { self.new.stage ≡ aside_stage aside.now }
         ensures held { self.new.pipe.inbox ≡ [] }
         ensures turns { self.new.pipe.turns ≡ self.old.most }
         ensures most { self.new.most ≡ self.old.most }

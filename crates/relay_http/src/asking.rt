@@ -1,16 +1,16 @@
 ghost use Rattle.std.specs.Prelude.{◌≡◌, ◌+◌, ◌^◌, ◌<◌, [], IfOk, IfErr, IsSome};
-ghost use Rattle.counted_io.specs.Streams.{Stream};
+ghost use Rattle.base_streams.specs.Streams.{Stream};
 ghost use Rattle.httparse.specs.Grammar.{RequestHead, print_request};
-ghost use Rattle.body_pipe.specs.Steps.{ends, Moves};
+ghost use Rattle.http_bodies.specs.Steps.{ends, Moves};
 ghost use Rattle.http_texts.specs.Framings as framings;
 ghost use Rattle.http_texts.specs.Heads.{IsRequest, LacksRequest};
-ghost use Rattle.relay_http.specs.Askings.{HasAsked, IsTold};
+ghost use Rattle.relay_http.specs.Askings.{HasAsked, AskingIsTold};
 ghost use Rattle.relay_http.specs.Failures.{Fails};
 ghost use Rattle.req_view.specs.Request.{request_of};
 
-use body_pipe::Pipe;
-use counted_io::Source;
+use base_streams::Source;
 use exchange_machine::{Asking, Turn};
+use http_bodies::Pipe;
 use http_texts::Fault;
 use req_view::View;
 use std::alloc::Global;
@@ -52,7 +52,7 @@ pub(crate) fn read_request<S: Source>(
 // Gives the machine the bytes that came since the last time. The bytes of a whole head are used.
 fn ask(pipe: &mut Pipe, alloc: Global, asking: Asking) -> Told
     requires { HasAsked asking pipe.old.inbox }
-    ensures { IsTold result pipe.old pipe.new }
+    ensures { AskingIsTold result pipe.old pipe.new }
 {
     let before = asking.count();
     let (used, turn) = asking.head_bytes(alloc, &pipe.held()[before..]);

@@ -7,15 +7,15 @@ ghost use Rattle.http_texts.specs.Heads.{IsRequest, LacksRequest};
 ghost use Rattle.http_texts.specs.Messages as messages;
 ghost use Rattle.http_texts.specs.Replies.{leave_text, refusal_text};
 ghost use Rattle.relay_http.specs.States as states;
-ghost use Rattle.relay_http.specs.States.{IsAt, Serves};
+ghost use Rattle.relay_http.specs.States.{IsAtOrFailed, Serves};
 ghost use Rattle.http_texts.specs.Texts.{framed_for, unnamed};
 ghost use Rattle.req_view.specs.Request.{request_of};
 
 use crate::exchange::{Exchange, Stage};
-use counted_io::Counted;
+use base_streams::Counted;
 use grant_board::Pass;
+use http_bodies::Framing;
 use http_texts::{Code, Fault, Persistence};
-use relay_body::Framing;
 use req_view::View;
 use std::alloc::Global;
 use std::io::{Read, Write};
@@ -29,7 +29,7 @@ impl Exchange {
     /// unsound, `Read` where a read fails or the input ends before the head does, `Turns`, and
     /// `NoMemory` where memory for the head is refused.
     pub fn read_request<R: Read>(&mut self, alloc: Global, reader: &mut R) -> Result<View, Fault>
-        requires { IsAt Stage.New self.old }
+        requires { IsAtOrFailed Stage.New self.old }
         ensures ok { IfOk result (λ view. (h : RequestHead) × IsRequest h × (view ≡ request_of h) × IsSome (framings.request_framing view)
             × ((w : Option (List ℕ))
             → Passes self.old.pipe.inbox self.new.pipe.inbox (R.remaining reader.old) (R.remaining reader.new) w w (print_request h) [])) }
@@ -60,7 +60,7 @@ impl Exchange {
         reader: &mut R,
         writer: &mut W,
     ) -> Result<(), Fault>
-        requires ready { IsAt Stage.Asked self.old }
+        requires ready { IsAtOrFailed Stage.Asked self.old }
         requires serves { Serves pass.now.verdict }
         ensures ok { OnOk result ((used : List ℕ) × (text : List ℕ) × messages.IsForwarded (unnamed Persistence.Close) view.now used text
             × Passes self.old.pipe.inbox self.new.pipe.inbox (R.remaining reader.old) (R.remaining reader.new) (W.contents writer.old)
@@ -90,7 +90,7 @@ impl Exchange {
     ///
     /// Faults: `Write` and `Turns`. It allocates nothing.
     pub fn go_on<W: Write>(&mut self, view: &View, writer: &mut W) -> Result<(), Fault>
-        requires { IsAt Stage.Asked self.old }
+        requires { IsAtOrFailed Stage.Asked self.old }
         ensures ok { (r : Option (List ℕ))
             → OnOk result (Passes self.old.pipe.inbox self.new.pipe.inbox r r (W.contents writer.old) (W.contents writer.new) [] (leave_text view.now)) }
         ensures asked { OnOk result (self.new.stage ≡ Stage.Asked) }
@@ -124,7 +124,7 @@ impl Exchange {
         reader: &mut R,
         writer: &mut W,
     ) -> Result<(), Fault>
-        requires ready { IsAt (states.forwarded_on pass.now) self.old }
+        requires ready { IsAtOrFailed (states.forwarded_on pass.now) self.old }
         requires serves { Serves pass.now.verdict }
         ensures ok { OnOk result ((used : List ℕ) × (text : List ℕ)
             × (answered : messages.IsAnswered Persistence.Close view.now.method (framed_for view.now.version) used text)

@@ -1,8 +1,8 @@
 ghost use Rattle.std.specs.Prelude.{◌≡◌, ◌≤◌, length, [], false, IfOk, IsTrue, ◌↔◌};
 
-use body_pipe::{INBOX_BYTES, Pipe};
+use base_verdict::Verdict;
+use http_bodies::{INBOX_BYTES, Pipe};
 use std::alloc::{AllocError, Global};
-use verdict::Verdict;
 
 /// The stage of an exchange.
 #[derive(Clone, Copy, Debug, PartialEq, Eq)]

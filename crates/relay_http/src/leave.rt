@@ -1,12 +1,12 @@
 ghost use Rattle.std.specs.Prelude.{◌≡◌, ◌+◌, ◌^◌, ◌<◌, [], OnOk, IfErr};
-ghost use Rattle.counted_io.specs.Streams.{Stream};
-ghost use Rattle.body_pipe.specs.Steps.{ends, Moves};
+ghost use Rattle.base_streams.specs.Streams.{Stream};
+ghost use Rattle.http_bodies.specs.Steps.{ends, Moves};
 ghost use Rattle.relay_http.specs.Failures.{Fails, NoCause};
 ghost use Rattle.http_texts.specs.Replies as replies;
 
 use crate::sending::send_text;
-use body_pipe::Pipe;
-use counted_io::Sink;
+use base_streams::Sink;
+use http_bodies::Pipe;
 use http_texts::{Fault, given_leave};
 use req_view::View;
 

@@ -1,8 +1,8 @@
 ghost use Rattle.std.specs.Prelude.{◌≡◌, ◌<◌, ◌+◌, ◌^◌, ◌++◌, ℕ, List, [], IfOk, OnOk, IfErr};
 ghost use Rattle.std.specs.Io.KnownBytes.{IsAtEnd};
 ghost use Rattle.httparse.specs.Grammar.{ResponseHead, print_response};
-ghost use Rattle.relay_body.specs.Framings.{IsBody, PartOfBody};
-ghost use Rattle.body_pipe.specs.Steps.{ends, Countable, Moves};
+ghost use Rattle.http_bodies.specs.Framings.{IsBody, PartOfBody};
+ghost use Rattle.http_bodies.specs.Steps.{ends, Countable, Moves};
 ghost use Rattle.http_texts.specs.Emissions.{Puts, Halts};
 ghost use Rattle.relay_http.specs.Failures.{Fails};
 ghost use Rattle.http_texts.specs.Messages as messages;
@@ -10,13 +10,12 @@ ghost use Rattle.http_texts.specs.Texts.{answer_text, interim_text, framed_for, 
 ghost use Rattle.req_view.specs.Answer.{answer_of};
 
 use crate::sending::{pass_interim, send};
-use body_pipe::Pipe;
-use counted_io::{Sink, Source};
+use base_streams::{Sink, Source};
 use exchange_machine::{Seen, see_head};
+use http_bodies::{Fault as BodyFault, Framing, Pipe};
 use http_texts::{
     Added, Fault, Persistence, Plan, Wording, is_framed, put_answer, put_request, request_framing,
 };
-use relay_body::{Fault as BodyFault, Framing};
 use req_view::{AnswerHead, View};
 use std::alloc::Global;
 

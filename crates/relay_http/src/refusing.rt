@@ -1,14 +1,14 @@
 ghost use Rattle.std.specs.Prelude.{◌≡◌, ◌≤◌, ◌<◌, ◌+◌, ◌^◌, length, false, OnOk, IfErr, IsTrue, ◌↔◌};
-ghost use Rattle.relay_body.specs.Texts.{Wrote, WritesFront};
+ghost use Rattle.http_bodies.specs.Texts.{Wrote, WritesFront};
 ghost use Rattle.http_texts.specs.Replies.{refusal_text};
 ghost use Rattle.relay_http.specs.States.{Marks};
 
 use crate::exchange::{Exchange, Stage};
 use crate::sending::send_text;
 use crate::steps::has_begun;
-use counted_io::Sink;
+use base_streams::Sink;
+use http_bodies::Fault as BodyFault;
 use http_texts::{Code, Fault};
-use relay_body::Fault as BodyFault;
 
 impl Exchange {
     /// `refuse` with a counting sink.

@@ -2,10 +2,9 @@ ghost use Rattle.std.specs.Prelude.{◌≡◌, ◌+◌, ◌^◌, ◌<◌, [], On
 ghost use Rattle.http_texts.specs.Emissions.{Puts, Halts};
 ghost use Rattle.http_texts.specs.Texts as texts;
 
-use body_pipe::{Page, Pipe};
-use counted_io::Sink;
+use base_streams::Sink;
+use http_bodies::{Fault, Page, Pipe};
 use http_texts::put_interim;
-use relay_body::Fault;
 use req_view::AnswerHead;
 
 /// Writes all that waits.

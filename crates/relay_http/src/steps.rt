@@ -1,15 +1,15 @@
 ghost use Rattle.std.specs.Prelude.{◌≡◌, ◌≢◌, ◌+◌, ◌^◌, ◌<◌, ◌≤◌, ℕ, Bool, ◌||◌, nat_lt, List, [], Err, IfOk, OnOk, IfErr, OnErr, IsSome, IsTrue};
 ghost use Rattle.std.specs.Io.KnownBytes.{IsAtEnd};
-ghost use Rattle.counted_io.specs.Streams.{Stream};
+ghost use Rattle.base_streams.specs.Streams.{Stream};
 ghost use Rattle.httparse.specs.Grammar.{RequestHead, print_request};
-ghost use Rattle.body_pipe.specs.Steps.{ends, Countable, Moves};
+ghost use Rattle.http_bodies.specs.Steps.{ends, Countable, Moves};
 ghost use Rattle.relay_http.specs.Failures.{Fails, NoCause};
 ghost use Rattle.http_texts.specs.Framings as framings;
 ghost use Rattle.http_texts.specs.Heads.{IsRequest, LacksRequest};
 ghost use Rattle.http_texts.specs.Messages as messages;
 ghost use Rattle.http_texts.specs.Replies.{leave_text};
 ghost use Rattle.relay_http.specs.States as states;
-ghost use Rattle.relay_http.specs.States.{IsAt, Serves, emptied, Marks};
+ghost use Rattle.relay_http.specs.States.{IsAtOrFailed, Serves, emptied, Marks};
 ghost use Rattle.http_texts.specs.Texts.{framed_for, unnamed};
 ghost use Rattle.req_view.specs.Request.{request_of};
 
@@ -17,10 +17,10 @@ use crate::asking::read_request;
 use crate::exchange::{Exchange, Stage};
 use crate::leave::give_leave;
 use crate::messages::{pass_answer, pass_request};
-use counted_io::{Sink, Source};
+use base_streams::{Sink, Source};
 use grant_board::Pass;
+use http_bodies::Framing;
 use http_texts::{Fault, Persistence};
-use relay_body::Framing;
 use req_view::View;
 use std::alloc::Global;
 
@@ -31,7 +31,7 @@ impl Exchange {
         alloc: Global,
         source: &mut S,
     ) -> Result<View, Fault>
-        requires ready { IsAt Stage.New self.old }
+        requires ready { IsAtOrFailed Stage.New self.old }
         requires countable { (S.stream source.old).calls + self.old.pipe.turns < 2 ^ 64 }
         ensures ok { IfOk result (λ view. (h : RequestHead) × IsRequest h × (view ≡ request_of h) × IsSome (framings.request_framing view)
             × ((w : Stream) → Moves (ends self.old.pipe (S.stream source.old) w) (ends self.new.pipe (S.stream source.new) w) (print_request h) [])) }
@@ -65,7 +65,7 @@ impl Exchange {
 
     /// `go_on` with a counting sink.
     pub fn go_on_to<K: Sink>(&mut self, view: &View, sink: &mut K) -> Result<(), Fault>
-        requires ready { IsAt Stage.Asked self.old }
+        requires ready { IsAtOrFailed Stage.Asked self.old }
         requires countable { (K.stream sink.old).calls + self.old.pipe.turns < 2 ^ 64 }
         ensures ok { (s : Stream)
             → OnOk result (Moves (ends self.old.pipe s (K.stream sink.old)) (ends self.new.pipe s (K.stream sink.new)) [] (leave_text view.now)) }
@@ -102,7 +102,7 @@ impl Exchange {
         source: &mut S,
         sink: &mut K,
     ) -> Result<(), Fault>
-        requires ready { IsAt Stage.Asked self.old }
+        requires ready { IsAtOrFailed Stage.Asked self.old }
         requires serves { Serves pass.now.verdict }
         requires countable { Countable (ends self.old.pipe (S.stream source.old) (K.stream sink.old)) }
         ensures ok { OnOk result ((used : List ℕ) × (text : List ℕ) × messages.IsForwarded (unnamed Persistence.Close) view.now used text
@@ -148,7 +148,7 @@ impl Exchange {
         source: &mut S,
         sink: &mut K,
     ) -> Result<(), Fault>
-        requires ready { IsAt (states.forwarded_on pass.now) self.old }
+        requires ready { IsAtOrFailed (states.forwarded_on pass.now) self.old }
         requires serves { Serves pass.now.verdict }
         requires countable { Countable (ends self.old.pipe (S.stream source.old) (K.stream sink.old)) }
         ensures ok { OnOk result ((used : List ℕ) × (text : List ℕ)

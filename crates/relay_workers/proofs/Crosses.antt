@@ -4,7 +4,7 @@ use denote.Param.Send.{IsSync, sendable}
 use denote.Param.SendFields.{declared_sync}
 use Rattle.std.proofs.Crossing.{crosses}
 use Rattle.grant_board.specs.declared.board.BoardName as board_name
-use Rattle.grant_desk.proofs.Crosses.{desk_sync}
+use Rattle.shared_desk.proofs.Crosses.{desk_sync}
 use Rattle.proxy_config.proofs.parts.Config.TheSendSync as config
 use Rattle.relay_workers.specs.contracts.proxy.Proxy as proxy
 

@@ -5,16 +5,16 @@ use Rattle.std.proofs.Math.Logic.{∥∥₁_elim}
 use denote.Struct.Props.{props}
 use Rattle.std.proofs.lemmas.Bool.Decides.{nat_tests}
 use Rattle.std.proofs.lemmas.List.{length-map}
-use Rattle.dispatch_log.specs.declared.refusal.Refusal.{Refusal}
-use Rattle.dispatch_log.specs.declared.refusal.Refusal.TheVariants.{LogFull, NoSuchServer, TicketsSpent, PlacesFull}
-use Rattle.dispatch_log.specs.declared.setup.ServerSet.{ServerSet}
-use Rattle.dispatch_log.specs.declared.setup.Setup.{Setup}
-use Rattle.dispatch_log.specs.Histories.{state_of, refuses_arrival, RefusedOrNoMemory}
-use Rattle.dispatch_log.specs.Refusals.{first_of, lacks_room, pins_to_none, tickets_are_spent, is_full}
-use Rattle.dispatch_trace.specs.declared.position.Ticketed.{Ticketed}
+use Rattle.log_entries.specs.declared.refusal.Refusal.{Refusal}
+use Rattle.log_entries.specs.declared.refusal.Refusal.TheVariants.{LogFull, NoSuchServer, TicketsSpent, PlacesFull}
+use Rattle.log_entries.specs.declared.setup.ServerSet.{ServerSet}
+use Rattle.log_entries.specs.declared.setup.Setup.{Setup}
+use Rattle.log_entries.specs.Histories.{state_of, refuses_arrival, RefusedOrNoMemory}
+use Rattle.log_entries.specs.Refusals.{first_of, lacks_room, pins_to_none, tickets_are_spent, is_full}
+use Rattle.dispatch_state.specs.declared.position.Ticketed.{Ticketed}
 use Rattle.grant_board.specs.Views.{Terms}
-use Rattle.grant_desk.specs.Replies.{IsHeld}
-use Rattle.outstanding.specs.Calls.{Booked}
+use Rattle.shared_desk.specs.Replies.{IsHeld}
+use Rattle.locked_book.specs.Calls.{Booked}
 use Rattle.proxy_config.specs.declared.parts.Config.{Config}
 use Rattle.proxy_config.specs.declared.parts.Server.{Server}
 use Rattle.proxy_config.specs.Sound.{IsSoundConfig}

@@ -1,13 +1,13 @@
 -- Requests that have a place.
 use Rattle.std.specs.Prelude.{ℕ, ◌<◌, pos, ◌+ℤ◌, Option}
-use Rattle.anteroom.specs.Admission.{due_at}
-use Rattle.dispatch_log.specs.declared.entry.Entry.TheVariants.{Arrive}
-use Rattle.dispatch_log.specs.declared.refusal.Refusal.{Refusal}
-use Rattle.dispatch_log.specs.Histories.{effective, refuses_arrival, RefusedOrNoMemory}
-use Rattle.dispatch_log.specs.Legal.{AddsEvent}
-use Rattle.dispatch_trace.specs.declared.position.Ticketed.{Ticketed}
+use Rattle.queue_outside.specs.Admission.{due_at}
+use Rattle.log_entries.specs.declared.entry.Entry.TheVariants.{Arrive}
+use Rattle.log_entries.specs.declared.refusal.Refusal.{Refusal}
+use Rattle.log_entries.specs.Histories.{effective, refuses_arrival, RefusedOrNoMemory}
+use Rattle.log_entries.specs.Legal.{AddsEvent}
+use Rattle.dispatch_state.specs.declared.position.Ticketed.{Ticketed}
 use Rattle.grant_board.specs.Views.{Terms}
-use Rattle.grant_desk.specs.Replies.{SomeHeld, SomeStep}
+use Rattle.shared_desk.specs.Replies.{SomeHeld, SomeStep}
 use Rattle.locked_book.specs.declared.book.Deferred.{Deferred}
 use Rattle.prio_rules.specs.Wishes.{wish}
 use Rattle.prio_rules.specs.declared.wish.Wish.{Wish}
@@ -61,5 +61,5 @@ abbrev pub IsRefusedFor : Terms → Option ℕ → Refusal → Type 0
 IsRefusedFor terms pin refusal = SomeHeld terms (λ held. RefusedOrNoMemory (refuses_arrival held.history pin) refusal)
 
 -- the same with the pin of the rules, at a board of the configuration whose rules they are
-abbrev pub IsTurnedAway : Terms → Config → Request → Refusal → Type 0
-IsTurnedAway terms config request refusal = IsBoardOf config terms × IsRefusedFor terms (wish config request).pin refusal
+abbrev pub WishIsTurnedAway : Terms → Config → Request → Refusal → Type 0
+WishIsTurnedAway terms config request refusal = IsBoardOf config terms × IsRefusedFor terms (wish config request).pin refusal

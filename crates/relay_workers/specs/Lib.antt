@@ -3,3 +3,4 @@ pub mod Boards
 pub mod Outcomes
 pub mod Seats
 pub mod Windows
+pub mod Tallies

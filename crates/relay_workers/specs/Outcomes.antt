@@ -1,6 +1,6 @@
 -- The outcome for a client, by the fault that was met or by the cause that its request was told.
-use Rattle.verdict.specs.declared.Cause.{Cause}
-use Rattle.verdict.specs.declared.Cause.TheVariants.{Aborted}
+use Rattle.base_verdict.specs.declared.Cause.{Cause}
+use Rattle.base_verdict.specs.declared.Cause.TheVariants.{Aborted}
 use Rattle.http_texts.specs.declared.fault.Fault.{Fault}
 use Rattle.http_texts.specs.declared.fault.Fault.TheVariants.{NoMemory, Head, Framing, Read, Write}
 use Rattle.http_texts.specs.declared.refusals.Code.TheVariants.{BadRequest, BadGateway, Unavailable}

@@ -1,9 +1,9 @@
 ghost use Rattle.std.specs.Prelude.{◌≡◌, ◌≢◌, IfOk, OnOk, IfErr, false};
-ghost use Rattle.dispatch_log.specs.declared.refusal.Refusal.TheVariants.{NoSuchServer};
+ghost use Rattle.log_entries.specs.declared.refusal.Refusal.TheVariants.{NoSuchServer};
 ghost use Rattle.relay_http.specs.States.{IsFresh};
 ghost use Rattle.relay_http.specs.declared.exchange.Stage.TheVariants as stage;
 ghost use Rattle.relay_http.specs.declared.exchange.Stage.TheVariants.{Asked};
-ghost use Rattle.relay_workers.specs.Admissions.{IsAdmitted, IsAdmittedAs, IsAdmittedLate, IsRequestAt, IsTurnedAway, IsRefusedFor};
+ghost use Rattle.relay_workers.specs.Admissions.{IsAdmitted, IsAdmittedAs, IsAdmittedLate, IsRequestAt, WishIsTurnedAway, IsRefusedFor};
 ghost use Rattle.relay_workers.specs.declared.outcome.Outcome.TheVariants.{Answered};
 ghost use Rattle.relay_workers.specs.Outcomes.{after_reading};
 ghost use Rattle.http_texts.specs.declared.fault.Fault.{Fault};
@@ -11,11 +11,11 @@ ghost use Rattle.http_texts.specs.declared.fault.Fault.{Fault};
 use crate::gate::Gate;
 use crate::outcome::Outcome;
 use crate::proxy::{Proxy, Runner};
-use dispatch_log::Refusal;
-use dispatch_trace::Ticketed;
+use base_places::PlaceSet;
+use dispatch_state::Ticketed;
 use grant_board::BoardName;
 use locked_book::{Deferred, Wanted};
-use place_set::PlaceSet;
+use log_entries::Refusal;
 use prio_rules::{Wish, decide};
 use relay_http::{Code, Exchange};
 use req_view::View;
@@ -58,7 +58,7 @@ pub fn admit<R: Wait, N: BoardName, G: Gate + Drop>(
     match runner.exchange.read_request(proxy.alloc, &mut client) {
         Err(fault) => {
             let outcome = Outcome::after_reading(fault);
-            Err(tell(&mut runner.exchange, &mut client, outcome))
+            Err(answer_refusal(&mut runner.exchange, &mut client, outcome))
         }
         Ok(view) => match arrive(rt, proxy, &mut runner.gate, &view) {
             Ok(at) => Ok(Admitted {
@@ -69,7 +69,7 @@ pub fn admit<R: Wait, N: BoardName, G: Gate + Drop>(
             }),
             Err(_) => {
                 let outcome = Outcome::Refused(Code::Unavailable);
-                Err(tell(&mut runner.exchange, &mut client, outcome))
+                Err(answer_refusal(&mut runner.exchange, &mut client, outcome))
             }
         },
     }
@@ -85,7 +85,7 @@ pub fn arrive<R: Wait, N: BoardName, G: Gate>(
     view: &View,
 ) -> Result<Ticketed, Refusal>
     ensures ok { IfOk result (λ it. IsAdmitted N.terms proxy.now.config view.now it) }
-    ensures err { IfErr result (λ refusal. IsTurnedAway N.terms proxy.now.config view.now refusal) }
+    ensures err { IfErr result (λ refusal. WishIsTurnedAway N.terms proxy.now.config view.now refusal) }
     // A pin is a server of the dispatcher.
     ensures known { IfErr result (λ refusal. refusal ≢ NoSuchServer) }
 {
@@ -109,7 +109,7 @@ pub fn arrive_as<R: Wait, N: BoardName, G: Gate>(
         pin: wish.pin,
     };
     let moment = gate.moment();
-    let (arrived, _) = proxy.with_room(rt, gate, || {
+    let (arrived, _) = proxy.retry_in_new_window(rt, gate, || {
         let mut woken = PlaceSet::new();
         let arrived = proxy
             .desk
@@ -131,7 +131,7 @@ pub fn arrive_late<R: Wait, N: BoardName, G: Gate>(
     ensures err { IfErr result (λ refusal. IsRefusedFor N.terms deferred.pin refusal) }
 {
     let moment = gate.moment();
-    let (arrived, _) = proxy.with_room(rt, gate, || {
+    let (arrived, _) = proxy.retry_in_new_window(rt, gate, || {
         let mut woken = PlaceSet::new();
         let arrived = proxy
             .desk
@@ -142,7 +142,11 @@ pub fn arrive_late<R: Wait, N: BoardName, G: Gate>(
 }
 
 /// Sends a client its refusal, where it is refused.
-pub(crate) fn tell<W: Write>(exchange: &mut Exchange, client: &mut W, outcome: Outcome) -> Outcome
+pub(crate) fn answer_refusal<W: Write>(
+    exchange: &mut Exchange,
+    client: &mut W,
+    outcome: Outcome,
+) -> Outcome
     requires begun { exchange.old.begun ≡ false }
     requires unanswered { (outcome ≢ Answered) × (exchange.old.stage ≢ stage.Answered) }
     ensures same { result ≡ outcome }

@@ -3,24 +3,24 @@ ghost use Rattle.grant_board.specs.Views.{return_of};
 ghost use Rattle.relay_http.specs.declared.exchange.Stage.TheVariants as stage;
 ghost use Rattle.relay_http.specs.States.{Serves};
 ghost use Rattle.relay_workers.specs.Outcomes.{after_telling};
-ghost use Rattle.grant_desk.specs.Seats.{IsSameSeat};
+ghost use Rattle.shared_desk.specs.Seats.{IsSameSeat};
 ghost use Rattle.relay_workers.specs.declared.outcome.Outcome.TheVariants.{Answered};
-ghost use Rattle.verdict.specs.declared.Cause.{Cause};
-ghost use Rattle.verdict.specs.declared.Ending.TheVariants as ending;
-ghost use Rattle.verdict.specs.declared.Verdict.TheVariants.{Told};
+ghost use Rattle.base_verdict.specs.declared.Cause.{Cause};
+ghost use Rattle.base_verdict.specs.declared.Ending.TheVariants as ending;
+ghost use Rattle.base_verdict.specs.declared.Verdict.TheVariants.{Told};
 
-use crate::admitting::{Admitted, tell};
+use crate::admitting::{Admitted, answer_refusal};
 use crate::gate::Gate;
 use crate::outcome::Outcome;
 use crate::proxy::{Proxy, Runner};
 use crate::slot::Slot;
 use crate::waiting::Granted;
+use base_verdict::{Ending, Verdict};
 use grant_board::{BoardName, Pass, RelaySeat};
 use relay_http::Exchange;
 use std::alloc::Global;
 use std::io::{Read, Write};
 use std::sync::Wait;
-use verdict::{Ending, Verdict};
 
 /// From a pass to the answer: hands the request to the server of the pass and its answer to the
 /// client, posts the pass, and makes a turn, which hands the slot on. A client whose request was
@@ -81,7 +81,7 @@ fn carry<N: BoardName, G: Gate + Drop>(
     match pass.verdict() {
         Verdict::Told(cause) => {
             let outcome = Outcome::after_telling(cause);
-            Some(tell(&mut runner.exchange, &mut admitted.client, outcome))
+            Some(answer_refusal(&mut runner.exchange, &mut admitted.client, outcome))
         }
         Verdict::Serve(server) => {
             let slot = Slot::<N>::new(seat, pass, &admitted.view, admitted.at, server);
@@ -109,7 +109,7 @@ fn hand_on<N: BoardName, C: Read + Write, S: Read + Write>(
         return Outcome::Cut;
     }
     if let Err(fault) = exchange.forward(pass, view, client, server) {
-        return tell(exchange, client, Outcome::after_forwarding(fault));
+        return answer_refusal(exchange, client, Outcome::after_forwarding(fault));
     }
     match exchange.answer(alloc, pass, view, server, client) {
         Ok(()) => Outcome::Answered,
@@ -117,7 +117,7 @@ fn hand_on<N: BoardName, C: Read + Write, S: Read + Write>(
             if exchange.begun() {
                 Outcome::Cut
             } else {
-                tell(exchange, client, Outcome::after_answering(fault))
+                answer_refusal(exchange, client, Outcome::after_answering(fault))
             }
         }
     }

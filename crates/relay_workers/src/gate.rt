@@ -1,12 +1,12 @@
 ghost use Rattle.std.specs.Prelude.{◌≡◌, ◌<◌, ℕ};
 ghost use Rattle.std.specs.Bool.{OnTrue, OnFalse};
-ghost use Rattle.relay_workers.specs.Windows.{HasEnded};
+ghost use Rattle.relay_workers.specs.Windows.{WindowHasEnded};
 
 use crate::slot::Slot;
+use base_places::PlaceSet;
+use dispatch_reports::Window;
 use due_key::Moment;
 use grant_board::BoardName;
-use place_set::PlaceSet;
-use reporting_core::Window;
 use std::io::{Read, Write};
 
 /// The source of a thread's clients, connections and moments. Each thread has its own.
@@ -36,7 +36,7 @@ pub trait Gate {
     /// Each window goes to the gate of one thread, and they may come to the gates in another order
     /// than they ended.
     fn window(&mut self, window: Window)
-        requires { HasEnded window };
+        requires { WindowHasEnded window };
 
     /// Is told after a call of the dispatcher at which places it offered verdicts. The lock is free then.
     fn wake(&mut self, places: &PlaceSet);

@@ -5,8 +5,8 @@ ghost use Rattle.std.specs.Bool.{OnTrue};
 ghost use Rattle.relay_workers.specs.Seats.{IsLent};
 
 use crate::proxy::Proxy;
+use board_seats::Idle;
 use grant_board::{BoardName, RelaySeat};
-use pass_seat::Idle;
 
 /// Splits off this number of seats. False where there is no memory for one.
 pub fn split_off<N: BoardName>(

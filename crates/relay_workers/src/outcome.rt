@@ -2,8 +2,8 @@ ghost use Rattle.std.specs.Prelude.{◌≡◌, ◌≢◌};
 ghost use Rattle.relay_workers.specs.Outcomes as outcomes;
 ghost use Rattle.relay_workers.specs.declared.outcome.Outcome.TheVariants.{Answered};
 
+use base_verdict::Cause;
 use relay_http::{Code, Fault};
-use verdict::Cause;
 
 /// The outcome for a client.
 #[derive(Clone, Copy, Debug, PartialEq, Eq)]

@@ -1,24 +1,24 @@
 ghost use Rattle.std.specs.Prelude.{◌<◌, ◌≡◌, ℕ, [], length, IfErr, OnOk, Some};
-ghost use Rattle.config_setup.specs.Setups.{IsAskedBy};
-ghost use Rattle.dispatch_log.specs.declared.entry.Entry.TheVariants.{Limit};
-ghost use Rattle.dispatch_log.specs.Histories.{effective, first_window, refuses_limit};
-ghost use Rattle.dispatch_log.specs.Legal.{AddsEvent};
+ghost use Rattle.config_setup.specs.Setups.{SetupIsAsked};
+ghost use Rattle.log_entries.specs.declared.entry.Entry.TheVariants.{Limit};
+ghost use Rattle.log_entries.specs.Histories.{effective, first_window, refuses_limit};
+ghost use Rattle.log_entries.specs.Legal.{AddsEvent};
 ghost use Rattle.grant_board.specs.KeeperCalls.{new_keeper};
-ghost use Rattle.grant_desk.specs.Replies.{SomeHeld, SomeStep};
-ghost use Rattle.outstanding.specs.Books.{terms_of};
+ghost use Rattle.shared_desk.specs.Replies.{SomeHeld, SomeStep};
+ghost use Rattle.locked_book.specs.Books.{terms_for};
 ghost use Rattle.proxy_config.specs.Sound.{IsSoundConfig};
 ghost use Rattle.relay_workers.specs.Boards.{IsBoardOf};
-ghost use Rattle.reporting_core.specs.Reporting.{IsNew};
+ghost use Rattle.dispatch_reports.specs.Reporting.{IsNew};
 
 use crate::gate::{Gate, Pause};
+use base_places::PlaceSet;
 use dispatch_core::Core;
-use dispatch_log::{Intake, Refusal};
 use grant_board::{Board, BoardName, KeeperSeat, Return};
-use grant_desk::{Desk, Queues};
 use late_cert::Running;
-use place_set::PlaceSet;
+use log_entries::{Intake, Refusal};
 use proxy_config::Config;
 use relay_http::Exchange;
+use shared_desk::{Desk, Queues};
 use std::alloc::Global;
 use std::marker::PhantomData;
 use std::sync::Wait;
@@ -44,7 +44,7 @@ pub struct Runner<G: Gate + Drop> {
 
 /// The means of a worker: a runner, and the pauses of its waits.
 #[derive(Drop)]
-pub struct Hand<G: Gate + Drop, P: Pause + Drop> {
+pub struct Worker<G: Gate + Drop, P: Pause + Drop> {
     pub runner: Runner<G>,
     pub pause: P,
 }
@@ -60,11 +60,11 @@ impl<N: BoardName> Proxy<N> {
         opened: (Board, KeeperSeat),
     ) -> Proxy<N>
         requires sound { IsSoundConfig config }
-        requires asked { IsAskedBy config core.setup }
+        requires asked { SetupIsAsked config core.setup }
         requires first { core ≡ first_window core.setup [] }
         requires running { IsNew running (length core.setup.servers) }
         requires board { (opened.0 ≡ N.board) × (opened.1.board ≡ N.board) }
-        requires terms { N.terms ≡ terms_of core.setup }
+        requires terms { N.terms ≡ terms_for core.setup }
         requires seat { opened.1.view ≡ new_keeper N.terms }
         ensures config { result.config ≡ config }
     {
@@ -81,7 +81,7 @@ impl<N: BoardName> Proxy<N> {
     /// one that found nothing.
     pub fn turn<R: Wait, G: Gate>(&self, rt: &R, gate: &mut G) {
         let moment = gate.moment();
-        let _ = self.with_room(rt, gate, || {
+        let _ = self.retry_in_new_window(rt, gate, || {
             let mut woken = PlaceSet::new();
             (self.desk.turn(rt, moment, &mut woken), woken)
         });
@@ -93,7 +93,7 @@ impl<N: BoardName> Proxy<N> {
         requires in_range { place < N.terms.places }
     {
         let moment = gate.moment();
-        let _ = self.with_room(
+        let _ = self.retry_in_new_window(
             rt,
             gate,
             || -> (Result<Option<Return>, Refusal>, PlaceSet)
@@ -114,7 +114,7 @@ impl<N: BoardName> Proxy<N> {
         ok: bool,
     ) {
         let moment = gate.moment();
-        let _ = self.with_room(rt, gate, || {
+        let _ = self.retry_in_new_window(rt, gate, || {
             let mut woken = PlaceSet::new();
             (self.desk.check(rt, moment, server, ok, &mut woken), woken)
         });
@@ -123,7 +123,7 @@ impl<N: BoardName> Proxy<N> {
     /// Gives up a request that waits. Where that is refused, it has its verdict.
     pub fn give_up<R: Wait, G: Gate>(&self, rt: &R, gate: &mut G, ticket: u64) {
         let moment = gate.moment();
-        let _ = self.with_room(rt, gate, || {
+        let _ = self.retry_in_new_window(rt, gate, || {
             let mut woken = PlaceSet::new();
             (self.desk.abort(rt, moment, ticket, &mut woken), woken)
         });
@@ -141,7 +141,7 @@ impl<N: BoardName> Proxy<N> {
         ensures err { IfErr result (λ refusal. SomeHeld N.terms (λ held. refuses_limit held.history server ≡ Some refusal)) }
     {
         let moment = gate.moment();
-        let (set, _) = self.with_room(rt, gate, || {
+        let (set, _) = self.retry_in_new_window(rt, gate, || {
             let mut woken = PlaceSet::new();
             let set = self.desk.limit(rt, moment, server, intake, &mut woken);
             (set, woken)
@@ -159,12 +159,12 @@ impl<N: BoardName> Proxy<N> {
     // Makes a call of the desk, and tells the gate at which places it offered verdicts. Where the
     // log is full the next window begins, the gate takes the one that ended, and the call is made
     // once more; where there is no memory for that, it stays refused.
-    pub(crate) fn with_room<R: Wait, G: Gate, T: Drop, F: Fn() -> (Result<T, Refusal>, PlaceSet)>(
-        &self,
-        rt: &R,
-        gate: &mut G,
-        call: F,
-    ) -> (Result<T, Refusal>, PlaceSet)
+    pub(crate) fn retry_in_new_window<
+        R: Wait,
+        G: Gate,
+        T: Drop,
+        F: Fn() -> (Result<T, Refusal>, PlaceSet),
+    >(&self, rt: &R, gate: &mut G, call: F) -> (Result<T, Refusal>, PlaceSet)
         requires { F.IsAlwaysCallable call }
         ensures { F.post call result }
     {

@@ -1,9 +1,9 @@
 ghost use Rattle.std.specs.Prelude.{◌≡◌, [], ◌∷◌};
 ghost use Rattle.relay_http.specs.States.{Serves};
 ghost use Rattle.relay_workers.specs.Admissions.{IsRequestAt};
-ghost use Rattle.verdict.specs.declared.Verdict.TheVariants.{Serve};
+ghost use Rattle.base_verdict.specs.declared.Verdict.TheVariants.{Serve};
 
-use dispatch_trace::Ticketed;
+use dispatch_state::Ticketed;
 use grant_board::{BoardName, Pass, RelaySeat};
 use req_view::View;
 use std::marker::PhantomData;

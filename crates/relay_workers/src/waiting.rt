@@ -1,9 +1,9 @@
 ghost use Rattle.std.specs.Prelude.{◌≡◌, ◌<◌, [], ◌∷◌, IfSome, IfNone};
-ghost use Rattle.grant_desk.specs.Seats.{IsSameSeat};
+ghost use Rattle.shared_desk.specs.Seats.{IsSameSeat};
 
 use crate::admitting::Admitted;
 use crate::gate::{Gate, Pause};
-use crate::proxy::{Hand, Proxy};
+use crate::proxy::{Proxy, Worker};
 use grant_board::{BoardName, Pass, RelaySeat, Taking};
 use std::io::{Read, Write};
 use std::sync::Wait;
@@ -35,7 +35,7 @@ pub fn wait<R: Wait, N: BoardName, G: Gate + Drop, P: Pause + Drop>(
     rt: &R,
     proxy: &Proxy<N>,
     seat: &mut RelaySeat,
-    hand: &mut Hand<G, P>,
+    hand: &mut Worker<G, P>,
     admitted: Admitted<N, G::Client>,
 ) -> Option<Granted<N, G::Client>>
     requires named { (seat.old.board ≡ N.board) × (seat.old.view.terms ≡ N.terms) }

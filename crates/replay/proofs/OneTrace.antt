@@ -4,29 +4,29 @@ use Rattle.std.proofs.Common.{◌++◌, map, None, refl, ap, sym, ◌∙◌, sub
 use Rattle.std.specs.Str.Lines.{lines}
 use Rattle.std.proofs.lemmas.List.{append_cancel_left, map-append}
 use Rattle.std.proofs.lemmas.Option.{same_Some}
-use Rattle.list_facts.proofs.Never.{none_some}
-use Rattle.dispatch_log.specs.declared.entry.Arrival.{Arrival}
-use Rattle.dispatch_log.specs.declared.entry.Entry.{Entry}
-use Rattle.dispatch_log.specs.declared.entry.Entry.TheVariants as entries
-use Rattle.dispatch_log.specs.Determined.{unplaced, AreSameButForPlaces, AreSameHistories, AreRefusedAlike}
-use Rattle.dispatch_log.specs.Histories.{History, state_of, next_window, effective, refuses_arrival, end_of}
-use Rattle.dispatch_log.specs.Histories.{refuses_done, refuses_failure, refuses_abort, refuses_check, refuses_limit}
-use Rattle.dispatch_log.specs.Judgement.{MayCome, granting}
-use Rattle.dispatch_log.specs.Legal.{IsBase, IsLegal}
-use Rattle.dispatch_log.specs.States.{State}
-use Rattle.dispatch_log.proofs.Runs.{adds_legally}
-use Rattle.dispatch_log.proofs.SameCalls.{refused_alike, added_alike, rolled_alike}
-use Rattle.dispatch_log.proofs.SameRows.{same_state-itself}
-use Rattle.dispatch_log.proofs.Windows.{opening_base, empty_legal}
+use Rattle.base_lists.proofs.Never.{none_some}
+use Rattle.log_entries.specs.declared.entry.Arrival.{Arrival}
+use Rattle.log_entries.specs.declared.entry.Entry.{Entry}
+use Rattle.log_entries.specs.declared.entry.Entry.TheVariants as entries
+use Rattle.log_entries.specs.Determined.{unplaced, AreSameButForPlaces, AreSameHistories, AreRefusedAlike}
+use Rattle.log_entries.specs.Histories.{History, state_of, next_window, effective, refuses_arrival, end_of}
+use Rattle.log_entries.specs.Histories.{refuses_done, refuses_failure, refuses_abort, refuses_check, refuses_limit}
+use Rattle.log_entries.specs.Judgement.{MayCome, granting}
+use Rattle.log_entries.specs.Legal.{IsBase, IsLegal}
+use Rattle.log_entries.specs.States.{State}
+use Rattle.log_entries.proofs.Runs.{adds_legally}
+use Rattle.log_entries.proofs.SameCalls.{refused_alike, added_alike, rolled_alike}
+use Rattle.log_entries.proofs.SameRows.{same_state-itself}
+use Rattle.log_entries.proofs.Windows.{opening_base, empty_legal}
 use Rattle.late_cert.proofs.OneReport.{reports_same}
-use Rattle.script.specs.declared.step.Step.{Step}
-use Rattle.script.specs.declared.step.Step.TheVariants.{Arrive, Done, Fail, Abort, Tick, Check, Limit, Roll}
-use Rattle.script.specs.Headers.{settings_of}
-use Rattle.script.specs.Reports.{roll_text, reports_text}
-use Rattle.script.specs.ScriptTexts.{Answers, IsAccepted, IsEventOf, IsRefused, IsRolled, IsScriptText, number_of, pin_of, refuses}
-use Rattle.script.specs.Steps.{steps_of}
-use Rattle.script.specs.Traces.{entry_text, entries_text, refusal_text}
-use Rattle.replay.specs.Defaults.{opening, names_of, setup_of}
+use Rattle.log_texts.specs.declared.step.Step.{Step}
+use Rattle.log_texts.specs.declared.step.Step.TheVariants.{Arrive, Done, Fail, Abort, Tick, Check, Limit, Roll}
+use Rattle.log_texts.specs.Headers.{settings_of}
+use Rattle.log_texts.specs.Reports.{roll_text, reports_text}
+use Rattle.log_texts.specs.ScriptTexts.{StepAnswers, IsAccepted, IsEventOf, IsRefused, IsRolled, IsScriptText, server_number, named_pin, refuses}
+use Rattle.log_texts.specs.Steps.{steps_of}
+use Rattle.log_texts.specs.Traces.{entry_text, entries_text, refusal_text}
+use Rattle.replay.specs.Defaults.{opening, names_of, script_setup}
 use Rattle.replay.specs.TraceTexts.{IsTraceOf}
 
 -- no line of a trace shows a place
@@ -44,13 +44,13 @@ same_texts names es fs same = sym (unplaced_texts names fs) ∙ ap (entries_text
 
 -- a step's refusal is one
 refused_same : (names : List (List ℕ)) (h other : History) → AreRefusedAlike h other → (step : Step) → refuses names h step ≡ refuses names other step
-refused_same names h other same (Arrive moment class offset pin) = same.arrival (pin_of names pin)
+refused_same names h other same (Arrive moment class offset pin) = same.arrival (named_pin names pin)
 refused_same names h other same (Done moment ticket) = same.done ticket
 refused_same names h other same (Fail moment ticket) = same.failure ticket
 refused_same names h other same (Abort moment ticket) = same.abort ticket
 refused_same names h other same (Tick moment) = same.tick
-refused_same names h other same (Check moment server answered) = same.check (number_of names server)
-refused_same names h other same (Limit moment server limit) = same.limit (number_of names server)
+refused_same names h other same (Check moment server answered) = same.check (server_number names server)
+refused_same names h other same (Limit moment server limit) = same.limit (server_number names server)
 refused_same names h other same Roll = refl
 
 -- nothing refuses a step whose event may come
@@ -173,8 +173,8 @@ module _ (names : List (List ℕ)) (h other new theirs : History) (same : AreSam
         legal_too = empty_legal theirs too (ap (λ (x : History). x.log) b.begins);
       }
 
-  step_alike : (step : Step) (front back : List ℕ) → IsBase new.setup new.base → IsBase theirs.setup theirs.base → Answers names h new step front
-      → Answers names other theirs step back → AreLeftAlike new theirs front back
+  step_alike : (step : Step) (front back : List ℕ) → IsBase new.setup new.base → IsBase theirs.setup theirs.base → StepAnswers names h new step front
+      → StepAnswers names other theirs step back → AreLeftAlike new theirs front back
   step_alike Roll front back base too a b = rolled_both front back base too a b
   step_alike (Arrive moment class offset pin) front back base too a b = answered_alike (Arrive moment class offset pin) front back a b
   step_alike (Done moment ticket) front back base too a b = answered_alike (Done moment ticket) front back a b
@@ -190,7 +190,7 @@ base_of_event : (names : List (List ℕ)) (h new : History) (step : Step) (front
 base_of_event names h new step front (inl a) base = subst (λ (x : History). IsBase x.setup x.base) a.unchanged base
 base_of_event names h new step front (inr a) base = subst (λ x. IsBase x h.base) a.adds.setup (subst (IsBase new.setup) a.adds.base base)
 
-base_of_step : (names : List (List ℕ)) (h new : History) (step : Step) (front : List ℕ) → Answers names h new step front → IsBase new.setup new.base
+base_of_step : (names : List (List ℕ)) (h new : History) (step : Step) (front : List ℕ) → StepAnswers names h new step front → IsBase new.setup new.base
     → IsBase h.setup h.base
 base_of_step names h new Roll front a base = a.certified.legal.begins
 base_of_step names h new (Arrive moment class offset pin) front a base = base_of_event names h new (Arrive moment class offset pin) front a base
@@ -228,7 +228,7 @@ itself h = record { setup = refl; base = same_state-itself h.base; log = refl; s
 pub one_trace : (script text other : List ℕ) → IsTraceOf script text → IsTraceOf script other → other ≡ text
 one_trace script text other a b =
     let first : IsLegal (opening (settings_of (lines script))) =
-    empty_legal (opening (settings_of (lines script))) (opening_base (setup_of (settings_of (lines script)))) refl in
+    empty_legal (opening (settings_of (lines script))) (opening_base (script_setup (settings_of (lines script)))) refl in
     let all =
     one_text (names_of (settings_of (lines script))) (steps_of script) (opening (settings_of (lines script)))
     (opening (settings_of (lines script))) a.last b.last a.answers b.answers

@@ -7,21 +7,21 @@ use Rattle.dispatch_core.specs.declared.event.Event.{Event}
 use Rattle.dispatch_core.specs.declared.event.Event.TheVariants as events
 use Rattle.dispatch_core.specs.Occurrences as occurrences
 use Rattle.dispatch_core.specs.Occurrences.{entry_of}
-use Rattle.dispatch_log.specs.declared.entry.Entry.{Entry}
-use Rattle.dispatch_log.specs.declared.entry.Entry.TheVariants as entries
-use Rattle.dispatch_log.specs.declared.refusal.Refusal.{Refusal}
-use Rattle.dispatch_log.specs.declared.refusal.Refusal.TheVariants.{NoMemory}
-use Rattle.dispatch_log.specs.Histories.{History, effective, refuses_arrival, RefusedOrNoMemory}
-use Rattle.dispatch_log.specs.Legal.{AddsEvent}
-use Rattle.dispatch_trace.specs.declared.position.Ticketed.{Ticketed}
-use Rattle.script.specs.declared.step.Step.{Step}
-use Rattle.script.specs.declared.step.Step.TheVariants.{Arrive, Done, Fail, Abort, Tick, Check, Limit, Roll}
-use Rattle.script.specs.Steps.{step_of}
-use Rattle.script.specs.ScriptTexts.{number_of, pin_of, refuses, Answers, IsAccepted, IsEventOf, IsRefused, IsScriptText}
-use Rattle.script.specs.Traces.{entries_text, refusal_text}
+use Rattle.log_entries.specs.declared.entry.Entry.{Entry}
+use Rattle.log_entries.specs.declared.entry.Entry.TheVariants as entries
+use Rattle.log_entries.specs.declared.refusal.Refusal.{Refusal}
+use Rattle.log_entries.specs.declared.refusal.Refusal.TheVariants.{NoMemory}
+use Rattle.log_entries.specs.Histories.{History, effective, refuses_arrival, RefusedOrNoMemory}
+use Rattle.log_entries.specs.Legal.{AddsEvent}
+use Rattle.dispatch_state.specs.declared.position.Ticketed.{Ticketed}
+use Rattle.log_texts.specs.declared.step.Step.{Step}
+use Rattle.log_texts.specs.declared.step.Step.TheVariants.{Arrive, Done, Fail, Abort, Tick, Check, Limit, Roll}
+use Rattle.log_texts.specs.Steps.{step_of}
+use Rattle.log_texts.specs.ScriptTexts.{server_number, named_pin, refuses, StepAnswers, IsAccepted, IsEventOf, IsRefused, IsScriptText}
+use Rattle.log_texts.specs.Traces.{entries_text, refusal_text}
 use Rattle.replay.specs.declared.fault.Fault.{Fault}
-use Rattle.replay.specs.declared.asked.Asked.TheVariants as asks
-use Rattle.replay.specs.Asked.{by_numbers}
+use Rattle.replay.specs.declared.call.Call.TheVariants as asks
+use Rattle.replay.specs.Calls.{by_numbers}
 
 -- what is new at the end of a list
 pub new_part : {X : Type 0} (old new more : List X) (before : ℕ) → new ≡ old ++ more → before ≡ length old → drop before new ≡ more
@@ -45,7 +45,7 @@ steps_past_line line lines rest asked cut is none = ap (filter_map step_of) cut 
 
 -- a text of the first step, and then one of the others, is a text of all
 pub text_from_step : (names : List (List ℕ)) (old new last : History) (step : Step) (all others : List Step) (front rest : List ℕ) → all ≡ step ∷ others
-    → Answers names old new step front → IsScriptText names new others last rest → IsScriptText names old all last (front ++ rest)
+    → StepAnswers names old new step front → IsScriptText names new others last rest → IsScriptText names old all last (front ++ rest)
 text_from_step names old new last step all others front rest cut answers more =
     subst (λ (steps : List Step). IsScriptText names old steps last (front ++ rest)) (sym cut) (new, front, rest, answers, refl, more)
 
@@ -57,7 +57,7 @@ kept_then (Ok x) (Err error) P Q was_ok holds then' = absurd (true≢false (sym 
 
 -- any step but a roll is refused or accepted
 event_answered : (names : List (List ℕ)) (old new : History) (step : Step) (text : List ℕ) → step ≢ Roll
-    → IsRefused names old new step text ⊎ IsAccepted names old new step text → Answers names old new step text
+    → IsRefused names old new step text ⊎ IsAccepted names old new step text → StepAnswers names old new step text
 event_answered names old new (Arrive moment class offset pin) text event is = is
 event_answered names old new (Done moment ticket) text event is = is
 event_answered names old new (Fail moment ticket) text event is = is
@@ -75,7 +75,7 @@ IsTold names told answer entries text_old text_new =
 
 -- what is written at the end answers a step
 abbrev pub IsAnswered : List (List ℕ) → History → History → Step → List ℕ → List ℕ → Type 0
-IsAnswered names old new step text_old text_new = (front : List ℕ) × Answers names old new step front × (text_new ≡ text_old ++ front)
+IsAnswered names old new step text_old text_new = (front : List ℕ) × StepAnswers names old new step front × (text_new ≡ text_old ++ front)
 
 -- an event is answered by the lines of the entries that are new in the log, or of its refusal
 told_answers : {A : Type 0} (names : List (List ℕ)) (old new : History) (step : Step) (told : Result (Unit {0}) Fault) (answer : Result A Refusal)
@@ -131,12 +131,12 @@ asks_event names h (Tick moment) event is =
     subst (AsksEvent names h (Tick moment)) same
     (record { is_event = not_roll names (Tick moment) (events.Tick moment) refl; refusal = refl; entry = refl })
 asks_event names h (Check moment server answered) event is =
-    let by = events.Check moment (number_of names server) answered in
+    let by = events.Check moment (server_number names server) answered in
     let same : by ≡ event = cc in
     subst (AsksEvent names h (Check moment server answered)) same
     (record { is_event = not_roll names (Check moment server answered) by refl; refusal = refl; entry = (refl, refl, refl) })
 asks_event names h (Limit moment server limit) event is =
-    let by = events.Limit moment (number_of names server) limit in
+    let by = events.Limit moment (server_number names server) limit in
     let same : by ≡ event = cc in
     subst (AsksEvent names h (Limit moment server limit)) same
     (record { is_event = not_roll names (Limit moment server limit) by refl; refusal = refl; entry = (refl, refl, refl) })
@@ -181,7 +181,7 @@ asks_arrival names h (Arrive m c o p) moment class offset pin is =
     let at : m ≡ moment = cc in
     let rank : c ≡ class = cc in
     let shift : o ≡ offset = cc in
-    let bound : pin_of names p ≡ pin = cc in
+    let bound : named_pin names p ≡ pin = cc in
     record {
       is_event = λ (roll : Arrive m c o p ≡ Roll). cc;
       refusal = ap (refuses_arrival h) bound;

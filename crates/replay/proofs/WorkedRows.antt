@@ -1,29 +1,29 @@
 -- The trace of a script at worked examples: what must hold, and a wrong text that must not be taken.
 use Rattle.std.proofs.Common.{◌≡◌, ℕ, List, [], ◌∷◌, codes, false, inl, refl, ap, arith, rules}
-use Rattle.dispatch_log.specs.declared.refusal.Refusal.TheVariants.{NoSuchTicket, NoSuchServer}
+use Rattle.log_entries.specs.declared.refusal.Refusal.TheVariants.{NoSuchTicket, NoSuchServer}
 use Rattle.std.specs.Fmt.{digits}
-use Rattle.dispatch_log.specs.declared.entry.Entry.TheVariants as entries
-use Rattle.dispatch_log.specs.Histories.{History, next_window}
-use Rattle.dispatch_log.specs.Setups.{IsSound}
-use Rattle.dispatch_log.proofs.Windows.{next_legal}
-use Rattle.dispatch_log.proofs.Dispatched.{dispatched}
+use Rattle.log_entries.specs.declared.entry.Entry.TheVariants as entries
+use Rattle.log_entries.specs.Histories.{History, next_window}
+use Rattle.log_entries.specs.Setups.{IsSound}
+use Rattle.log_entries.proofs.Windows.{next_legal}
+use Rattle.log_entries.proofs.Dispatched.{dispatched}
 use Rattle.dispatch_core.proofs.Calls.{new_legal}
-use Rattle.readable_log.specs.Windows.{window_in}
+use Rattle.log_reading.specs.Windows.{window_in}
 use Rattle.late_cert.specs.Certificates.{IsCertified}
-use Rattle.script.specs.Headers.{Settings, settings_of}
-use Rattle.script.specs.ScriptTexts.{IsRolled, IsScriptText}
-use Rattle.replay.specs.Defaults.{default_names, opening, setup_of}
+use Rattle.log_texts.specs.Headers.{Settings, settings_of}
+use Rattle.log_texts.specs.ScriptTexts.{IsRolled, IsScriptText}
+use Rattle.replay.specs.Defaults.{default_names, opening, script_setup}
 use Rattle.replay.specs.TraceTexts.{IsTraceOf}
 use Rattle.late_cert.proofs.Certified.{certified}
 
 -- the log of no event has no report
 opening_certified : (settings : Settings) → IsCertified (opening settings) []
 opening_certified settings =
-    let legal = new_legal (opening settings) (setup_of settings) refl in
+    let legal = new_legal (opening settings) (script_setup settings) refl in
     certified (opening settings) (window_in (opening settings)) [] refl legal (dispatched (opening settings) legal)
     (record { chosen = tt; ascending = tt; complete = tt })
 
-default_sound : IsSound (setup_of (settings_of []))
+default_sound : IsSound (script_setup (settings_of []))
 default_sound = record {
   some_server = omega arith;
   servers = omega arith;
@@ -83,7 +83,7 @@ roll_row : IsTraceOf (codes "roll") (codes "roll\n")
 roll_row =
     let first = opening (settings_of []) in
     let next = next_window first in
-    let legal = next_legal first default_sound (new_legal first (setup_of (settings_of [])) refl) in
+    let legal = next_legal first default_sound (new_legal first (script_setup (settings_of [])) refl) in
     let none = certified next (window_in next) [] refl legal (dispatched next legal) (record { chosen = tt; ascending = tt; complete = tt }) in
     record {
       last = next;
@@ -148,8 +148,8 @@ check_of_unknown_server =
     }
 
 -- what no line says is as without header lines
-one_place : setup_of (settings_of (codes "places 1" ∷ [])) ≡ record {
-  servers = (setup_of (settings_of [])).servers;
+one_place : script_setup (settings_of (codes "places 1" ∷ [])) ≡ record {
+  servers = (script_setup (settings_of [])).servers;
   places = 1;
   log = 262144;
   retries = 3;

@@ -1,10 +1,10 @@
 -- The dispatcher that a script is replayed on.
 use Rattle.std.specs.Prelude.{ℕ, List, [], ◌∷◌, None, codes}
 use Rattle.std.specs.Option.{unwrap_or}
-use Rattle.dispatch_log.specs.declared.setup.ServerSet.{ServerSet}
-use Rattle.dispatch_log.specs.declared.setup.Setup.{Setup}
-use Rattle.dispatch_log.specs.Histories.{History, first_window}
-use Rattle.script.specs.Headers.{Settings}
+use Rattle.log_entries.specs.declared.setup.ServerSet.{ServerSet}
+use Rattle.log_entries.specs.declared.setup.Setup.{Setup}
+use Rattle.log_entries.specs.Histories.{History, first_window}
+use Rattle.log_texts.specs.Headers.{Settings}
 
 -- one server, which takes one request at a time
 abbrev pub default_servers : List ServerSet
@@ -23,8 +23,8 @@ abbrev pub names_of : Settings → List (List ℕ)
 names_of settings = or_else settings.names default_names
 
 -- the setup of the dispatcher: that of the header lines, with defaults where they set nothing
-abbrev pub setup_of : Settings → Setup
-setup_of settings = record {
+abbrev pub script_setup : Settings → Setup
+script_setup settings = record {
   servers = or_else settings.servers default_servers;
   places = unwrap_or settings.places 64;
   log = unwrap_or settings.log 262144;
@@ -35,4 +35,4 @@ setup_of settings = record {
 
 -- the first window, without an event yet
 abbrev pub opening : Settings → History
-opening settings = first_window (setup_of settings) []
+opening settings = first_window (script_setup settings) []

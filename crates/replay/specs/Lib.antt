@@ -2,5 +2,5 @@ pub mod Defaults
 pub mod TraceTexts
 pub mod Transfers
 pub mod Replays
-pub mod Asked
+pub mod Calls
 pub mod Statuses

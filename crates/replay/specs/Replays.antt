@@ -1,7 +1,7 @@
 -- The effect of a replay on the bytes that a writer holds, where they are known.
 use Rattle.std.specs.Prelude.{◌≡◌, ◌⊎◌, ℕ, ◌≤◌, List, length, Option, None}
 use Rattle.std.specs.Io.KnownBytes.{Appends}
-use Rattle.script.specs.Faults.{fault_of}
+use Rattle.log_texts.specs.Faults.{fault_of}
 use Rattle.replay.specs.Transfers.{WritesFront}
 use Rattle.replay.specs.TraceTexts.{IsTraceOf}
 

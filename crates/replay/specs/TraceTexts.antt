@@ -1,15 +1,15 @@
 -- The trace of a script.
 use Rattle.std.specs.Prelude.{◌≡◌, ℕ, List, ◌++◌, None}
 use Rattle.std.specs.Str.Lines.{lines}
-use Rattle.dispatch_log.specs.Histories.{History}
+use Rattle.log_entries.specs.Histories.{History}
 use Rattle.late_cert.specs.declared.report.Report.{Report}
-use Rattle.script.specs.declared.step.Step.{Step}
+use Rattle.log_texts.specs.declared.step.Step.{Step}
 use Rattle.late_cert.specs.Certificates.{IsCertified}
-use Rattle.script.specs.Faults.{fault_of}
-use Rattle.script.specs.Headers.{Settings, settings_of}
-use Rattle.script.specs.Reports.{reports_text}
-use Rattle.script.specs.ScriptTexts.{IsScriptText}
-use Rattle.script.specs.Steps.{steps_of}
+use Rattle.log_texts.specs.Faults.{fault_of}
+use Rattle.log_texts.specs.Headers.{Settings, settings_of}
+use Rattle.log_texts.specs.Reports.{reports_text}
+use Rattle.log_texts.specs.ScriptTexts.{IsScriptText}
+use Rattle.log_texts.specs.Steps.{steps_of}
 use Rattle.replay.specs.Defaults.{names_of, opening}
 
 -- the result of the steps of a faultless script: the names of the servers, the dispatcher's last

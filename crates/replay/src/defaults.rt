@@ -1,17 +1,17 @@
 ghost use Rattle.std.specs.Prelude.{◌≡◌, [], IfOk, length};
 ghost use Rattle.std.specs.Option.{unwrap_or};
-ghost use Rattle.dispatch_log.specs.Setups.{IsSound};
-ghost use Rattle.script.specs.Headers.{AreWithin};
-ghost use Rattle.replay.specs.Defaults.{default_servers as default_servers_are, default_names as default_names_are, names_of, setup_of};
+ghost use Rattle.log_entries.specs.Setups.{IsSound};
+ghost use Rattle.log_texts.specs.Headers.{SettingsAreWithin};
+ghost use Rattle.replay.specs.Defaults.{default_servers as default_servers_are, default_names as default_names_are, names_of, script_setup};
 
-use dispatch_log::{ServerSet, Servers, Setup};
-use script::{Header, Names};
+use log_entries::{ServerSet, Servers, Setup};
+use log_texts::{Header, Names};
 use std::alloc::{AllocError, Global};
 
 /// Returns the setup of the dispatcher, and the names of its servers: those of the header lines,
 /// with defaults where they set nothing.
-pub(crate) fn setup_of(alloc: Global, header: Header) -> Result<(Setup, Names), AllocError>
-    ensures setup { IfOk result (λ made. made.0 ≡ setup_of header) }
+pub(crate) fn script_setup(alloc: Global, header: Header) -> Result<(Setup, Names), AllocError>
+    ensures setup { IfOk result (λ made. made.0 ≡ script_setup header) }
     ensures names { IfOk result (λ made. made.1 ≡ names_of header) }
     ensures sound { IfOk result (λ made. IsSound made.0) }
 {

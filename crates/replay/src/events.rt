@@ -1,17 +1,17 @@
 ghost use Rattle.std.specs.Prelude.{◌≡◌, ◌≢◌, ℕ, [], Some, take, IfOk, IfErr, OnOk, string_bytes};
 ghost use Rattle.std.specs.Str.Lines.{lines};
-ghost use Rattle.script.specs.Faults.{fault_of, fault_behind};
-ghost use Rattle.script.specs.Headers.{settings_of};
-ghost use Rattle.script.specs.Reading.{IsHeader};
+ghost use Rattle.log_texts.specs.Faults.{fault_of, fault_behind};
+ghost use Rattle.log_texts.specs.Headers.{settings_of};
+ghost use Rattle.log_texts.specs.Reading.{IsHeader};
 ghost use Rattle.replay.specs.TraceTexts.{AreReplayed};
 
-use crate::defaults::setup_of;
+use crate::defaults::script_setup;
 use crate::fault::Fault;
 use crate::run::run;
 use dispatch_core::Core;
 use due_key::Key;
+use log_texts::{Header, Names, ScriptError, read};
 use pend_queue::PendQueue;
-use script::{Header, Names, ScriptError, read};
 use std::alloc::Global;
 
 /// The result of a script's events.
@@ -37,7 +37,7 @@ pub fn replay_events<Q: PendQueue<Key, usize>>(
     ensures of_script { IfErr result (λ fault. (fault ≢ Fault.Read) × (fault ≢ Fault.Write)) }
 {
     let (header, before) = header_of(alloc, script)?;
-    let Ok((setup, names)) = setup_of(alloc, header) else {
+    let Ok((setup, names)) = script_setup(alloc, header) else {
         return Err(Fault::NoMemory);
     };
     let Ok(mut core) = Core::<Q>::new(alloc, setup) else {

@@ -1,7 +1,7 @@
 //! The replay of a script: from its bytes, over any reader, to the bytes of its trace and its reports, over any writer.
 #![tactic(auto)]
 
-mod asked;
+mod call;
 mod defaults;
 mod events;
 mod fault;

@@ -1,16 +1,16 @@
 ghost use Rattle.std.specs.Prelude.{◌≡◌, ◌++◌, ℕ, List, IfOk, IfErr, OnOk, string_bytes};
 ghost use Rattle.late_cert.specs.declared.report.Report.{Report};
-ghost use Rattle.script.specs.Reports.{reports_text};
+ghost use Rattle.log_texts.specs.Reports.{reports_text};
 ghost use Rattle.late_cert.specs.Certificates.{IsCertified};
-ghost use Rattle.script.specs.ScriptTexts.{IsRolled};
+ghost use Rattle.log_texts.specs.ScriptTexts.{IsRolled};
 
 use crate::fault::Fault;
 use crate::run::kept;
 use dispatch_core::Core;
 use due_key::Key;
 use late_cert::{Reports, certify};
+use log_texts::{Names, push_reports, push_roll};
 use pend_queue::PendQueue;
-use script::{Names, push_reports, push_roll};
 use std::alloc::{AllocError, Global};
 
 /// Returns the reports on all decisions of a dispatcher since the present window began: for each

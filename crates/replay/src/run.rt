@@ -1,21 +1,21 @@
 ghost use Rattle.std.specs.Prelude.{◌≡◌, ◌≢◌, ◌≤◌, ◌++◌, ℕ, List, [], length, drop, Some, None, IfOk, IfErr, OnOk, IsOk, string_bytes};
 ghost use Rattle.std.specs.Str.Lines.{lines};
-ghost use Rattle.dispatch_log.specs.declared.refusal.Refusal.TheVariants.{NoMemory};
-ghost use Rattle.script.specs.Faults.{fault_behind};
-ghost use Rattle.script.specs.Reading.{IsHeader};
-ghost use Rattle.script.specs.Steps.{steps_of};
-ghost use Rattle.script.specs.ScriptTexts.{Answers, IsScriptText};
-ghost use Rattle.script.specs.Traces.{entries_text, refusal_text};
+ghost use Rattle.log_entries.specs.declared.refusal.Refusal.TheVariants.{NoMemory};
+ghost use Rattle.log_texts.specs.Faults.{fault_behind};
+ghost use Rattle.log_texts.specs.Reading.{IsHeader};
+ghost use Rattle.log_texts.specs.Steps.{steps_of};
+ghost use Rattle.log_texts.specs.ScriptTexts.{StepAnswers, IsScriptText};
+ghost use Rattle.log_texts.specs.Traces.{entries_text, refusal_text};
 
-use crate::asked::{Asked, by_numbers};
+use crate::call::{Call, by_numbers};
 use crate::fault::Fault;
 use crate::reports::roll;
 use dispatch_core::Core;
-use dispatch_log::Refusal;
 use due_key::Key;
+use log_entries::Refusal;
+use log_texts::{Line, Names, Step, is_faulty, push_entries, push_refusal, step_in};
 use pend_queue::PendQueue;
 use proxy_words::Lines;
-use script::{Line, Names, Step, is_faulty, push_entries, push_refusal, step_in};
 use std::alloc::{AllocError, Global};
 
 /// Runs the steps of a script in order, and returns their lines. The first faulty line after the
@@ -60,14 +60,14 @@ fn take_step<Q: PendQueue<Key, usize>>(
     step: Step,
     text: &mut String,
 ) -> Result<(), Fault>
-    ensures ok { OnOk result ((front : List ℕ) × Answers names.now core.old core.new step.entry front
+    ensures ok { OnOk result ((front : List ℕ) × StepAnswers names.now core.old core.new step.entry front
         × (string_bytes text.new ≡ string_bytes text.old ++ front)) }
     ensures err { IfErr result (λ fault. fault ≡ Fault.NoMemory) }
 {
     let before = core.log().len();
     match by_numbers(names, step) {
-        Asked::Roll => roll(alloc, core, names, text),
-        Asked::Arrive {
+        Call::Roll => roll(alloc, core, names, text),
+        Call::Arrive {
             moment,
             class,
             offset,
@@ -76,7 +76,7 @@ fn take_step<Q: PendQueue<Key, usize>>(
             let answer = core.arrive(alloc, moment, class, offset, pin);
             tell(core, names, before, answer, text)
         }
-        Asked::Event(event) => {
+        Call::Event(event) => {
             let answer = core.apply(event);
             tell(core, names, before, answer, text)
         }

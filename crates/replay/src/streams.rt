@@ -1,6 +1,6 @@
 ghost use Rattle.std.specs.Prelude.{◌≡◌, ◌≢◌, ℕ, ◌+◌, ◌≤◌, Some, None, Err, IfOk, IfErr, IfSome, OnOk, OnErr, string_bytes, length};
 ghost use Rattle.std.specs.Io.KnownBytes.{IsAtEnd, Keeps};
-ghost use Rattle.script.specs.Faults.{fault_of};
+ghost use Rattle.log_texts.specs.Faults.{fault_of};
 ghost use Rattle.replay.specs.Transfers.{read_failures, write_failures};
 ghost use Rattle.replay.specs.Replays.{WritesTrace, WritesFrontOfTrace, AreFewWrites};
 ghost use Rattle.replay.specs.TraceTexts.{IsTraceOf};
@@ -9,8 +9,8 @@ use crate::events::{Replayed, replay_events};
 use crate::fault::Fault;
 use crate::reports::report;
 use crate::transfers::{read_whole, write_whole};
+use base_streams::{Counted, Sink, Source};
 use binom_queue::BinomQueue;
-use counted_io::{Counted, Sink, Source};
 use due_key::Key;
 use pend_queue::PendQueue;
 use std::alloc::Global;

@@ -3,8 +3,8 @@ ghost use Rattle.std.specs.Io.KnownBytes.{Appends, Consumes, IsAtEnd};
 ghost use Rattle.replay.specs.Transfers.{WritesFront, read_failures, write_failures};
 
 use crate::fault::Fault;
-use counted_io::{Sink, Source};
-use script::MOST_BYTES;
+use base_streams::{Sink, Source};
+use log_texts::MOST_BYTES;
 use std::alloc::Global;
 
 /// The most reads of a script: as many as it takes to read one byte too many, one byte at a time.

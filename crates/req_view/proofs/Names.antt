@@ -3,7 +3,7 @@ use Rattle.std.proofs.Common.{◌≡◌, ℕ, ◌-◌, ◌≤◌, List, length, 
 use Rattle.std.specs.List.{All}
 use Rattle.std.proofs.lemmas.List.{length-take}
 use Rattle.std.proofs.lemmas.List.Elements.{All-map}
-use Rattle.list_facts.proofs.Members.{All-from_map}
+use Rattle.base_lists.proofs.Members.{All-from_map}
 use Rattle.http_header.specs.Token.{is_token_byte, IsToken}
 use Rattle.httparse.specs.declared.spans.HeaderSpan.{HeaderSpan}
 use Rattle.httparse.specs.Grammar.{Field, IsField, is_token_byte as is_grammar_byte, IsToken as IsGrammarToken}

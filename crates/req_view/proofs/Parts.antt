@@ -2,7 +2,7 @@
 use Rattle.std.proofs.Common.{◌≡◌, ℕ, ◌+◌, ◌-◌, ◌≤◌, ◌∙◌, List, ◌++◌, length, take, drop, sym, ap, subst, Ok, arith, append_assoc}
 use Rattle.std.proofs.Math.Seq.{take-append-add}
 use Rattle.std.proofs.lemmas.List.{take-append-le, take-append-drop}
-use Rattle.list_facts.proofs.Fronts.{take_then}
+use Rattle.base_lists.proofs.Fronts.{take_then}
 use Rattle.httparse.specs.declared.Error.{Error}
 use Rattle.httparse.specs.declared.Status.{Status}
 use Rattle.httparse.specs.declared.Status.TheVariants.{Complete, Partial}

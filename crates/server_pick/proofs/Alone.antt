@@ -6,15 +6,15 @@ use Rattle.std.proofs.lemmas.Option.{same_Some, slice_get-map}
 use Rattle.due_key.specs.declared.key.Key.{Key}
 use Rattle.due_key.specs.Order.{key_cmp}
 use Rattle.due_key.proofs.KeyOrder.{key_cmp_total}
-use Rattle.list_facts.proofs.Orders.{less_from_greater}
-use Rattle.list_facts.proofs.Places.{get-set_cases}
-use Rattle.list_facts.proofs.Replicated.{none_in_empty}
-use Rattle.dispatch_log.specs.declared.queue.Queue.TheVariants.{Backend, Server}
-use Rattle.dispatch_log.specs.declared.row.Phase.{Phase}
-use Rattle.dispatch_log.specs.declared.row.Phase.TheVariants.{Waiting}
-use Rattle.dispatch_log.specs.declared.row.Row.{Row}
-use Rattle.dispatch_log.specs.Rows.{Rows, IsRow, StandsAt, phase_waits_in}
-use Rattle.slot_ledger.specs.declared.places.Slot.{Slot}
+use Rattle.base_lists.proofs.Orders.{less_from_greater}
+use Rattle.base_lists.proofs.Places.{get-set_cases}
+use Rattle.base_lists.proofs.Replicated.{none_in_empty}
+use Rattle.log_entries.specs.declared.queue.Queue.TheVariants.{Backend, Server}
+use Rattle.log_entries.specs.declared.row.Phase.{Phase}
+use Rattle.log_entries.specs.declared.row.Phase.TheVariants.{Waiting}
+use Rattle.log_entries.specs.declared.row.Row.{Row}
+use Rattle.log_entries.specs.Rows.{Rows, IsRow, StandsAt, phase_waits_in}
+use Rattle.slot_ledger.specs.declared.places.Cell.{Cell}
 use Rattle.slot_ledger.specs.Slots.{StandsIn, rows_in}
 use Rattle.slot_ledger.proofs.Standing.{put_stands}
 use Rattle.server_pick.specs.declared.heads.Heads.{Heads}
@@ -45,28 +45,28 @@ heads_of_one heads server rows p row since stands only phase none head = record 
 
 module _ {H : Type 0} where
   -- a row is that of the request at its place
-  stands_as : (slots : List (Option (Slot H))) (p : ℕ) (s : Slot H) → StandsIn slots p s → StandsAt (rows_in slots) p s.row
-  stands_as slots p s stands = slice_get-map (option_map (λ (it : Slot H). it.row)) slots p ∙ ap (option_map (option_map (λ (it : Slot H). it.row))) stands
+  stands_as : (slots : List (Option (Cell H))) (p : ℕ) (s : Cell H) → StandsIn slots p s → StandsAt (rows_in slots) p s.row
+  stands_as slots p s stands = slice_get-map (option_map (λ (it : Cell H). it.row)) slots p ∙ ap (option_map (option_map (λ (it : Cell H). it.row))) stands
 
-  row_at : (slots : List (Option (Slot H))) (p : ℕ) (row : Row) → StandsAt (rows_in slots) p row → (s : Slot H) × StandsIn slots p s × (s.row ≡ row)
-  row_at slots p row stands = by_cell (slice_get slots p) refl (sym (slice_get-map (option_map (λ (it : Slot H). it.row)) slots p) ∙ stands)
+  row_at : (slots : List (Option (Cell H))) (p : ℕ) (row : Row) → StandsAt (rows_in slots) p row → (s : Cell H) × StandsIn slots p s × (s.row ≡ row)
+  row_at slots p row stands = by_cell (slice_get slots p) refl (sym (slice_get-map (option_map (λ (it : Cell H). it.row)) slots p) ∙ stands)
     where
-      by_cell : (cell : Option (Option (Slot H))) → slice_get slots p ≡ cell → option_map (option_map (λ (it : Slot H). it.row)) cell ≡ Some (Some row)
-          → (s : Slot H) × StandsIn slots p s × (s.row ≡ row)
+      by_cell : (cell : Option (Option (Cell H))) → slice_get slots p ≡ cell → option_map (option_map (λ (it : Cell H). it.row)) cell ≡ Some (Some row)
+          → (s : Cell H) × StandsIn slots p s × (s.row ≡ row)
       by_cell None at e = let f : None ≡ Some (Some row) = e in cc
       by_cell (Some None) at e = let f : Some None ≡ Some (Some row) = e in cc
       by_cell (Some (Some s)) at e = (s, at, same_Some s.row row (same_Some (Some s.row) (Some row) e))
 
   -- the first request that is put at a place is the only one
-  pub one_stands : (empty now : List (Option (Slot H))) (n p : ℕ) (slot : Slot H) → empty ≡ replicate n None → slice_get empty p ≡ Some None
+  pub one_stands : (empty now : List (Option (Cell H))) (n p : ℕ) (slot : Cell H) → empty ≡ replicate n None → slice_get empty p ≡ Some None
       → now ≡ set empty p (Some slot)
       → StandsAt (rows_in now) p slot.row × ((other : Row) → IsRow (rows_in now) other → slot.row ≡ other)
   one_stands empty now n p slot none free put =
       (stands_as now p slot (put_stands empty now p slot free put), λ other live. alone other live.0 (row_at now live.0 other live.1))
     where
-      alone : (other : Row) (q : ℕ) → (s : Slot H) × StandsIn now q s × (s.row ≡ other) → slot.row ≡ other
+      alone : (other : Row) (q : ℕ) → (s : Cell H) × StandsIn now q s × (s.row ≡ other) → slot.row ≡ other
       alone other q it =
-          elim (get-set_cases empty p q None (Some slot) (Some it.0) free (subst (λ (l : List (Option (Slot H))). StandsIn l q it.0) put it.1)) [
-            | inl same ↦ ap (λ (s : Slot H). s.row) (same_Some slot it.0 same.1) ∙ it.2
-            | inr older ↦ absurd (none_in_empty n q it.0 (subst (λ (l : List (Option (Slot H))). StandsIn l q it.0) none older.1))
+          elim (get-set_cases empty p q None (Some slot) (Some it.0) free (subst (λ (l : List (Option (Cell H))). StandsIn l q it.0) put it.1)) [
+            | inl same ↦ ap (λ (s : Cell H). s.row) (same_Some slot it.0 same.1) ∙ it.2
+            | inr older ↦ absurd (none_in_empty n q it.0 (subst (λ (l : List (Option (Cell H))). StandsIn l q it.0) none older.1))
           ]

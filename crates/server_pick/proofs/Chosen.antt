@@ -4,21 +4,21 @@ use Rattle.std.proofs.Common.{Some, MatchOption, length, slice_get, ◌↔◌, r
 use Rattle.std.specs.Option.{option_map_or}
 use Rattle.std.proofs.lemmas.Bool.Decides.{nat_tests, Decides-eqb}
 use Rattle.std.proofs.lemmas.Option.{same_Some}
-use Rattle.dispatch_log.specs.declared.allowance.Intake.{Intake}
-use Rattle.dispatch_log.specs.declared.allowance.Intake.TheVariants.{Open, Closed}
-use Rattle.dispatch_log.specs.declared.queue.Queue.TheVariants.{Server}
-use Rattle.dispatch_log.specs.declared.setup.ServerSet.{ServerSet}
-use Rattle.dispatch_log.specs.Picks.{IsPick}
-use Rattle.dispatch_log.specs.Placement.{IsCandidate, IsChosen}
-use Rattle.dispatch_log.specs.Rows.{served, queued}
-use Rattle.dispatch_log.specs.States.{cursor_after_placing}
-use Rattle.dispatch_log.specs.Scenes.{Scene, of_server, is_up, is_usable, is_free, has_room, takes_pinned, working_pin, limit_of, is_open, serves_beside, holds_beside}
-use Rattle.list_facts.proofs.Places.{same_or_other}
-use Rattle.dispatch_log.proofs.Choices.{there as server_there}
+use Rattle.log_entries.specs.declared.allowance.Intake.{Intake}
+use Rattle.log_entries.specs.declared.allowance.Intake.TheVariants.{Open, Closed}
+use Rattle.log_entries.specs.declared.queue.Queue.TheVariants.{Server}
+use Rattle.log_entries.specs.declared.setup.ServerSet.{ServerSet}
+use Rattle.log_entries.specs.Picks.{IsPick}
+use Rattle.log_entries.specs.Placement.{IsCandidate, IsChosen}
+use Rattle.log_entries.specs.Rows.{served, queued}
+use Rattle.log_entries.specs.States.{cursor_after_placing}
+use Rattle.log_entries.specs.Scenes.{Scene, of_server, is_up, is_usable, is_free, has_room, takes_pinned, working_pin, limit_of, is_open, serves_beside, holds_beside}
+use Rattle.base_lists.proofs.Places.{same_or_other}
+use Rattle.log_entries.proofs.Choices.{there as server_there}
 use Rattle.server_pick.specs.Order.{HasRoomBut}
 use Rattle.server_pick.specs.Picked.{IsPlacement, cursor_placed, placed_on}
 use Rattle.server_pick.specs.Sets.{IsIn}
-use Rattle.list_facts.proofs.Both.{and_second}
+use Rattle.base_lists.proofs.Both.{and_second}
 
 pub usable_within : (scene : Scene) (server : ℕ) → is_usable scene server ≡ true → server < length scene.servers
 usable_within scene server usable = server_there scene server (λ it. nat_lt 0 it.weight) (and_second (is_up scene server) _ usable)

@@ -1,8 +1,8 @@
 -- Sets of servers that a loop fills.
 use Rattle.std.proofs.Common.{◌≡◌, ℕ, ◌+◌, ◌<◌, ◌≤◌, Bool}
 use Rattle.std.proofs.Common.{IsTrue, ◌↔◌, length, ap, sym, subst, arith, inl, inr}
-use Rattle.dispatch_log.specs.declared.setup.Setup.{Setup}
-use Rattle.server_pick.specs.Sets.{IsIn, IsMore}
+use Rattle.log_entries.specs.declared.setup.Setup.{Setup}
+use Rattle.server_pick.specs.Sets.{IsIn, HasOneMore}
 use Rattle.server_pick.proofs.Preferred.{below_cases}
 
 -- a set has those servers below a number that pass a test
@@ -13,7 +13,7 @@ pub filled_none : (passes : ℕ → Type 0) (set : ℕ) → ((server : ℕ) → 
 filled_none passes set none = λ server. ((λ own. absurd (none server own)), (λ both. let h = both.0 in absurd (omega arith)))
 
 -- one server more, where it passes
-pub filled_step : (passes : ℕ → Type 0) (server : ℕ) (wanted : Bool) (set next : ℕ) → (IsTrue wanted ↔ passes server) → IsMore server wanted set next
+pub filled_step : (passes : ℕ → Type 0) (server : ℕ) (wanted : Bool) (set next : ℕ) → (IsTrue wanted ↔ passes server) → HasOneMore server wanted set next
     → IsFilled passes server set → IsFilled passes (server + 1) next
 filled_step passes server wanted set next test more is = λ other. (
   (λ inside. elim ((more other).0 inside) [

@@ -4,10 +4,10 @@ use Rattle.std.proofs.Common.{None, Some, MatchOption, IsTrue, slice_get, ◌↔
 use Rattle.std.specs.Option.{option_map_or}
 use Rattle.std.proofs.Math.Nat.{mul_right_comm, mul-lt-mul_of_pos_right, lt_of_mul-lt-mul_right, le_of_mul-le-mul_right}
 use Rattle.std.proofs.lemmas.Bool.Decides.{nat_tests}
-use Rattle.dispatch_log.specs.declared.setup.ServerSet.{ServerSet}
-use Rattle.dispatch_log.specs.Picks.{weight_of, load, steps_after, IsPick}
-use Rattle.dispatch_log.specs.Scenes.{Scene, is_up, is_usable}
-use Rattle.list_facts.proofs.Both.{and_second}
+use Rattle.log_entries.specs.declared.setup.ServerSet.{ServerSet}
+use Rattle.log_entries.specs.Picks.{weight_of, load, steps_after, IsPick}
+use Rattle.log_entries.specs.Scenes.{Scene, is_up, is_usable}
+use Rattle.base_lists.proofs.Both.{and_second}
 use Rattle.server_pick.specs.Order.{goes_before, beats, better_of}
 
 -- the test of an order by two numbers each

@@ -7,22 +7,22 @@ use Rattle.std.proofs.lemmas.Bool.Decides.{Decides-eqb, nat_tests}
 use Rattle.due_key.specs.declared.key.Key.{Key}
 use Rattle.due_key.specs.Order.{key_cmp}
 use Rattle.due_key.proofs.KeyOrder.{key_cmp_total, key_cmp_exact}
-use Rattle.list_facts.proofs.Orders.{less_from_greater, greater_from_less}
-use Rattle.dispatch_log.specs.declared.queue.Queue.{Queue}
-use Rattle.dispatch_log.specs.declared.queue.Queue.TheVariants.{Backend, Server}
-use Rattle.dispatch_log.specs.declared.row.Phase.{Phase}
-use Rattle.dispatch_log.specs.declared.row.Phase.TheVariants.{Loose, Waiting, Serving, Told}
-use Rattle.dispatch_log.specs.declared.row.Row.{Row}
-use Rattle.dispatch_log.specs.Grants.{CanTake, IsSettled, IsNextTaker}
-use Rattle.dispatch_log.specs.Picks.{weight_of, IsPick}
-use Rattle.dispatch_log.specs.Rows.{Rows, IsRow, phase_waits_in, waits_in, queued}
-use Rattle.dispatch_log.specs.Scenes.{Scene, is_up, is_usable, may_take, may_go_to}
-use Rattle.dispatch_log.proofs.Choices.{goes, queue_own}
+use Rattle.base_lists.proofs.Orders.{less_from_greater, greater_from_less}
+use Rattle.log_entries.specs.declared.queue.Queue.{Queue}
+use Rattle.log_entries.specs.declared.queue.Queue.TheVariants.{Backend, Server}
+use Rattle.log_entries.specs.declared.row.Phase.{Phase}
+use Rattle.log_entries.specs.declared.row.Phase.TheVariants.{Loose, Waiting, Serving, Told}
+use Rattle.log_entries.specs.declared.row.Row.{Row}
+use Rattle.log_entries.specs.Grants.{CanTake, IsSettled, IsNextTaker}
+use Rattle.log_entries.specs.Picks.{weight_of, IsPick}
+use Rattle.log_entries.specs.Rows.{Rows, IsRow, phase_waits_in, waits_in, queued}
+use Rattle.log_entries.specs.Scenes.{Scene, is_up, is_usable, may_take, may_go_to}
+use Rattle.log_entries.proofs.Choices.{goes, queue_own}
 use Rattle.server_pick.specs.declared.heads.Heads.{Heads}
 use Rattle.server_pick.specs.Heads.{head_at, IsLeastIn, IsHead, IsLawfulTake, has_stay, goes_first, queue_of}
 use Rattle.server_pick.specs.Picked.{IsFirstWeightless}
-use Rattle.list_facts.proofs.Both.{and_first, and_second}
-use Rattle.list_facts.proofs.Counts.{some_at, at_some}
+use Rattle.base_lists.proofs.Both.{and_first, and_second}
+use Rattle.base_lists.proofs.Counts.{some_at, at_some}
 use Rattle.server_pick.proofs.Chosen.{pick_same}
 
 -- no key is greater than one that is no greater than a third

@@ -3,12 +3,12 @@ use Rattle.std.specs.Prelude.{◌≡◌, ℕ, nat_lt, Option, None, Some, IsTrue
 use Rattle.std.specs.Ordering.{is_lt}
 use Rattle.due_key.specs.declared.key.Key.{Key}
 use Rattle.due_key.specs.Order.{key_cmp}
-use Rattle.dispatch_log.specs.declared.queue.Queue.{Queue}
-use Rattle.dispatch_log.specs.declared.queue.Queue.TheVariants.{Backend, Server}
-use Rattle.dispatch_log.specs.declared.row.Row.{Row}
-use Rattle.dispatch_log.specs.Grants.{IsLeastOf, IsLawfulGrant}
-use Rattle.dispatch_log.specs.Rows.{Rows, IsRow, IsEmptyQueue, phase_waits_in, queued}
-use Rattle.dispatch_log.specs.Scenes.{Scene, is_up, is_usable}
+use Rattle.log_entries.specs.declared.queue.Queue.{Queue}
+use Rattle.log_entries.specs.declared.queue.Queue.TheVariants.{Backend, Server}
+use Rattle.log_entries.specs.declared.row.Row.{Row}
+use Rattle.log_entries.specs.Grants.{IsLeastOf, IsLawfulGrant}
+use Rattle.log_entries.specs.Rows.{Rows, IsRow, IsEmptyQueue, phase_waits_in, queued}
+use Rattle.log_entries.specs.Scenes.{Scene, is_up, is_usable}
 use Rattle.server_pick.specs.declared.heads.Heads.{Heads}
 
 -- the head of a server's own queue, or of the backend's

@@ -1,7 +1,7 @@
 -- The servers that balancing looks at, and its order of preference.
 use Rattle.std.specs.Prelude.{◌≢◌, ℕ, IsTrue, ◌*◌, nat_lt, ◌==◌, ◌&&◌, ◌||◌, Bool, true, Option, None, Some, if◌then◌else◌}
-use Rattle.dispatch_log.specs.Picks.{weight_of, load, steps_after}
-use Rattle.dispatch_log.specs.Scenes.{Scene, has_room}
+use Rattle.log_entries.specs.Picks.{weight_of, load, steps_after}
+use Rattle.log_entries.specs.Scenes.{Scene, has_room}
 
 -- a usable server with room that isn't the one to avoid
 abbrev pub HasRoomBut : Scene → Option ℕ → ℕ → Type 0

@@ -1,10 +1,10 @@
 -- The results of balancing.
 use Rattle.std.specs.Prelude.{◌≡◌, ℕ, ◌<◌, ◌≤◌, Option, MatchOption, if◌then◌else◌}
-use Rattle.dispatch_log.specs.declared.queue.Queue.TheVariants.{Server, Backend}
-use Rattle.dispatch_log.specs.Placement.{IsDirect, IsJoining, IsTurnedAway}
-use Rattle.dispatch_log.specs.Picks.{weight_of}
-use Rattle.dispatch_log.specs.States.{cursor_after_placing}
-use Rattle.dispatch_log.specs.Scenes.{Scene, is_free}
+use Rattle.log_entries.specs.declared.queue.Queue.TheVariants.{Server, Backend}
+use Rattle.log_entries.specs.Placement.{IsDirect, IsJoining, IsTurnedAway}
+use Rattle.log_entries.specs.Picks.{weight_of}
+use Rattle.log_entries.specs.States.{cursor_after_placing}
+use Rattle.log_entries.specs.Scenes.{Scene, is_free}
 use Rattle.server_pick.specs.declared.placement.Placement.{Placement}
 use Rattle.server_pick.specs.declared.placement.Placement.TheVariants.{Slot, OwnQueue, BackendQueue, Nowhere}
 

@@ -11,5 +11,5 @@ abbrev pub IsIn : ℕ → ℕ → Type 0
 IsIn marks server = IsTrue (has marks server)
 
 -- the second set has one more server where it is wanted, otherwise the same
-abbrev pub IsMore : ℕ → Bool → ℕ → ℕ → Type 0
-IsMore server wanted old new = (other : ℕ) → IsIn new other ↔ (IsIn old other ⊎ (IsTrue wanted × (other ≡ server)))
+abbrev pub HasOneMore : ℕ → Bool → ℕ → ℕ → Type 0
+HasOneMore server wanted old new = (other : ℕ) → IsIn new other ↔ (IsIn old other ⊎ (IsTrue wanted × (other ≡ server)))

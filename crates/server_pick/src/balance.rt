@@ -1,8 +1,8 @@
 ghost use Rattle.std.specs.Prelude.{◌≡◌, ℕ, ◌<◌, ◌↔◌, IsTrue, IfSome, MatchOption, length};
-ghost use Rattle.dispatch_log.specs.Picks.{IsPick};
-ghost use Rattle.dispatch_log.specs.Placement.{IsCandidate};
-ghost use Rattle.dispatch_log.specs.Scenes.{is_usable};
-ghost use Rattle.slot_ledger.specs.Ledgers.{scene_of};
+ghost use Rattle.log_entries.specs.Picks.{IsPick};
+ghost use Rattle.log_entries.specs.Placement.{IsCandidate};
+ghost use Rattle.log_entries.specs.Scenes.{is_usable};
+ghost use Rattle.slot_ledger.specs.Ledgers.{scene_in};
 ghost use Rattle.server_pick.specs.Order.{HasRoomBut, better_of, beats, goes_before};
 ghost use Rattle.server_pick.specs.Picked.{IsMoved};
 ghost use Rattle.server_pick.specs.Sets.{has, IsIn};
@@ -15,7 +15,7 @@ use slot_ledger::Ledger;
 /// Returns the servers that balancing may choose from: the usable ones with room, and the one to
 /// avoid only where it is the only one.
 pub fn candidates<H: Drop>(ledger: &Ledger<H>, avoid: Option<usize>) -> Set64
-    ensures { (server : ℕ) → IsIn result server ↔ IsCandidate (scene_of ledger.now) avoid server }
+    ensures { (server : ℕ) → IsIn result server ↔ IsCandidate (scene_in ledger.now) avoid server }
 {
     let others = with_room(ledger, avoid);
     match avoid {
@@ -26,8 +26,8 @@ pub fn candidates<H: Drop>(ledger: &Ledger<H>, avoid: Option<usize>) -> Set64
 
 /// Returns the server of a set that balancing picks, and moves the cursor to it; `None` only for the empty set.
 pub fn pick<H: Drop>(ledger: &Ledger<H>, cursor: &mut Cursor, among: &Set64) -> Option<usize>
-    requires usable { (server : ℕ) → IsIn among.now server → IsTrue (is_usable (scene_of ledger.now) server) }
-    ensures picked { MatchOption result ((server : ℕ) → IsIn among.now server → ⊥) (λ server. IsPick (scene_of ledger.now) cursor.old (IsIn among.now) server) }
+    requires usable { (server : ℕ) → IsIn among.now server → IsTrue (is_usable (scene_in ledger.now) server) }
+    ensures picked { MatchOption result ((server : ℕ) → IsIn among.now server → ⊥) (λ server. IsPick (scene_in ledger.now) cursor.old (IsIn among.now) server) }
     ensures moved { IsMoved cursor.old cursor.new result }
 {
     if among.is_empty() {
@@ -42,7 +42,7 @@ pub fn pick<H: Drop>(ledger: &Ledger<H>, cursor: &mut Cursor, among: &Set64) -> 
 
 /// Returns the usable servers with room, without the one to avoid.
 fn with_room<H: Drop>(ledger: &Ledger<H>, avoid: Option<usize>) -> Set64
-    ensures { (server : ℕ) → IsIn result server ↔ HasRoomBut (scene_of ledger.now) avoid server }
+    ensures { (server : ℕ) → IsIn result server ↔ HasRoomBut (scene_in ledger.now) avoid server }
 {
     let mut set = Set64::new();
     'filling: for server in 0..ledger.setup().servers.len() {
@@ -53,15 +53,15 @@ fn with_room<H: Drop>(ledger: &Ledger<H>, avoid: Option<usize>) -> Set64
 
 /// Says whether a server is usable, has room and isn't the one to avoid.
 fn has_room_but<H: Drop>(ledger: &Ledger<H>, avoid: Option<usize>, server: usize) -> bool
-    ensures { IsTrue result ↔ HasRoomBut (scene_of ledger.now) avoid server }
+    ensures { IsTrue result ↔ HasRoomBut (scene_in ledger.now) avoid server }
 {
     has_room(ledger, server) && avoid != Some(server)
 }
 
 /// Returns the server of a set that goes before all others.
 fn best_of<H: Drop>(ledger: &Ledger<H>, cursor: Cursor, among: &Set64) -> Option<usize>
-    requires usable { (server : ℕ) → IsIn among.now server → IsTrue (is_usable (scene_of ledger.now) server) }
-    ensures { MatchOption result ((server : ℕ) → IsIn among.now server → ⊥) (λ server. IsPick (scene_of ledger.now) cursor (IsIn among.now) server) }
+    requires usable { (server : ℕ) → IsIn among.now server → IsTrue (is_usable (scene_in ledger.now) server) }
+    ensures { MatchOption result ((server : ℕ) → IsIn among.now server → ⊥) (λ server. IsPick (scene_in ledger.now) cursor (IsIn among.now) server) }
 {
     let mut best = None;
     'comparing: for server in 0..ledger.setup().servers.len() {
@@ -80,7 +80,7 @@ fn better_of<H: Drop>(
 ) -> Option<usize>
     requires server { server < length ledger.now.setup.servers }
     requires best { IfSome best (λ other. other < length ledger.now.setup.servers) }
-    ensures { result ≡ better_of (scene_of ledger.now) cursor best (has among.now server) server }
+    ensures { result ≡ better_of (scene_in ledger.now) cursor best (has among.now server) server }
 {
     if among.contains(server) && beats(ledger, cursor, server, best) {
         Some(server)
@@ -93,7 +93,7 @@ fn better_of<H: Drop>(
 fn beats<H: Drop>(ledger: &Ledger<H>, cursor: Cursor, server: usize, best: Option<usize>) -> bool
     requires server { server < length ledger.now.setup.servers }
     requires best { IfSome best (λ other. other < length ledger.now.setup.servers) }
-    ensures { result ≡ beats (scene_of ledger.now) cursor server best }
+    ensures { result ≡ beats (scene_in ledger.now) cursor server best }
 {
     match best {
         None => true,
@@ -106,7 +106,7 @@ fn beats<H: Drop>(ledger: &Ledger<H>, cursor: Cursor, server: usize, best: Optio
 fn goes_before<H: Drop>(ledger: &Ledger<H>, cursor: Cursor, server: usize, other: usize) -> bool
     requires server { server < length ledger.now.setup.servers }
     requires other { other < length ledger.now.setup.servers }
-    ensures { result ≡ goes_before (scene_of ledger.now) cursor server other }
+    ensures { result ≡ goes_before (scene_in ledger.now) cursor server other }
 {
     let own = load(ledger, server) * weight(ledger, other);
     let its = load(ledger, other) * weight(ledger, server);

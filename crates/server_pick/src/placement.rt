@@ -1,6 +1,6 @@
 ghost use Rattle.std.specs.Prelude.{◌≡◌, ℕ, ◌↔◌, IsTrue, true, false};
-ghost use Rattle.dispatch_log.specs.Scenes.{working_pin, is_usable, is_free};
-ghost use Rattle.slot_ledger.specs.Ledgers.{scene_of};
+ghost use Rattle.log_entries.specs.Scenes.{working_pin, is_usable, is_free};
+ghost use Rattle.slot_ledger.specs.Ledgers.{scene_in};
 ghost use Rattle.server_pick.specs.Picked.{IsPlacement, cursor_placed, placed_on};
 
 use crate::balance::{candidates, pick};
@@ -29,7 +29,7 @@ pub fn place<H: Drop>(
     pin: Option<usize>,
     avoid: Option<usize>,
 ) -> Placement
-    ensures placed { IsPlacement (scene_of ledger.now) cursor.old pin avoid result }
+    ensures placed { IsPlacement (scene_in ledger.now) cursor.old pin avoid result }
     ensures cursor { cursor.new ≡ cursor_placed pin result cursor.old }
 {
     if let Some(server) = working_pin(ledger, pin) {
@@ -44,7 +44,7 @@ pub fn place<H: Drop>(
 
 /// Returns the pin, where its server takes the request.
 fn working_pin<H: Drop>(ledger: &Ledger<H>, pin: Option<usize>) -> Option<usize>
-    ensures { result ≡ working_pin (scene_of ledger.now) pin }
+    ensures { result ≡ working_pin (scene_in ledger.now) pin }
 {
     match pin {
         Some(server) if takes_pinned(ledger, server) => Some(server),
@@ -54,7 +54,7 @@ fn working_pin<H: Drop>(ledger: &Ledger<H>, pin: Option<usize>) -> Option<usize>
 
 /// Returns a slot of a server where one is free, otherwise its queue.
 fn put_on<H: Drop>(ledger: &Ledger<H>, server: usize) -> Placement
-    ensures { result ≡ placed_on (scene_of ledger.now) server }
+    ensures { result ≡ placed_on (scene_in ledger.now) server }
 {
     if is_free(ledger, server) {
         Placement::Slot(server)
@@ -65,8 +65,8 @@ fn put_on<H: Drop>(ledger: &Ledger<H>, server: usize) -> Placement
 
 /// Says whether some server is usable.
 fn some_usable<H: Drop>(ledger: &Ledger<H>) -> bool
-    ensures yes { result ≡ true → (server : ℕ) × IsTrue (is_usable (scene_of ledger.now) server) }
-    ensures no { result ≡ false → (server : ℕ) → IsTrue (is_usable (scene_of ledger.now) server) → ⊥ }
+    ensures yes { result ≡ true → (server : ℕ) × IsTrue (is_usable (scene_in ledger.now) server) }
+    ensures no { result ≡ false → (server : ℕ) → IsTrue (is_usable (scene_in ledger.now) server) → ⊥ }
 {
     'looking: for server in 0..ledger.setup().servers.len() {
         if is_usable(ledger, server) {

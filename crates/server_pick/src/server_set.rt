@@ -18,7 +18,7 @@ impl Model for Set64 {
 }
 
 impl Set64 {
-    ghost use Rattle.server_pick.specs.Sets.{has, IsMore};
+    ghost use Rattle.server_pick.specs.Sets.{has, HasOneMore};
 
     /// Makes an empty set.
     pub fn new() -> Set64
@@ -56,7 +56,7 @@ impl Set64 {
     /// Adds a server where it is wanted.
     pub(crate) fn insert_if(&mut self, server: usize, wanted: bool)
         requires { server < 64 }
-        ensures { IsMore server wanted self.old self.new }
+        ensures { HasOneMore server wanted self.old self.new }
     {
         if wanted {
             self.insert(server);

@@ -1,17 +1,17 @@
 ghost use Rattle.std.specs.Prelude.{◌≡◌, ◌≤◌, ◌==◌, ◌||◌, nat_lt, All, IsTrue, length};
-ghost use Rattle.dispatch_log.specs.declared.queue.Queue.TheVariants.{Server};
-ghost use Rattle.dispatch_log.specs.Rows.{queued};
-ghost use Rattle.dispatch_log.specs.Setups.{is_within};
-ghost use Rattle.dispatch_log.specs.Picks.{weight_of, load};
-ghost use Rattle.dispatch_log.specs.Scenes.{of_server, limit_of, is_open, serves_beside, holds_beside, is_usable, is_free, has_room, takes_pinned};
-ghost use Rattle.slot_ledger.specs.Ledgers.{scene_of};
+ghost use Rattle.log_entries.specs.declared.queue.Queue.TheVariants.{Server};
+ghost use Rattle.log_entries.specs.Rows.{queued};
+ghost use Rattle.log_entries.specs.Setups.{is_within};
+ghost use Rattle.log_entries.specs.Picks.{weight_of, load};
+ghost use Rattle.log_entries.specs.Scenes.{of_server, limit_of, is_open, serves_beside, holds_beside, is_usable, is_free, has_room, takes_pinned};
+ghost use Rattle.slot_ledger.specs.Ledgers.{scene_in};
 
-use dispatch_log::{Intake, Queue, ServerSet};
+use log_entries::{Intake, Queue, ServerSet};
 use slot_ledger::Ledger;
 
 /// Returns the weight of a server; 0 where no server has the number.
 pub(crate) fn weight<H: Drop>(ledger: &Ledger<H>, server: usize) -> u64
-    ensures weight { result ≡ weight_of (scene_of ledger.now) server }
+    ensures weight { result ≡ weight_of (scene_in ledger.now) server }
     ensures limit { result ≤ 256 }
 {
     match settings(ledger).get(server) {
@@ -22,21 +22,21 @@ pub(crate) fn weight<H: Drop>(ledger: &Ledger<H>, server: usize) -> u64
 
 /// Returns the number of requests that a server serves and that are in its own queue.
 pub(crate) fn load<H: Drop>(ledger: &Ledger<H>, server: usize) -> u64
-    ensures load { result ≡ load (scene_of ledger.now) server }
+    ensures load { result ≡ load (scene_in ledger.now) server }
     ensures limit { result ≤ 8192 }
 {
     ledger.served(server) as u64 + ledger.queued(Queue::Server(server)) as u64
 }
 
 pub(crate) fn is_usable<H: Drop>(ledger: &Ledger<H>, server: usize) -> bool
-    ensures { result ≡ is_usable (scene_of ledger.now) server }
+    ensures { result ≡ is_usable (scene_in ledger.now) server }
 {
     ledger.up(server) && takes_part(ledger, server)
 }
 
 /// Says whether balancing gives a server any requests while it is up.
 fn takes_part<H: Drop>(ledger: &Ledger<H>, server: usize) -> bool
-    ensures { result ≡ of_server (scene_of ledger.now) server (λ it. nat_lt 0 it.weight) }
+    ensures { result ≡ of_server (scene_in ledger.now) server (λ it. nat_lt 0 it.weight) }
 {
     match settings(ledger).get(server) {
         None => false,
@@ -45,7 +45,7 @@ fn takes_part<H: Drop>(ledger: &Ledger<H>, server: usize) -> bool
 }
 
 pub(crate) fn is_free<H: Drop>(ledger: &Ledger<H>, server: usize) -> bool
-    ensures { result ≡ is_free (scene_of ledger.now) server }
+    ensures { result ≡ is_free (scene_in ledger.now) server }
 {
     match settings(ledger).get(server) {
         None => false,
@@ -54,7 +54,7 @@ pub(crate) fn is_free<H: Drop>(ledger: &Ledger<H>, server: usize) -> bool
 }
 
 pub(crate) fn has_room<H: Drop>(ledger: &Ledger<H>, server: usize) -> bool
-    ensures room { result ≡ has_room (scene_of ledger.now) server }
+    ensures room { result ≡ has_room (scene_in ledger.now) server }
     ensures few { length ledger.now.setup.servers ≤ 64 }
 {
     has_places(ledger, server) && is_usable(ledger, server)
@@ -62,7 +62,7 @@ pub(crate) fn has_room<H: Drop>(ledger: &Ledger<H>, server: usize) -> bool
 
 /// Says whether a server serves and queues fewer requests than balancing may give it.
 fn has_places<H: Drop>(ledger: &Ledger<H>, server: usize) -> bool
-    ensures places { result ≡ of_server (scene_of ledger.now) server (λ it. holds_beside (limit_of (scene_of ledger.now) server) it.maxqueue (load (scene_of ledger.now) server)) }
+    ensures places { result ≡ of_server (scene_in ledger.now) server (λ it. holds_beside (limit_of (scene_in ledger.now) server) it.maxqueue (load (scene_in ledger.now) server)) }
     ensures few { length ledger.now.setup.servers ≤ 64 }
 {
     match settings(ledger).get(server) {
@@ -104,7 +104,7 @@ fn is_open(limit: Intake) -> bool
 }
 
 pub(crate) fn takes_pinned<H: Drop>(ledger: &Ledger<H>, server: usize) -> bool
-    ensures { result ≡ takes_pinned (scene_of ledger.now) server }
+    ensures { result ≡ takes_pinned (scene_in ledger.now) server }
 {
     ledger.up(server)
         && is_open(ledger.limit(server))
@@ -113,7 +113,7 @@ pub(crate) fn takes_pinned<H: Drop>(ledger: &Ledger<H>, server: usize) -> bool
 
 /// Says whether a server's queue takes a request that is pinned to it.
 fn queues_pinned<H: Drop>(ledger: &Ledger<H>, server: usize) -> bool
-    ensures { result ≡ of_server (scene_of ledger.now) server (λ it. (it.maxqueue == 0) || nat_lt (queued (Server server) (scene_of ledger.now).rows) it.maxqueue) }
+    ensures { result ≡ of_server (scene_in ledger.now) server (λ it. (it.maxqueue == 0) || nat_lt (queued (Server server) (scene_in ledger.now).rows) it.maxqueue) }
 {
     match settings(ledger).get(server) {
         None => false,

@@ -6,18 +6,18 @@ use Rattle.std.proofs.lemmas.List.{map-set, length-map}
 use Rattle.std.proofs.lemmas.List.Sums.{count_by-le-length}
 use Rattle.std.proofs.lemmas.Option.{slice_get-map}
 use Rattle.std.proofs.lemmas.Bool.Decides.{Decides-eqb}
-use Rattle.dispatch_log.specs.declared.queue.Queue.{Queue}
-use Rattle.dispatch_log.specs.declared.queue.Queue.TheVariants.{Backend, Server}
-use Rattle.dispatch_log.specs.declared.row.Phase.{Phase}
-use Rattle.dispatch_log.specs.declared.row.Phase.TheVariants.{Loose, Waiting}
-use Rattle.dispatch_log.specs.declared.row.Row.{Row}
-use Rattle.dispatch_log.specs.declared.setup.Setup.{Setup}
-use Rattle.dispatch_log.specs.Rows.{Rows, phase_waits_in, phase_is_served_by, waits_in, is_served_by, served, queued}
-use Rattle.dispatch_log.specs.Setups.{IsSound}
-use Rattle.list_facts.proofs.Counts.{count-map}
-use Rattle.list_facts.proofs.Places.{tally, count-set}
-use Rattle.list_facts.proofs.Replicated.{count-replicate, index-replicate}
-use Rattle.slot_ledger.specs.declared.places.Slot.{Slot}
+use Rattle.log_entries.specs.declared.queue.Queue.{Queue}
+use Rattle.log_entries.specs.declared.queue.Queue.TheVariants.{Backend, Server}
+use Rattle.log_entries.specs.declared.row.Phase.{Phase}
+use Rattle.log_entries.specs.declared.row.Phase.TheVariants.{Loose, Waiting}
+use Rattle.log_entries.specs.declared.row.Row.{Row}
+use Rattle.log_entries.specs.declared.setup.Setup.{Setup}
+use Rattle.log_entries.specs.Rows.{Rows, phase_waits_in, phase_is_served_by, waits_in, is_served_by, served, queued}
+use Rattle.log_entries.specs.Setups.{IsSound}
+use Rattle.base_lists.proofs.Counts.{count-map}
+use Rattle.base_lists.proofs.Places.{tally, count-set}
+use Rattle.base_lists.proofs.Replicated.{count-replicate, index-replicate}
+use Rattle.slot_ledger.specs.declared.places.Cell.{Cell}
 use Rattle.slot_ledger.specs.Counts.{Counted, AreCounts, one_if, queued_at, IsPassed, Includes, AreAtMost}
 use Rattle.slot_ledger.specs.Ledgers.{IsLedger}
 use Rattle.slot_ledger.specs.Slots.{rows_in, StandsIn, with_slot}
@@ -103,15 +103,15 @@ own_included inside counts phase queue since server same is waits one =
 
 none_counted : (H : Type 0) (test : Option Row → Bool) (n : ℕ) → test None ≡ false → count_by test (rows_in {H = H} (replicate n None)) ≡ 0
 none_counted H test n none =
-    let row : Option (Slot H) → Option Row = option_map (λ slot. slot.row) in
+    let row : Option (Cell H) → Option Row = option_map (λ slot. slot.row) in
     count-map test row (replicate n None) ∙ count-replicate (λ cell. test (row cell)) n None none
 
 module _ {H : Type 0} where
   -- a ledger without a request
-  pub ledger_new : (setup : Setup) (n : ℕ) (counts : Counted) (slots : List (Option (Slot H))) → IsSound setup → slots ≡ replicate setup.places None
+  pub ledger_new : (setup : Setup) (n : ℕ) (counts : Counted) (slots : List (Option (Cell H))) → IsSound setup → slots ≡ replicate setup.places None
       → counts ≡ record { served = replicate n 0; own = replicate n 0; backend = 0 } → n ≡ length setup.servers → IsLedger setup slots counts
   ledger_new setup n counts slots sound empty none many =
-      subst (λ (l : List (Option (Slot H))). IsLedger {H = H} setup l counts) (sym empty)
+      subst (λ (l : List (Option (Cell H))). IsLedger {H = H} setup l counts) (sym empty)
       (subst (λ (c : Counted). IsLedger {H = H} setup (replicate setup.places None) c)
       (sym (none ∙ ap (λ k. record { served = replicate k 0; own = replicate k 0; backend = 0 }) many)) (record {
         sound = sound;
@@ -133,17 +133,17 @@ module _ {H : Type 0} where
       by_queue (Server server) = index-replicate (length setup.servers) server 0 ∙ sym (none_counted H (waits_in (Server server)) setup.places refl)
 
   -- the row of a slot
-  abbrev pub row_in : Option (Slot H) → Option Row
+  abbrev pub row_in : Option (Cell H) → Option Row
   row_in cell = option_map (λ slot. slot.row) cell
 
   -- a ledger after one slot changed
-  pub ledger_passed : (setup : Setup) (slots next : List (Option (Slot H))) (counts now : Counted) (p : ℕ) (old new : Option (Slot H)) (before after : Phase)
+  pub ledger_passed : (setup : Setup) (slots next : List (Option (Cell H))) (counts now : Counted) (p : ℕ) (old new : Option (Cell H)) (before after : Phase)
       → IsLedger setup slots counts → slice_get slots p ≡ Some old
       → phase_in (row_in old) ≡ before → phase_in (row_in new) ≡ after
       → next ≡ set slots p new → IsPassed before after counts now → length now.served ≡ length counts.served → length now.own ≡ length counts.own
       → IsLedger setup next now
   ledger_passed setup slots next counts now p old new before after is stood was becomes written passed served_kept own_kept =
-      subst (λ (l : List (Option (Slot H))). IsLedger setup l now) (sym written) (record {
+      subst (λ (l : List (Option (Cell H))). IsLedger setup l now) (sym written) (record {
         sound = is.sound;
         places = length-set slots p new ∙ is.places;
         counted =
@@ -155,29 +155,29 @@ module _ {H : Type 0} where
         own = own_kept ∙ is.own;
       })
 
-  pub ledger_few : (setup : Setup) (slots : List (Option (Slot H))) (counts : Counted) → IsLedger setup slots counts → AreAtMost 4096 counts
+  pub ledger_few : (setup : Setup) (slots : List (Option (Cell H))) (counts : Counted) → IsLedger setup slots counts → AreAtMost 4096 counts
   ledger_few setup slots counts is = counts_few counts (rows_in slots) 4096 is.counted (let l = length-map slots row_in in let p = is.places in
       let m = is.sound.places in omega arith)
 
-  pub ledger_includes : (setup : Setup) (slots : List (Option (Slot H))) (counts : Counted) (p : ℕ) (row : Row) → IsLedger setup slots counts
-      → (s : Slot H) × StandsIn slots p s × (s.row ≡ row) → Includes row.phase counts
+  pub ledger_includes : (setup : Setup) (slots : List (Option (Cell H))) (counts : Counted) (p : ℕ) (row : Row) → IsLedger setup slots counts
+      → (s : Cell H) × StandsIn slots p s × (s.row ≡ row) → Includes row.phase counts
   ledger_includes setup slots counts p row is there =
       counts_include counts (rows_in slots) p row is.counted (slice_get-map row_in slots p ∙ ap (option_map row_in) there.1
       ∙ ap (λ (r : Row). Some (Some r)) there.2)
 
   -- a ledger after a request changed and stayed in its phase
-  pub ledger_same : (change : Slot H → Slot H) (setup : Setup) (slots next : List (Option (Slot H))) (counts : Counted) (p : ℕ) → IsLedger setup slots counts
-      → (s : Slot H) × StandsIn slots p s
-      → ((s : Slot H) → (change s).row.phase ≡ s.row.phase) → next ≡ with_slot change slots p → IsLedger setup next counts
+  pub ledger_same : (change : Cell H → Cell H) (setup : Setup) (slots next : List (Option (Cell H))) (counts : Counted) (p : ℕ) → IsLedger setup slots counts
+      → (s : Cell H) × StandsIn slots p s
+      → ((s : Cell H) → (change s).row.phase ≡ s.row.phase) → next ≡ with_slot change slots p → IsLedger setup next counts
   ledger_same change setup slots next counts p is there stays written =
       ledger_passed setup slots next counts counts p (Some there.0) (Some (change there.0)) there.0.row.phase there.0.row.phase is there.1 refl (stays there.0)
       (written ∙ with_slot_at change slots p there.0 there.1)
       (record { serving = λ server. refl; waiting = λ queue. refl }) refl refl
 
   -- a ledger after a request went into another phase
-  pub ledger_changed : (change : Slot H → Slot H) (after : Phase) (setup : Setup) (slots next : List (Option (Slot H))) (counts now : Counted) (p : ℕ)
-      (row : Row) → IsLedger setup slots counts → (s : Slot H) × StandsIn slots p s × (s.row ≡ row)
-      → ((s : Slot H) → (change s).row.phase ≡ after) → next ≡ with_slot change slots p → IsPassed row.phase after counts now
+  pub ledger_changed : (change : Cell H → Cell H) (after : Phase) (setup : Setup) (slots next : List (Option (Cell H))) (counts now : Counted) (p : ℕ)
+      (row : Row) → IsLedger setup slots counts → (s : Cell H) × StandsIn slots p s × (s.row ≡ row)
+      → ((s : Cell H) → (change s).row.phase ≡ after) → next ≡ with_slot change slots p → IsPassed row.phase after counts now
       → length now.served ≡ length counts.served → length now.own ≡ length counts.own → IsLedger setup next now
   ledger_changed change after setup slots next counts now p row is there goes written passed served_kept own_kept =
       ledger_passed setup slots next counts now p (Some there.0) (Some (change there.0)) row.phase after is there.1 (ap (λ (r : Row). r.phase) there.2)

@@ -5,12 +5,12 @@ use Rattle.std.proofs.Math.ListN.{set, length-set}
 use Rattle.std.proofs.lemmas.Option.{same_Some, slice_get_within}
 use Rattle.std.proofs.lemmas.List.Elements.{All-contains, Contains-append_left, Contains-append_right}
 use Rattle.std.proofs.lemmas.List.Elements.{Contains-append_cases, Contains-push, Contains-push_cases}
-use Rattle.list_facts.proofs.Members.{Contains-one}
-use Rattle.list_facts.proofs.Places.{get-set_same, get-set_other, get-set_cases, count-set, same_or_other}
-use Rattle.list_facts.proofs.Pushed.{get-push_cases, get-push_old, get-push_new}
-use Rattle.list_facts.proofs.Never.{none_some}
-use Rattle.slot_ledger.specs.declared.places.Slot.{Slot}
-use Rattle.slot_ledger.specs.Places.{IsKept}
+use Rattle.base_lists.proofs.Members.{Contains-one}
+use Rattle.base_lists.proofs.Places.{get-set_same, get-set_other, get-set_cases, count-set, same_or_other}
+use Rattle.base_lists.proofs.Pushed.{get-push_cases, get-push_old, get-push_new}
+use Rattle.base_lists.proofs.Never.{none_some}
+use Rattle.slot_ledger.specs.declared.places.Cell.{Cell}
+use Rattle.slot_ledger.specs.Places.{PlacesAreKept}
 use Rattle.slot_ledger.specs.Slots.{StandsIn, HasTicketAt, AreBelow}
 use Rattle.slot_ledger.specs.Tickets.{Indexed, Removes}
 
@@ -43,12 +43,12 @@ module _ (ticket : ℕ) (old new : List (ℕ × ℕ)) where
       omega arith
 
 module _ {H : Type 0} where
-  free_not_taken : {P : Type 0} (slots : List (Option (Slot H))) (p : ℕ) (s : Slot H) → slice_get slots p ≡ Some None → StandsIn slots p s → P
+  free_not_taken : {P : Type 0} (slots : List (Option (Cell H))) (p : ℕ) (s : Cell H) → slice_get slots p ≡ Some None → StandsIn slots p s → P
   free_not_taken slots p s free stands = let e : Some None ≡ Some (Some s) = sym free ∙ stands in none_some (same_Some None (Some s) e)
 
   -- while a row stands somewhere, the list of free places has room for its place
-  pub vacant_room : (slots : List (Option (Slot H))) (vacant : List ℕ) (capacity : ℕ) (index : Indexed) (p : ℕ) (s : Slot H)
-      → IsKept slots vacant capacity index → StandsIn slots p s → length vacant < capacity
+  pub vacant_room : (slots : List (Option (Cell H))) (vacant : List ℕ) (capacity : ℕ) (index : Indexed) (p : ℕ) (s : Cell H)
+      → PlacesAreKept slots vacant capacity index → StandsIn slots p s → length vacant < capacity
   vacant_room slots vacant capacity index p s is stands =
       let count : count_by is_some (set slots p None) + 1 ≡ count_by is_some slots + 0 = count-set is_some slots p (Some s) None stands in
       let all = is.all in
@@ -56,8 +56,8 @@ module _ {H : Type 0} where
       omega arith
 
   -- another row under the same ticket
-  pub kept_change : (slots : List (Option (Slot H))) (vacant : List ℕ) (capacity : ℕ) (index : Indexed) (p : ℕ) (s t : Slot H)
-      → IsKept slots vacant capacity index → StandsIn slots p s → t.row.key.ticket ≡ s.row.key.ticket → IsKept (set slots p (Some t)) vacant capacity index
+  pub kept_change : (slots : List (Option (Cell H))) (vacant : List ℕ) (capacity : ℕ) (index : Indexed) (p : ℕ) (s t : Cell H)
+      → PlacesAreKept slots vacant capacity index → StandsIn slots p s → t.row.key.ticket ≡ s.row.key.ticket → PlacesAreKept (set slots p (Some t)) vacant capacity index
   kept_change slots vacant capacity index p s t is stands same = record {
     free = λ at q e. elsewhere q (is.free at q e);
     once = is.once;
@@ -72,7 +72,7 @@ module _ {H : Type 0} where
         elim (get-set_cases slots p q (Some s) (Some t) (Some u) stands there) [
           | inl e ↦ let tu : t ≡ u = same_Some t u e.1 in
               subst (λ n. Contains index.pairs (n, q)) (sym same
-              ∙ ap (λ (x : Slot H). x.row.key.ticket) tu) (subst (λ n. Contains index.pairs (s.row.key.ticket, n)) (sym e.0) (is.complete p s stands))
+              ∙ ap (λ (x : Cell H). x.row.key.ticket) tu) (subst (λ n. Contains index.pairs (s.row.key.ticket, n)) (sym e.0) (is.complete p s stands))
           | inr e ↦ is.complete q u e.1
         ];
     own = λ q r u v a b e.
@@ -89,10 +89,10 @@ module _ {H : Type 0} where
       elsewhere : (q : ℕ) → slice_get slots q ≡ Some None → slice_get (set slots p (Some t)) q ≡ Some None
       elsewhere q free = get-set_other slots p q (Some t) (λ e. free_not_taken slots p s (subst (λ n. slice_get slots n ≡ Some None) e free) stands) ∙ free
 
-      before : (q : ℕ) (u : Slot H) → StandsIn (set slots p (Some t)) q u → (w : Slot H) × StandsIn slots q w × (w.row.key.ticket ≡ u.row.key.ticket)
+      before : (q : ℕ) (u : Cell H) → StandsIn (set slots p (Some t)) q u → (w : Cell H) × StandsIn slots q w × (w.row.key.ticket ≡ u.row.key.ticket)
       before q u there =
           elim (get-set_cases slots p q (Some s) (Some t) (Some u) stands there) [
-            | inl e ↦ (s, subst (λ n. StandsIn slots n s) (sym e.0) stands, sym same ∙ ap (λ (x : Slot H). x.row.key.ticket) (same_Some t u e.1))
+            | inl e ↦ (s, subst (λ n. StandsIn slots n s) (sym e.0) stands, sym same ∙ ap (λ (x : Cell H). x.row.key.ticket) (same_Some t u e.1))
             | inr e ↦ (u, e.1, refl)
           ]
 
@@ -104,16 +104,16 @@ module _ {H : Type 0} where
                   t,
                   subst (λ n. StandsIn (set slots p (Some t)) n t) (sym e) (get-set_same slots p (Some s) (Some t) stands),
                   same
-                      ∙ ap (λ (x : Slot H). x.row.key.ticket) (sym own) ∙ has.2,
+                      ∙ ap (λ (x : Cell H). x.row.key.ticket) (sym own) ∙ has.2,
                 )
             | inr e ↦ (has.0, get-set_other slots p q (Some t) e ∙ has.1, has.2)
           ]
 
   -- a new row, under the highest ticket, at the free place that was the last of the list
-  pub kept_admit : (slots : List (Option (Slot H))) (vacant rest : List ℕ) (capacity now : ℕ) (index new : Indexed) (p : ℕ) (t : Slot H)
-      → IsKept slots vacant capacity index → vacant ≡ rest ++ p ∷ [] → now ≡ capacity → AreBelow t.row.key.ticket slots
+  pub kept_admit : (slots : List (Option (Cell H))) (vacant rest : List ℕ) (capacity now : ℕ) (index new : Indexed) (p : ℕ) (t : Cell H)
+      → PlacesAreKept slots vacant capacity index → vacant ≡ rest ++ p ∷ [] → now ≡ capacity → AreBelow t.row.key.ticket slots
       → new.pairs ≡ index.pairs ++ (t.row.key.ticket, p) ∷ [] → new.room ≡ index.room
-      → IsKept (set slots p (Some t)) rest now new
+      → PlacesAreKept (set slots p (Some t)) rest now new
   kept_admit slots vacant rest capacity now index new p t is parts kept below pushed room = record {
     free = λ at q e. get-set_other slots p q (Some t) (not_mine at q e) ∙ is.free at q (old at q e);
     once = λ at other q a b. is.once at other q (old at q a) (old other q b);
@@ -140,7 +140,7 @@ module _ {H : Type 0} where
         ];
     complete = λ q u there.
         elim (get-set_cases slots p q None (Some t) (Some u) free there) [
-          | inl e ↦ subst (λ (x : Slot H). Contains new.pairs (x.row.key.ticket, q)) (same_Some t u e.1)
+          | inl e ↦ subst (λ (x : Cell H). Contains new.pairs (x.row.key.ticket, q)) (same_Some t u e.1)
               (subst (λ n. Contains new.pairs (t.row.key.ticket, n)) (sym e.0) mine)
           | inr e ↦ subst (λ (l : List (ℕ × ℕ)). Contains l (u.row.key.ticket, q)) (sym pushed)
               (Contains-append_left index.pairs ((t.row.key.ticket, p) ∷ []) (u.row.key.ticket, q) (is.complete q u e.1))
@@ -149,10 +149,10 @@ module _ {H : Type 0} where
         elim (get-set_cases slots p q None (Some t) (Some u) free a) [
           | inl x ↦ elim (get-set_cases slots p r None (Some t) (Some v) free b) [
             | inl y ↦ x.0 ∙ sym y.0
-            | inr y ↦ absurd (older r v y.1 (ap (λ (w : Slot H). w.row.key.ticket) (same_Some t u x.1) ∙ e))
+            | inr y ↦ absurd (older r v y.1 (ap (λ (w : Cell H). w.row.key.ticket) (same_Some t u x.1) ∙ e))
           ]
           | inr x ↦ elim (get-set_cases slots p r None (Some t) (Some v) free b) [
-            | inl y ↦ absurd (older q u x.1 (ap (λ (w : Slot H). w.row.key.ticket) (same_Some t v y.1) ∙ sym e))
+            | inl y ↦ absurd (older q u x.1 (ap (λ (w : Cell H). w.row.key.ticket) (same_Some t v y.1) ∙ sym e))
             | inr y ↦ is.own q r u v x.1 y.1 e
           ]
         ];
@@ -182,14 +182,14 @@ module _ {H : Type 0} where
       mine : Contains new.pairs (t.row.key.ticket, p)
       mine = subst (λ (l : List (ℕ × ℕ)). Contains l (t.row.key.ticket, p)) (sym pushed) (Contains-push index.pairs (t.row.key.ticket, p))
 
-      older : (k : ℕ) (u : Slot H) → StandsIn slots k u → t.row.key.ticket ≢ u.row.key.ticket
+      older : (k : ℕ) (u : Cell H) → StandsIn slots k u → t.row.key.ticket ≢ u.row.key.ticket
       older k u there e = let h : u.row.key.ticket < t.row.key.ticket = below k u there in absurd (omega arith)
 
   -- a row goes, and its place is free again
-  pub kept_end : (slots : List (Option (Slot H))) (vacant more : List ℕ) (capacity now : ℕ) (index new : Indexed) (p : ℕ) (s : Slot H)
-      → IsKept slots vacant capacity index → StandsIn slots p s → more ≡ vacant ++ p ∷ [] → now ≡ capacity
+  pub kept_end : (slots : List (Option (Cell H))) (vacant more : List ℕ) (capacity now : ℕ) (index new : Indexed) (p : ℕ) (s : Cell H)
+      → PlacesAreKept slots vacant capacity index → StandsIn slots p s → more ≡ vacant ++ p ∷ [] → now ≡ capacity
       → Removes s.row.key.ticket index.pairs new.pairs → new.room ≡ index.room
-      → IsKept (set slots p None) more now new
+      → PlacesAreKept (set slots p None) more now new
   kept_end slots vacant more capacity now index new p s is stands parts kept removed room = record {
     free = λ at q e.
         elim (cases at q e) [
@@ -220,7 +220,7 @@ module _ {H : Type 0} where
         let other : ticket ≢ s.row.key.ticket = All-contains (λ pair. pair.0 ≢ s.row.key.ticket) new.pairs (ticket, q) removed.gone among in (
           has.0,
           get-set_other slots p q None (λ same. other (sym has.2
-              ∙ ap (λ (x : Slot H). x.row.key.ticket) (same_Some has.0 s
+              ∙ ap (λ (x : Cell H). x.row.key.ticket) (same_Some has.0 s
               (same_Some (Some has.0) (Some s) (sym (subst (λ n. StandsIn slots n has.0) same has.1) ∙ stands))))) ∙ has.1,
           has.2,
         );
@@ -245,5 +245,5 @@ module _ {H : Type 0} where
       taken : (at q : ℕ) → slice_get vacant at ≡ Some q → p ≡ q → ⊥
       taken at q e same = free_not_taken slots p s (subst (λ n. slice_get slots n ≡ Some None) (sym same) (is.free at q e)) stands
 
-      there : (q : ℕ) (u : Slot H) → StandsIn (set slots p None) q u → StandsIn slots q u
+      there : (q : ℕ) (u : Cell H) → StandsIn (set slots p None) q u → StandsIn slots q u
       there q u a = elim (get-set_cases slots p q (Some s) None (Some u) stands a) [ inl e ↦ none_some e.1 | inr e ↦ e.1 ]

@@ -4,9 +4,9 @@ use Rattle.std.proofs.Common.{Some, option_map, is_some, length, filter, All, Co
 use Rattle.std.specs.List.{cons_option}
 use Rattle.std.proofs.lemmas.List.Elements.{All-append, All-cons, All-contains, All-filter, All-head}
 use Rattle.std.proofs.lemmas.List.Elements.{All-nil, All-tail, All-weaker, filter_map-append, Contains-append_right}
-use Rattle.list_facts.proofs.Members.{all_front, all_back}
+use Rattle.base_lists.proofs.Members.{all_front, all_back}
 use Rattle.slot_ledger.specs.declared.tickets.TicketPlace.{TicketPlace}
-use Rattle.slot_ledger.specs.Tickets.{IsAbsent, IsBelowAll, IsRising, Removes, has_place, pair_of, pairs_in}
+use Rattle.slot_ledger.specs.Tickets.{TicketIsAbsent, IsBelowAll, IsRising, Removes, has_place, pair_of, pairs_in}
 
 -- what two parts are that rise together
 pub record AreRisingParts (front back : List TicketPlace) : Type 0 where
@@ -132,7 +132,7 @@ length-kept (e ∷ entries) = length_step e (filter has_place entries) (pairs_in
 -- an entry in the middle of what rises
 module _ (front back : List TicketPlace) (e : TicketPlace) (up : IsRising (front ++ e ∷ back)) where
   -- no other has its ticket
-  pub others_absent : IsAbsent e.ticket (pairs_in front ++ pairs_in back)
+  pub others_absent : TicketIsAbsent e.ticket (pairs_in front ++ pairs_in back)
   others_absent =
       let parts = rising_parts front (e ∷ back) up in
       All-append (λ pair. pair.0 ≢ e.ticket) (pairs_in front) (pairs_in back)
@@ -143,8 +143,8 @@ module _ (front back : List TicketPlace) (e : TicketPlace) (up : IsRising (front
 
   -- its place is that of its ticket's pair
   pub place_there : (o : Option ℕ) → e.place ≡ o
-      → MatchOption o (IsAbsent e.ticket (pairs_in (front ++ e ∷ back))) (λ place. Contains (pairs_in (front ++ e ∷ back)) (e.ticket, place))
-  place_there None is = subst (IsAbsent e.ticket) (sym (pairs_around front back e None is)) others_absent
+      → MatchOption o (TicketIsAbsent e.ticket (pairs_in (front ++ e ∷ back))) (λ place. Contains (pairs_in (front ++ e ∷ back)) (e.ticket, place))
+  place_there None is = subst (TicketIsAbsent e.ticket) (sym (pairs_around front back e None is)) others_absent
   place_there (Some place) is =
       subst (λ (l : List (ℕ × ℕ)). Contains l (e.ticket, place)) (sym (pairs_around front back e (Some place) is))
       (Contains-append_right (pairs_in front) ((e.ticket, place) ∷ pairs_in back) (e.ticket, place) (0, omega arith, refl))
@@ -166,5 +166,5 @@ module _ (front back : List TicketPlace) (e : TicketPlace) (up : IsRising (front
         place = own;
         before = pairs_around front back e (Some own) is;
         after = after;
-        gone = subst (IsAbsent e.ticket) (sym after) others_absent;
+        gone = subst (TicketIsAbsent e.ticket) (sym after) others_absent;
       }

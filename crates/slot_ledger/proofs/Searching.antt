@@ -9,7 +9,7 @@ use Rattle.std.proofs.lemmas.Bool.Decides.{nat_tests}
 use Rattle.std.proofs.lemmas.List.Elements.{All-append, filter_map-append}
 use Rattle.std.proofs.lemmas.Option.{slice_get-get_or, slice_get_within, get_or_from_slice_get}
 use Rattle.slot_ledger.specs.declared.tickets.TicketPlace.{TicketPlace}
-use Rattle.slot_ledger.specs.Tickets.{IsAbsent, IsRising, HasTicketAmong, AreStretches, IsInStretches, Removes, pair_of, pairs_in, stretches}
+use Rattle.slot_ledger.specs.Tickets.{TicketIsAbsent, IsRising, HasTicketAmong, AreStretches, IsInStretches, Removes, pair_of, pairs_in, stretches}
 use Rattle.slot_ledger.proofs.Rising.{each_pair, rising_parts, rising_changed, place_there, place_removed}
 use Rattle.slot_ledger.proofs.Stretches.{IsAround, around, read_around}
 
@@ -32,7 +32,7 @@ module _ (ticket : ℕ) (entries : List TicketPlace) (up : IsRising entries) whe
 
   -- a binary search ends at the ticket's entry, or there is none
   pub searched : (r : Result ℕ ℕ) → IsSearchInRange r (length entries) → IsBinarySearchResult (λ e. nat_cmp e.ticket ticket) entries r
-      → MatchOption (result_ok r) (IsAbsent ticket (pairs_in entries)) (λ at. HasTicketAmong ticket entries at)
+      → MatchOption (result_ok r) (TicketIsAbsent ticket (pairs_in entries)) (λ at. HasTicketAmong ticket entries at)
   searched (Ok at) in_range equal = found entries refl
     where
       found : (all : List TicketPlace) → entries ≡ all → HasTicketAmong ticket entries at
@@ -56,9 +56,9 @@ module _ (ticket kept next : ℕ) (entries : List TicketPlace) (are : AreStretch
   pub second_rises : IsRising (drop next entries)
   second_rises = (rising_parts (take kept entries) (drop next entries) are.rising).second
 
-  pub in_neither : IsAbsent ticket (pairs_in (take kept entries)) → IsAbsent ticket (pairs_in (drop next entries))
-      → IsAbsent ticket (pairs_in (stretches kept next entries))
-  in_neither first second = subst (IsAbsent ticket) (sym (filter_map-append pair_of (take kept entries) (drop next entries)))
+  pub in_neither : TicketIsAbsent ticket (pairs_in (take kept entries)) → TicketIsAbsent ticket (pairs_in (drop next entries))
+      → TicketIsAbsent ticket (pairs_in (stretches kept next entries))
+  in_neither first second = subst (TicketIsAbsent ticket) (sym (filter_map-append pair_of (take kept entries) (drop next entries)))
       (All-append (λ pair. pair.0 ≢ ticket) (pairs_in (take kept entries)) (pairs_in (drop next entries)) first second)
 
 get_in_take : (kept : ℕ) (entries : List TicketPlace) (at : ℕ) (e : TicketPlace) → slice_get (take kept entries) at ≡ Some e
@@ -104,11 +104,11 @@ module _ (ticket kept next at : ℕ) (entries : List TicketPlace) (x : TicketPla
   rising_there : IsRising (parts.0 ++ x ∷ parts.1)
   rising_there = subst IsRising read_parts are.rising
 
-  pub place_tells : MatchOption x.place (IsAbsent ticket (pairs_in (stretches kept next entries)))
+  pub place_tells : MatchOption x.place (TicketIsAbsent ticket (pairs_in (stretches kept next entries)))
       (λ place. Contains (pairs_in (stretches kept next entries)) (ticket, place))
   place_tells =
-      subst (λ (l : List TicketPlace). MatchOption x.place (IsAbsent ticket (pairs_in l)) (λ place. Contains (pairs_in l) (ticket, place))) (sym read_parts)
-      (subst (λ (n : ℕ). MatchOption x.place (IsAbsent n (pairs_in (parts.0 ++ x ∷ parts.1)))
+      subst (λ (l : List TicketPlace). MatchOption x.place (TicketIsAbsent ticket (pairs_in l)) (λ place. Contains (pairs_in l) (ticket, place))) (sym read_parts)
+      (subst (λ (n : ℕ). MatchOption x.place (TicketIsAbsent n (pairs_in (parts.0 ++ x ∷ parts.1)))
       (λ place. Contains (pairs_in (parts.0 ++ x ∷ parts.1)) (n, place))) own_ticket
       (place_there parts.0 parts.1 x rising_there x.place refl))
 

@@ -6,16 +6,16 @@ use Rattle.std.proofs.Math.Seq.{take-set-lt}
 use Rattle.std.proofs.lemmas.List.{set_split, take-set-le, drop-set-lt, drop-set-add, take-append-le, drop-append-le, take_more, take_all, drop_more}
 use Rattle.std.proofs.lemmas.List.Elements.{All-append, All-cons, All-head, All-nil, All-weaker}
 use Rattle.std.proofs.lemmas.Option.{slice_get_within, get_or_from_slice_get, slice_get-get_or}
-use Rattle.list_facts.proofs.Places.{set_read}
+use Rattle.base_lists.proofs.Places.{set_read}
 use Rattle.slot_ledger.specs.declared.tickets.TicketPlace.{TicketPlace}
-use Rattle.slot_ledger.specs.Tickets.{IsBelowAll, IsRising, IsWithin, AreStretches, SweepsOneOn, IsAboveLast, has_place, pairs_in, stretches}
+use Rattle.slot_ledger.specs.Tickets.{IsBelowAll, IsRising, TicketsAreWithin, AreStretches, SweepsOneOn, IsAboveLast, has_place, pairs_in, stretches}
 use Rattle.slot_ledger.proofs.Rising.{rising_parts, rising_without, rising_more, rising_filter, pairs_around, pairs_without, pairs_kept, each_kept}
 
 -- what stands around a place that counts, whatever is written there
 pub record IsAround (kept next at : ℕ) (entries front back : List TicketPlace) : Type 0 where
   pub written : (e : TicketPlace) → stretches kept next (set entries at e) ≡ front ++ e ∷ back
 
-module _ (kept next at : ℕ) (entries : List TicketPlace) (within : IsWithin kept next entries) (there : at < length entries) where
+module _ (kept next at : ℕ) (entries : List TicketPlace) (within : TicketsAreWithin kept next entries) (there : at < length entries) where
   around_low : at < kept → (front : List TicketPlace) × (back : List TicketPlace) × IsAround kept next at entries front back
   around_low low = (
     take at (take kept entries),
@@ -120,7 +120,7 @@ module _ (kept next ticket : ℕ) (entries : List TicketPlace) (are : AreStretch
           omega arith
 
 -- one entry more
-module _ (kept next : ℕ) (entries : List TicketPlace) (e : TicketPlace) (within : IsWithin kept next entries) where
+module _ (kept next : ℕ) (entries : List TicketPlace) (e : TicketPlace) (within : TicketsAreWithin kept next entries) where
   pub stretches-push : stretches kept next (entries ++ e ∷ []) ≡ stretches kept next entries ++ e ∷ []
   stretches-push =
       let ordered = within.ordered in

@@ -1,10 +1,11 @@
 -- The number of requests that each server serves, and that wait in each queue.
 use Rattle.std.specs.Prelude.{◌≡◌, ℕ, ◌+◌, ◌<◌, ◌≤◌, Bool, List, slice_index_or, if◌then◌else◌}
-use Rattle.dispatch_log.specs.declared.queue.Queue.{Queue}
-use Rattle.dispatch_log.specs.declared.queue.Queue.TheVariants.{Backend, Server}
-use Rattle.dispatch_log.specs.declared.row.Phase.{Phase}
-use Rattle.dispatch_log.specs.declared.row.Phase.TheVariants.{Loose, Waiting, Serving, Told}
-use Rattle.dispatch_log.specs.Rows.{Rows, phase_waits_in, phase_is_served_by, served, queued}
+use Rattle.log_entries.specs.declared.queue.Queue.{Queue}
+use Rattle.log_entries.specs.declared.queue.Queue.TheVariants.{Backend, Server}
+use Rattle.log_entries.specs.declared.row.Phase.{Phase}
+use Rattle.log_entries.specs.declared.row.Phase.TheVariants.{Loose, Waiting, Serving, Told}
+use Rattle.log_entries.specs.Queues.{IsQueueOf}
+use Rattle.log_entries.specs.Rows.{Rows, phase_waits_in, phase_is_served_by, served, queued}
 
 -- counts by server, those of the servers' own queues, and that of the backend's
 pub record Counted : Type 0 where
@@ -29,10 +30,6 @@ abbrev pub one_if : Bool → ℕ
 one_if test = if test then 1 else 0
 
 -- a phase names one of this many servers, or none
-abbrev pub IsQueueOf : ℕ → Queue → Type 0
-IsQueueOf servers Backend = Unit {0}
-IsQueueOf servers (Server server) = server < servers
-
 abbrev pub IsPhaseOf : ℕ → Phase → Type 0
 IsPhaseOf servers Loose = Unit {0}
 IsPhaseOf servers (Told cause) = Unit {0}

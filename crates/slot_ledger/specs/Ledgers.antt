@@ -1,12 +1,12 @@
 -- Ledgers, as contracts see them.
 use Rattle.std.specs.Prelude.{◌≡◌, ℕ, Bool, List, Option, length, slice_set}
-use Rattle.dispatch_log.specs.declared.allowance.Allowance.{Allowance}
-use Rattle.dispatch_log.specs.declared.allowance.Intake.{Intake}
-use Rattle.dispatch_log.specs.declared.setup.Setup.{Setup}
-use Rattle.dispatch_log.specs.Rows.{served}
-use Rattle.dispatch_log.specs.Setups.{IsSound}
-use Rattle.dispatch_log.specs.Scenes.{Scene}
-use Rattle.slot_ledger.specs.declared.places.Slot.{Slot}
+use Rattle.log_entries.specs.declared.allowance.Allowance.{Allowance}
+use Rattle.log_entries.specs.declared.allowance.Intake.{Intake}
+use Rattle.log_entries.specs.declared.setup.Setup.{Setup}
+use Rattle.log_entries.specs.Rows.{served}
+use Rattle.log_entries.specs.Setups.{IsSound}
+use Rattle.log_entries.specs.Scenes.{Scene}
+use Rattle.slot_ledger.specs.declared.places.Cell.{Cell}
 use Rattle.slot_ledger.specs.Counts.{Counted, AreCounts}
 use Rattle.slot_ledger.specs.Slots.{rows_in}
 
@@ -15,14 +15,14 @@ pub record Kept (H : Type 0) : Type 0 where
   pub setup : Setup
   pub ups : List Bool
   pub limits : List Allowance
-  pub slots : List (Option (Slot H))
+  pub slots : List (Option (Cell H))
 
 -- the part of a ledger that a decision depends on
-abbrev pub scene_of : {H : Type 0} → Kept H → Scene
-scene_of kept = record { servers = kept.setup.servers; limits = kept.limits; ups = kept.ups; rows = rows_in kept.slots }
+abbrev pub scene_in : {H : Type 0} → Kept H → Scene
+scene_in kept = record { servers = kept.setup.servers; limits = kept.limits; ups = kept.ups; rows = rows_in kept.slots }
 
 -- the same ledger with other slots
-abbrev pub with_slots : {H : Type 0} → Kept H → List (Option (Slot H)) → Kept H
+abbrev pub with_slots : {H : Type 0} → Kept H → List (Option (Cell H)) → Kept H
 with_slots kept slots = record kept { slots = slots }
 
 -- the same ledger with a server up or down
@@ -30,11 +30,11 @@ abbrev pub with_up : {H : Type 0} → Kept H → ℕ → Bool → Kept H
 with_up kept server up = record kept { ups = slice_set kept.ups server up }
 
 -- the same ledger with a server's limit set, and with what it serves noted
-abbrev pub with_limit : {H : Type 0} → Kept H → ℕ → Intake → Kept H
-with_limit kept server limit = record kept { limits = slice_set kept.limits server (record { limit = limit; served = served server (rows_in kept.slots) }) }
+abbrev pub ledger_with_limit : {H : Type 0} → Kept H → ℕ → Intake → Kept H
+ledger_with_limit kept server limit = record kept { limits = slice_set kept.limits server (record { limit = limit; served = served server (rows_in kept.slots) }) }
 
 -- a ledger is of a sound setup, has the setup's places, and its counts agree with its rows
-pub record IsLedger {H : Type 0} (setup : Setup) (slots : List (Option (Slot H))) (counts : Counted) : Type 0 where
+pub record IsLedger {H : Type 0} (setup : Setup) (slots : List (Option (Cell H))) (counts : Counted) : Type 0 where
   pub sound : IsSound setup
   pub places : length slots ≡ setup.places
   pub counted : AreCounts counts (rows_in slots)
@@ -42,7 +42,7 @@ pub record IsLedger {H : Type 0} (setup : Setup) (slots : List (Option (Slot H))
   pub own : length counts.own ≡ length setup.servers
 
 -- and it has for each server whether it is up, and its present limit
-pub record IsLedgerWith {H : Type 0} (setup : Setup) (ups : List Bool) (limits : List Allowance) (slots : List (Option (Slot H)))
+pub record IsLedgerWith {H : Type 0} (setup : Setup) (ups : List Bool) (limits : List Allowance) (slots : List (Option (Cell H)))
     (counts : Counted) : Type 0 where
   pub ledger : IsLedger setup slots counts
   pub each : length ups ≡ length setup.servers

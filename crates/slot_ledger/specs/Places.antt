@@ -1,19 +1,19 @@
 -- The places of a ledger.
 use Rattle.std.specs.Prelude.{◌≡◌, ℕ, ◌+◌, ◌≤◌, List, Option, None, Some, length, count_by, is_some, slice_get, Contains}
-use Rattle.slot_ledger.specs.declared.places.Slot.{Slot}
+use Rattle.slot_ledger.specs.declared.places.Cell.{Cell}
 use Rattle.slot_ledger.specs.Slots.{StandsIn, HasTicketAt}
 use Rattle.slot_ledger.specs.Tickets.{Indexed}
 
 -- the free places are the places without a request, each once; the index has the ticket of each
 -- request with its place, and no two requests have the same ticket
-pub record IsKept {H : Type 0} (slots : List (Option (Slot H))) (vacant : List ℕ) (capacity : ℕ) (index : Indexed) : Type 0 where
+pub record PlacesAreKept {H : Type 0} (slots : List (Option (Cell H))) (vacant : List ℕ) (capacity : ℕ) (index : Indexed) : Type 0 where
   pub free : (at place : ℕ) → slice_get vacant at ≡ Some place → slice_get slots place ≡ Some None
   pub once : (at other place : ℕ) → slice_get vacant at ≡ Some place → slice_get vacant other ≡ Some place → at ≡ other
   pub all : length vacant + count_by is_some slots ≡ length slots
   pub room : length slots ≤ capacity
   pub indexed : (ticket place : ℕ) → Contains index.pairs (ticket, place) → HasTicketAt ticket slots place
-  pub complete : (place : ℕ) (slot : Slot H) → StandsIn slots place slot → Contains index.pairs (slot.row.key.ticket, place)
-  pub own : (place other : ℕ) (slot its : Slot H) → StandsIn slots place slot → StandsIn slots other its → slot.row.key.ticket ≡ its.row.key.ticket
+  pub complete : (place : ℕ) (slot : Cell H) → StandsIn slots place slot → Contains index.pairs (slot.row.key.ticket, place)
+  pub own : (place other : ℕ) (slot its : Cell H) → StandsIn slots place slot → StandsIn slots other its → slot.row.key.ticket ≡ its.row.key.ticket
       → place ≡ other
   pub counted : length index.pairs ≡ count_by is_some slots
   pub index_room : length slots ≤ index.room

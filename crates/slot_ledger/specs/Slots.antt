@@ -1,64 +1,64 @@
 -- Places with live requests.
 use Rattle.std.specs.Prelude.{◌≡◌, ◌≢◌, ℕ, ◌+◌, ◌^◌, ◌<◌, List, Option, None, Some, option_map, map, slice_get, slice_set, slice_index_or}
-use Rattle.dispatch_log.specs.declared.queue.Queue.{Queue}
-use Rattle.dispatch_log.specs.declared.row.Phase.{Phase}
-use Rattle.dispatch_log.specs.declared.row.Phase.TheVariants.{Loose, Waiting}
-use Rattle.dispatch_log.specs.Rows.{Rows}
-use Rattle.slot_ledger.specs.declared.places.Slot.{Slot}
+use Rattle.log_entries.specs.declared.queue.Queue.{Queue}
+use Rattle.log_entries.specs.declared.row.Phase.{Phase}
+use Rattle.log_entries.specs.declared.row.Phase.TheVariants.{Loose, Waiting}
+use Rattle.log_entries.specs.Rows.{Rows}
+use Rattle.slot_ledger.specs.declared.places.Cell.{Cell}
 
 module _ {H : Type 0} where
   -- the rows of the live requests
-  abbrev pub rows_in : List (Option (Slot H)) → Rows
+  abbrev pub rows_in : List (Option (Cell H)) → Rows
   rows_in slots = map (option_map (λ slot. slot.row)) slots
 
   -- a live request stands at a place
-  abbrev pub StandsIn : List (Option (Slot H)) → ℕ → Slot H → Type 0
+  abbrev pub StandsIn : List (Option (Cell H)) → ℕ → Cell H → Type 0
   StandsIn slots place slot = slice_get slots place ≡ Some (Some slot)
 
   -- some request stands at a place
-  abbrev pub HasRow : List (Option (Slot H)) → ℕ → Type 0
-  HasRow slots place = (slot : Slot H) × StandsIn slots place slot
+  abbrev pub HasRow : List (Option (Cell H)) → ℕ → Type 0
+  HasRow slots place = (slot : Cell H) × StandsIn slots place slot
 
   -- some request with a node stands at a place
-  abbrev pub HasNode : List (Option (Slot H)) → ℕ → Type 0
-  HasNode slots place = (slot : Slot H) × (node : H) × StandsIn slots place slot × (slot.node ≡ Some node)
+  abbrev pub HasNode : List (Option (Cell H)) → ℕ → Type 0
+  HasNode slots place = (slot : Cell H) × (node : H) × StandsIn slots place slot × (slot.node ≡ Some node)
 
   -- the request at a place has failed less often than can be counted
-  abbrev pub HasCountable : List (Option (Slot H)) → ℕ → Type 0
-  HasCountable slots place = (slot : Slot H) × StandsIn slots place slot × (slot.row.failures + 1 < 2 ^ 32)
+  abbrev pub HasCountable : List (Option (Cell H)) → ℕ → Type 0
+  HasCountable slots place = (slot : Cell H) × StandsIn slots place slot × (slot.row.failures + 1 < 2 ^ 32)
 
   -- the request of a ticket stands at a place
-  abbrev pub HasTicketAt : ℕ → List (Option (Slot H)) → ℕ → Type 0
-  HasTicketAt ticket slots place = (slot : Slot H) × StandsIn slots place slot × (slot.row.key.ticket ≡ ticket)
+  abbrev pub HasTicketAt : ℕ → List (Option (Cell H)) → ℕ → Type 0
+  HasTicketAt ticket slots place = (slot : Cell H) × StandsIn slots place slot × (slot.row.key.ticket ≡ ticket)
 
   -- no request has the ticket
-  abbrev pub HasNoTicket : ℕ → List (Option (Slot H)) → Type 0
-  HasNoTicket ticket slots = (place : ℕ) (slot : Slot H) → StandsIn slots place slot → slot.row.key.ticket ≢ ticket
+  abbrev pub HasNoTicket : ℕ → List (Option (Cell H)) → Type 0
+  HasNoTicket ticket slots = (place : ℕ) (slot : Cell H) → StandsIn slots place slot → slot.row.key.ticket ≢ ticket
 
   -- every ticket is below this one
-  abbrev pub AreBelow : ℕ → List (Option (Slot H)) → Type 0
-  AreBelow ticket slots = (place : ℕ) (slot : Slot H) → StandsIn slots place slot → slot.row.key.ticket < ticket
+  abbrev pub AreBelow : ℕ → List (Option (Cell H)) → Type 0
+  AreBelow ticket slots = (place : ℕ) (slot : Cell H) → StandsIn slots place slot → slot.row.key.ticket < ticket
 
   -- the slots with the request at a place changed
-  abbrev pub with_slot : (Slot H → Slot H) → List (Option (Slot H)) → ℕ → List (Option (Slot H))
+  abbrev pub with_slot : (Cell H → Cell H) → List (Option (Cell H)) → ℕ → List (Option (Cell H))
   with_slot change slots place = slice_set slots place (option_map change (slice_index_or slots place None))
 
   -- the request at a place is in this phase
-  abbrev pub with_phase : Phase → List (Option (Slot H)) → ℕ → List (Option (Slot H))
+  abbrev pub with_phase : Phase → List (Option (Cell H)) → ℕ → List (Option (Cell H))
   with_phase phase = with_slot (λ slot. record { row = record slot.row { phase = phase }; node = slot.node })
 
   -- one more connection failed for the request at a place
-  abbrev pub with_failure : List (Option (Slot H)) → ℕ → List (Option (Slot H))
+  abbrev pub with_failure : List (Option (Cell H)) → ℕ → List (Option (Cell H))
   with_failure = with_slot (λ slot. record { row = record slot.row { failures = slot.row.failures + 1 }; node = slot.node })
 
   -- the request at a place has no pin
-  abbrev pub unpinned : List (Option (Slot H)) → ℕ → List (Option (Slot H))
+  abbrev pub unpinned : List (Option (Cell H)) → ℕ → List (Option (Cell H))
   unpinned = with_slot (λ slot. record { row = record slot.row { pin = None }; node = slot.node })
 
   -- the request at a place waits, and its node is handed out
-  abbrev pub waiting : Queue → ℕ → List (Option (Slot H)) → ℕ → List (Option (Slot H))
+  abbrev pub waiting : Queue → ℕ → List (Option (Cell H)) → ℕ → List (Option (Cell H))
   waiting queue since = with_slot (λ slot. record { row = record slot.row { phase = Waiting queue since }; node = None })
 
   -- the request at a place has no phase, and has its node
-  abbrev pub loosened : H → List (Option (Slot H)) → ℕ → List (Option (Slot H))
+  abbrev pub loosened : H → List (Option (Cell H)) → ℕ → List (Option (Cell H))
   loosened node = with_slot (λ slot. record { row = record slot.row { phase = Loose }; node = Some node })

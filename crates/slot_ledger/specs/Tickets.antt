@@ -10,8 +10,8 @@ pub record Indexed : Type 0 where
   pub room : ℕ
 
 -- no pair has the ticket
-abbrev pub IsAbsent : ℕ → List (ℕ × ℕ) → Type 0
-IsAbsent ticket pairs = All (λ pair. pair.0 ≢ ticket) pairs
+abbrev pub TicketIsAbsent : ℕ → List (ℕ × ℕ) → Type 0
+TicketIsAbsent ticket pairs = All (λ pair. pair.0 ≢ ticket) pairs
 
 -- the pair of the ticket is removed, and no other
 pub record Removes (ticket : ℕ) (old new : List (ℕ × ℕ)) : Type 0 where
@@ -20,7 +20,7 @@ pub record Removes (ticket : ℕ) (old new : List (ℕ × ℕ)) : Type 0 where
   pub place : ℕ
   pub before : old ≡ front ++ (ticket, place) ∷ back
   pub after : new ≡ front ++ back
-  pub gone : IsAbsent ticket new
+  pub gone : TicketIsAbsent ticket new
 
 -- the ticket and the place of an entry that has one
 abbrev pub pair_of : TicketPlace → Option (ℕ × ℕ)
@@ -47,21 +47,21 @@ abbrev pub stretches : ℕ → ℕ → List TicketPlace → List TicketPlace
 stretches kept next entries = take kept entries ++ drop next entries
 
 -- the second stretch begins no earlier than the first one ends, and no later than the list does
-pub record IsWithin (kept next : ℕ) (entries : List TicketPlace) : Type 0 where
+pub record TicketsAreWithin (kept next : ℕ) (entries : List TicketPlace) : Type 0 where
   pub ordered : kept ≤ next
   pub within : next ≤ length entries
 
 -- two stretches of a list: from the first through the second one each ticket is above those before it, and the list's last
 -- entry counts
 pub record AreStretches (kept next : ℕ) (entries : List TicketPlace) : Type 0 where
-  pub within : IsWithin kept next entries
+  pub within : TicketsAreWithin kept next entries
   pub rising : IsRising (stretches kept next entries)
   pub last : 0 < length entries → next < length entries
 
 -- a sweep goes one entry on: the second stretch begins one place later, the first one may have grown by the entry that was
 -- passed, the tickets still rise, and no pair that counts has come or gone
 pub record SweepsOneOn (kept next more : ℕ) (old new : List TicketPlace) : Type 0 where
-  pub within : IsWithin more (next + 1) new
+  pub within : TicketsAreWithin more (next + 1) new
   pub rising : IsRising (stretches more (next + 1) new)
   pub pairs : pairs_in (stretches more (next + 1) new) ≡ pairs_in (stretches kept next old)
   pub len : length new ≡ length old

@@ -1,7 +1,7 @@
 ghost use Rattle.std.specs.Prelude.{◌≡◌, ℕ, ◌+◌, ◌<◌, ◌≤◌, ◌==◌, IfOk, length, replicate, slice_index_or, vec_len, OnOk};
 ghost use Rattle.slot_ledger.specs.Counts.{one_if};
 
-use dispatch_log::{Phase, Queue};
+use log_entries::{Phase, Queue};
 use std::alloc::{AllocError, Global};
 use std::marker::Model;
 

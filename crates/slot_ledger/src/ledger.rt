@@ -1,21 +1,22 @@
 ghost use Rattle.std.specs.Prelude.{◌≡◌, ◌<◌, ◌≤◌, Some, None, IfOk, length, count_by, is_some, slice_get, slice_set, replicate, true, MatchOption};
-ghost use Rattle.dispatch_log.specs.States.{opening_limits};
-ghost use Rattle.dispatch_log.specs.declared.queue.Queue.{Queue};
-ghost use Rattle.dispatch_log.specs.declared.row.Phase.{Phase};
-ghost use Rattle.dispatch_log.specs.Rows.{served, queued};
-ghost use Rattle.dispatch_log.specs.Setups.{IsSound};
-ghost use Rattle.dispatch_log.specs.Scenes.{is_up, limit_of};
-ghost use Rattle.slot_ledger.specs.Ledgers.{scene_of, with_slots, with_up, with_limit};
+ghost use Rattle.log_entries.specs.States.{opening_limits};
+ghost use Rattle.log_entries.specs.declared.queue.Queue.{Queue};
+ghost use Rattle.log_entries.specs.declared.row.Phase.{Phase};
+ghost use Rattle.log_entries.specs.Rows.{served, queued};
+ghost use Rattle.log_entries.specs.Setups.{IsSound};
+ghost use Rattle.log_entries.specs.Scenes.{is_up, limit_of};
+ghost use Rattle.slot_ledger.specs.Ledgers.{scene_in, with_slots, with_up, ledger_with_limit};
 ghost use Rattle.slot_ledger.specs.Slots.{rows_in, HasRow, HasCountable, HasNode, HasTicketAt, HasNoTicket, AreBelow, with_phase, with_failure, unpinned, waiting, loosened};
-ghost use Rattle.slot_ledger.specs.Counts.{IsQueueOf, IsPhaseOf};
+ghost use Rattle.log_entries.specs.Queues.{IsQueueOf};
+ghost use Rattle.slot_ledger.specs.Counts.{IsPhaseOf};
 
 use crate::counts::Counts;
 use crate::places::Places;
-use dispatch_log::{Allowance, Intake, Phase, Queue, Row, Setup};
+use base_verdict::Cause;
 use due_key::Moment;
+use log_entries::{Allowance, Intake, Phase, Queue, Row, Setup};
 use std::alloc::{AllocError, Global};
 use std::marker::Model;
-use verdict::Cause;
 
 /// The live requests by place, which servers are up, and what each may serve at present. Each call
 /// changes only the row or the server that it names. How many requests a server serves and how many wait in a queue are counts
@@ -48,7 +49,7 @@ impl<H> Model for Ledger<H> {
 }
 
 impl<H: Drop> Ledger<H> {
-    ghost use Rattle.slot_ledger.specs.declared.places.Slot.{Slot};
+    ghost use Rattle.slot_ledger.specs.declared.places.Cell.{Cell};
 
     /// Makes a ledger without a request, all its servers up and with the limits of their setup. All
     /// its memory is allocated here. `O(n)` in the places.
@@ -81,7 +82,7 @@ impl<H: Drop> Ledger<H> {
 
     /// Says whether a server is up. `O(1)`.
     pub fn up(&self, server: usize) -> bool
-        ensures { result ≡ is_up (scene_of self.now) server }
+        ensures { result ≡ is_up (scene_in self.now) server }
     {
         self.ups.get(server).copied().unwrap_or(false)
     }
@@ -96,7 +97,7 @@ impl<H: Drop> Ledger<H> {
 
     /// Returns a server's present limit. `O(1)`.
     pub fn limit(&self, server: usize) -> Intake
-        ensures { result ≡ limit_of (scene_of self.now) server }
+        ensures { result ≡ limit_of (scene_in self.now) server }
     {
         match self.limits.get(server) {
             None => Intake::Closed,
@@ -114,7 +115,7 @@ impl<H: Drop> Ledger<H> {
     /// Sets a server's limit, or closes it, and notes what it serves. No request is stopped. `O(1)`.
     pub fn set_limit(&mut self, server: usize, limit: Intake)
         requires { server < length self.old.setup.servers }
-        ensures { self.new ≡ with_limit self.old server limit }
+        ensures { self.new ≡ ledger_with_limit self.old server limit }
     {
         let served = self.counts.served(server);
         self.limits[server] = Allowance { limit, served };
@@ -173,7 +174,7 @@ impl<H: Drop> Ledger<H> {
     /// Returns the row at a place.
     pub fn row(&self, place: usize) -> Row
         requires { HasRow self.now.slots place }
-        ensures { (slot : Slot H) × (slice_get self.now.slots place ≡ Some (Some slot)) × (slot.row ≡ result) }
+        ensures { (slot : Cell H) × (slice_get self.now.slots place ≡ Some (Some slot)) × (slot.row ≡ result) }
     {
         self.places.row(place)
     }
@@ -251,7 +252,7 @@ impl<H: Drop> Ledger<H> {
     pub fn wait(&mut self, place: usize, queue: Queue, since: Moment) -> H
         requires row { HasNode self.old.slots place }
         requires within { IsQueueOf (length self.old.setup.servers) queue }
-        ensures node { (slot : Slot H) × (slice_get self.old.slots place ≡ Some (Some slot)) × (slot.node ≡ Some result) }
+        ensures node { (slot : Cell H) × (slice_get self.old.slots place ≡ Some (Some slot)) × (slot.node ≡ Some result) }
         ensures waiting { self.new ≡ with_slots self.old (waiting queue since self.old.slots place) }
     {
         let from = self.places.row(place).phase;

@@ -8,4 +8,4 @@ mod places;
 mod tickets;
 
 pub use ledger::Ledger;
-pub use places::Slot;
+pub use places::Cell;

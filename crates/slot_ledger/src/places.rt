@@ -1,15 +1,15 @@
 ghost use Rattle.std.specs.Prelude.{◌≡◌, ◌<◌, Some, None, IfOk, length, count_by, is_some, slice_get, slice_set, replicate, MatchOption};
-ghost use Rattle.dispatch_log.specs.declared.row.Phase.{Phase};
+ghost use Rattle.log_entries.specs.declared.row.Phase.{Phase};
 
 use crate::tickets::Tickets;
-use dispatch_log::{Phase, Queue, Row};
 use due_key::Moment;
+use log_entries::{Phase, Queue, Row};
 use std::alloc::{AllocError, Global};
 use std::marker::Model;
 
 /// A live request.
 #[derive(Drop)]
-pub struct Slot<H> {
+pub struct Cell<H> {
     pub row: Row,
     /// The node with which it will wait in a queue, while it doesn't wait.
     pub node: Option<H>,
@@ -18,7 +18,7 @@ pub struct Slot<H> {
 /// The requests by place, and where each ticket is.
 #[derive(Drop)]
 pub(crate) struct Places<H> {
-    slots: Vec<Option<Slot<H>>>,
+    slots: Vec<Option<Cell<H>>>,
     vacant: Vec<usize>,
     // The places of the tickets.
     index: Tickets,
@@ -26,18 +26,18 @@ pub(crate) struct Places<H> {
 
 impl<H> Model for Places<H> {
     ghost use Rattle.std.specs.Prelude.{List, Option, vec_capacity};
-    ghost use Rattle.slot_ledger.specs.declared.places.Slot.{Slot};
-    ghost use Rattle.slot_ledger.specs.Places.{IsKept};
+    ghost use Rattle.slot_ledger.specs.declared.places.Cell.{Cell};
+    ghost use Rattle.slot_ledger.specs.Places.{PlacesAreKept};
 
-    ghost Value = { List (Option (Slot H)) };
+    ghost Value = { List (Option (Cell H)) };
 
     ghost view = { λ places. places.slots.items };
 
-    ghost invariant = { λ places. IsKept places.slots.items places.vacant.items (vec_capacity places.vacant) places.index };
+    ghost invariant = { λ places. PlacesAreKept places.slots.items places.vacant.items (vec_capacity places.vacant) places.index };
 }
 
 impl<H: Drop> Places<H> {
-    ghost use Rattle.slot_ledger.specs.declared.places.Slot.{Slot};
+    ghost use Rattle.slot_ledger.specs.declared.places.Cell.{Cell};
     ghost use Rattle.slot_ledger.specs.Slots.{rows_in, HasRow, HasCountable, HasNode, HasTicketAt, HasNoTicket, AreBelow, with_phase, with_failure, unpinned, waiting, loosened};
 
     /// Makes this number of free places. `O(n)`.
@@ -83,7 +83,7 @@ impl<H: Drop> Places<H> {
             unreachable!()
         };
         self.index.push(row.key.ticket, place);
-        self.slots[place] = Some(Slot { row, node: None });
+        self.slots[place] = Some(Cell { row, node: None });
         place
     }
 
@@ -97,7 +97,7 @@ impl<H: Drop> Places<H> {
     /// Returns the row at a place.
     pub(crate) fn row(&self, place: usize) -> Row
         requires { HasRow self.now place }
-        ensures { (slot : Slot H) × (slice_get self.now place ≡ Some (Some slot)) × (slot.row ≡ result) }
+        ensures { (slot : Cell H) × (slice_get self.now place ≡ Some (Some slot)) × (slot.row ≡ result) }
     {
         match &self.slots[place] {
             Some(slot) => slot.row,
@@ -152,7 +152,7 @@ impl<H: Drop> Places<H> {
     /// Lets the row wait in a queue from this moment on, and returns its node.
     pub(crate) fn wait(&mut self, place: usize, queue: Queue, since: Moment) -> H
         requires { HasNode self.old place }
-        ensures node { (slot : Slot H) × (slice_get self.old place ≡ Some (Some slot)) × (slot.node ≡ Some result) }
+        ensures node { (slot : Cell H) × (slice_get self.old place ≡ Some (Some slot)) × (slot.node ≡ Some result) }
         ensures waiting { self.new ≡ waiting queue since self.old place }
     {
         match &mut self.slots[place] {

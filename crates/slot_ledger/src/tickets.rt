@@ -1,5 +1,5 @@
 ghost use Rattle.std.specs.Prelude.{◌≡◌, ℕ, ◌<◌, ◌≤◌, [], ◌∷◌, ◌++◌, true, IfOk, All, Contains, MatchOption, IfSome, filter, length, vec_len, vec_capacity};
-ghost use Rattle.slot_ledger.specs.Tickets.{AreStretches, HasTicketAmong, IsAboveLast, IsAbsent, IsInStretches, IsRising, IsWithin, SweepsOneOn, Removes, has_place, pairs_in, stretches};
+ghost use Rattle.slot_ledger.specs.Tickets.{AreStretches, HasTicketAmong, IsAboveLast, TicketIsAbsent, IsInStretches, IsRising, TicketsAreWithin, SweepsOneOn, Removes, has_place, pairs_in, stretches};
 
 use std::alloc::{AllocError, Global};
 use std::marker::Model;
@@ -53,7 +53,7 @@ impl Tickets {
 
     /// Returns the place of a ticket. `O(log n)`.
     pub(crate) fn get(&self, ticket: u64) -> Option<usize>
-        ensures { MatchOption result (IsAbsent ticket self.now.pairs) (λ place. Contains self.now.pairs (ticket, place)) }
+        ensures { MatchOption result (TicketIsAbsent ticket self.now.pairs) (λ place. Contains self.now.pairs (ticket, place)) }
     {
         let at = position(&self.entries, self.kept, self.next, ticket)?;
         self.entries[at].place
@@ -136,7 +136,7 @@ fn takes(entries: &Vec<TicketPlace>, ticket: u64) -> bool
 
 // Keeps the entries that have a place alone. `O(n)`.
 fn compact(entries: &mut Vec<TicketPlace>, kept: usize, next: usize)
-    requires { IsWithin kept next entries.old.items }
+    requires { TicketsAreWithin kept next entries.old.items }
     ensures items { entries.new.items ≡ filter has_place (stretches kept next entries.old.items) }
     ensures capacity { vec_capacity entries.new ≡ vec_capacity entries.old }
 {
@@ -146,7 +146,7 @@ fn compact(entries: &mut Vec<TicketPlace>, kept: usize, next: usize)
 
 // Removes the entries from one position up to another.
 fn cut(entries: &mut Vec<TicketPlace>, from: usize, to: usize)
-    requires { IsWithin from to entries.old.items }
+    requires { TicketsAreWithin from to entries.old.items }
     ensures items { entries.new.items ≡ stretches from to entries.old.items }
     ensures capacity { vec_capacity entries.new ≡ vec_capacity entries.old }
 {
@@ -156,7 +156,7 @@ fn cut(entries: &mut Vec<TicketPlace>, from: usize, to: usize)
 // Returns the position of a ticket's entry.
 fn position(entries: &[TicketPlace], kept: usize, next: usize, ticket: u64) -> Option<usize>
     requires { AreStretches kept next entries.now }
-    ensures { MatchOption result (IsAbsent ticket (pairs_in (stretches kept next entries.now))) (λ at. IsInStretches ticket kept next entries.now at) }
+    ensures { MatchOption result (TicketIsAbsent ticket (pairs_in (stretches kept next entries.now))) (λ at. IsInStretches ticket kept next entries.now at) }
 {
     if let Some(ahead) = guess(&entries[next..], ticket) {
         return Some(next + ahead);
@@ -171,7 +171,7 @@ fn position(entries: &[TicketPlace], kept: usize, next: usize, ticket: u64) -> O
 // The same among entries by rising ticket.
 fn search(entries: &[TicketPlace], ticket: u64) -> Option<usize>
     requires { IsRising entries.now }
-    ensures { MatchOption result (IsAbsent ticket (pairs_in entries.now)) (λ at. HasTicketAmong ticket entries.now at) }
+    ensures { MatchOption result (TicketIsAbsent ticket (pairs_in entries.now)) (λ at. HasTicketAmong ticket entries.now at) }
 {
     if let Some(at) = guess(entries, ticket) {
         return Some(at);

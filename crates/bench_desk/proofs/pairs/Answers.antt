@@ -2,7 +2,7 @@ use Rattle.std.proofs.Common.{rules}
 use denote.Param.Send.{IsSync, sendable}
 use Rattle.std.proofs.Crossing.{crosses}
 use Rattle.grant_board.proofs.relay.RelaySeat.TheSendSync as seat
-use Rattle.grant_desk.proofs.Crosses.{desk_sync}
+use Rattle.shared_desk.proofs.Crosses.{desk_sync}
 use Rattle.bench_desk.proofs.pairs.Goals as goal
 
 -- a thread is lent the desk, and given its seats

@@ -2,7 +2,7 @@ use Rattle.std.proofs.Common.{rules, ◌≡◌, ◌++◌, length, IsPermutation,
 use Rattle.std.proofs.lemmas.List.Sorted.{length_permutation}
 use Rattle.binom_queue.specs.Trees.{items, tree_items}
 use Rattle.binom_queue.proofs.Heaps.{order_fits}
-use Rattle.list_facts.proofs.Shuffles.{joined}
+use Rattle.base_lists.proofs.Shuffles.{joined}
 use Rattle.binom_queue.proofs.grow.+add.Goals as goal
 
 pub link-requires-clause-small : goal.link-requires-clause-small

@@ -1,7 +1,7 @@
 use Rattle.std.proofs.Common.{rules, ap}
 use Rattle.binom_queue.specs.Trees.{items, tree_items}
 use Rattle.binom_queue.proofs.Heaps.{items_cut, raised_requires}
-use Rattle.list_facts.proofs.Shuffles.{second_from}
+use Rattle.base_lists.proofs.Shuffles.{second_from}
 use Rattle.binom_queue.proofs.grow.+raised.Goals as goal
 
 pub raised-requires : goal.raised-requires

@@ -3,7 +3,7 @@ use Rattle.std.proofs.lemmas.List.Sorted.{IsPermutation-trans, length_permutatio
 use Rattle.binom_queue.specs.declared.forest.Forest.TheVariants.{Of}
 use Rattle.binom_queue.specs.Trees.{items, tree_items, IsTree}
 use Rattle.binom_queue.proofs.Heaps.{order_fits, items_cut}
-use Rattle.list_facts.proofs.Shuffles.{first_kept, second_kept, made_pairwise}
+use Rattle.base_lists.proofs.Shuffles.{first_kept, second_kept, made_pairwise}
 use Rattle.binom_queue.proofs.grow.+union.Goals as goal
 
 -- the first tree of the left row, and the rest of it

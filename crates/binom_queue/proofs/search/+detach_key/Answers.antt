@@ -1,8 +1,8 @@
 use Rattle.std.proofs.Common.{◌≡◌, ◌≢◌, ◌∙◌, sym, ap, refl, subst, Option, Some, None, IfNone, Equal, IsPermutation}
 use Rattle.std.specs.Box.{with_value}
 use Rattle.std.proofs.lemmas.Option.{IfSome_then}
-use Rattle.pend_queue.specs.Pairs.{IsAbsent}
-use Rattle.list_facts.proofs.Members.{all_append}
+use Rattle.pend_queue.specs.Pairs.{KeyIsAbsent}
+use Rattle.base_lists.proofs.Members.{all_append}
 use Rattle.binom_queue.specs.declared.forest.Forest.TheVariants.{Of}
 use Rattle.binom_queue.specs.Trees.{items, tree_items, AreChildren, AreRoots}
 use Rattle.binom_queue.proofs.Heaps.{taken_first, taken_from_rest, put_back, items_cut}
@@ -36,12 +36,12 @@ returns-else-holds-clause-none g t c =
     let is : c.args.roots.now ≡ Of c.in-Of.root = sym c.replace.ensures.value ∙ c.in-Of.is in
     let missed = c.if-holds.ensures.missed refl in
     let again = ap (with_value own) (missed.0 ∙ c.deref_mut.ensures.value) in
-    let first = subst (λ n. IsAbsent g.K.Ord.cmp c.args.key.now (tree_items n)) c.deref_mut.ensures.value missed.1 in
+    let first = subst (λ n. KeyIsAbsent g.K.Ord.cmp c.args.key.now (tree_items n)) c.deref_mut.ensures.value missed.1 in
     let parts = items_cut c.args.roots.now c.in-Of.root own rest is c.cut-root.ensures.tree c.cut-root.ensures.rest in
     IfNone_then c.detach_key-found.result c.detach_key-found.ensures.none (λ none. (
       put_back c.args.roots.now c.in-Of.root own _ rest c.detach_key-found.new.roots c.before-else-holds.result is c.cut-root.ensures.tree
           c.cut-root.ensures.rest again none.0 c.before-else-holds.ensures,
-      subst (IsAbsent g.K.Ord.cmp c.args.key.now) (sym parts)
+      subst (KeyIsAbsent g.K.Ord.cmp c.args.key.now) (sym parts)
           (all_append (λ p. g.K.Ord.cmp p.0 c.args.key.now ≢ Equal) (tree_items own.value) (items rest) first none.1),
     ))
 

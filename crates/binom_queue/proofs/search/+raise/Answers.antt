@@ -1,5 +1,5 @@
 use Rattle.std.proofs.Common.{sym, refl}
-use Rattle.list_facts.proofs.Orders.{less_not_tied}
+use Rattle.base_lists.proofs.Orders.{less_not_tied}
 use Rattle.binom_queue.proofs.Floors.{absent_under_floor, floor_of_children}
 use Rattle.binom_queue.proofs.Raised.{raised_here, raised_after}
 use Rattle.binom_queue.proofs.search.+raise.Goals as goal

@@ -1,7 +1,7 @@
 use Rattle.std.proofs.Common.{◌≡◌, ◌∙◌, ap, map, List, ℕ}
 use Rattle.std.specs.Option.{unwrap_or}
-use Rattle.dispatch_log.specs.declared.setup.ServerSet.{ServerSet}
-use Rattle.dispatch_log.specs.declared.setup.Setup.{Setup}
+use Rattle.log_entries.specs.declared.setup.ServerSet.{ServerSet}
+use Rattle.log_entries.specs.declared.setup.Setup.{Setup}
 use Rattle.config_setup.specs.Setups.{set_of}
 use Rattle.config_setup.proofs.Sound.{sound_where_same}
 use Rattle.config_setup.proofs.setup.setup_of.Goals as goal

@@ -1,6 +1,6 @@
 use Rattle.std.proofs.Math.Logic.{∥∥₁_map, ∥∥₁_elim}
 use denote.Struct.Props.{props}
-use Rattle.mixed_exchange.specs.Steps.{ended}
+use Rattle.exchange_events.specs.Steps.{ended}
 use Rattle.exchange_driver.proofs.Moving.{driven_passes}
 use Rattle.exchange_driver.proofs.driving.drive.Goals as goal
 

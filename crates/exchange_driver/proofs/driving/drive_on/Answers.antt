@@ -1,6 +1,6 @@
 use Rattle.std.proofs.Common.{◌≡◌, ◌∙◌, ◌<◌, sym, subst}
-use Rattle.mixed_exchange.specs.declared.exchange.Outcome.{Outcome}
-use Rattle.mixed_exchange.specs.Steps.{IsOwn}
+use Rattle.exchange_events.specs.declared.exchange.Outcome.{Outcome}
+use Rattle.exchange_events.specs.Steps.{IsOwn}
 use Rattle.exchange_driver.specs.Drives.{Drives, at_client, at_server}
 use Rattle.exchange_driver.specs.declared.driving.Rest.TheVariants.{Waits, Again}
 use Rattle.exchange_driver.proofs.Moving.{drives_none, drives_on}

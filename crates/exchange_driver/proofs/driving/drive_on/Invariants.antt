@@ -1,13 +1,13 @@
 use Rattle.std.proofs.Common.{◌<◌, length}
-use Rattle.exchange_machine.specs.Histories.{History}
-use Rattle.mixed_exchange.specs.Steps.{IsAt}
-use Rattle.mixed_exchange.specs.declared.exchange.Outcome.TheVariants.{Quiet}
+use Rattle.exchange_machine.specs.Histories.{ExchangeHistory}
+use Rattle.exchange_events.specs.Steps.{IsAtItsStage}
+use Rattle.exchange_events.specs.declared.exchange.Outcome.TheVariants.{Quiet}
 use Rattle.exchange_driver.specs.Drives.{Drives}
 use Rattle.exchange_driver.proofs.driving.drive_on.Given as goal
 
 -- what was driven so far
 abbrev pub invariant-loop-turn : goal.invariant-loop-turn
 invariant-loop-turn g l = record {
-  at : (h : History) → IsAt l.initial.exchange h → Drives l.initial.client l.client l.initial.server l.server l.moves.client l.moves.server h l.exchange Quiet;
+  at : (h : ExchangeHistory) → IsAtItsStage l.initial.exchange h → Drives l.initial.client l.client l.initial.server l.server l.moves.client l.moves.server h l.exchange Quiet;
   buffer : 0 < length l.buffer;
 }

@@ -2,10 +2,10 @@ use Rattle.exchange_driver.proofs.Moving.{drives_none}
 use Rattle.exchange_driver.proofs.driving.move_up.Goals as goal
 
 pub returns-then-not-is_full-clause-rests : goal.returns-then-not-is_full-clause-rests
-returns-then-not-is_full-clause-rests g c e = absurd (c.say_server.ensures.moves e)
+returns-then-not-is_full-clause-rests g c e = absurd (c.write_server.ensures.moves e)
 
 pub returns-then-not-is_full-clause-quiet : goal.returns-then-not-is_full-clause-quiet
-returns-then-not-is_full-clause-quiet g c e = absurd (c.say_server.ensures.moves e)
+returns-then-not-is_full-clause-quiet g c e = absurd (c.write_server.ensures.moves e)
 
 pub returns-then-not-wants-clause-at : goal.returns-then-not-wants-clause-at
 returns-then-not-wants-clause-at g c h is = rw (c.rests.ensures.exchange, c.rests.ensures.outcome, c.rests.ensures.did)
@@ -22,7 +22,7 @@ returns-then-is_dry-clause-at g c h is = rw (c.rests-then-is_dry.ensures.exchang
     (drives_none _ _ h c.args.exchange is)
 
 pub returns-clause-rests : goal.returns-clause-rests
-returns-clause-rests g c e = absurd (c.hear_client.ensures.moves e)
+returns-clause-rests g c e = absurd (c.read_client.ensures.moves e)
 
 pub returns-clause-quiet : goal.returns-clause-quiet
-returns-clause-quiet g c e = absurd (c.hear_client.ensures.moves e)
+returns-clause-quiet g c e = absurd (c.read_client.ensures.moves e)

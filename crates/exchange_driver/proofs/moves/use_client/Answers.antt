@@ -1,12 +1,12 @@
 use Rattle.std.proofs.Common.{List, ℕ, take, subst}
 use Rattle.exchange_machine.specs.Histories.{client_came}
-use Rattle.mixed_exchange.specs.Steps.{IsAt, ended}
+use Rattle.exchange_events.specs.Steps.{IsAtItsStage, ended}
 use Rattle.exchange_driver.proofs.Moving.{client_used}
 use Rattle.exchange_driver.proofs.moves.use_client.Goals as goal
 
 pub returns-clause-at : goal.returns-clause-at
 returns-clause-at g c h is =
     let step = c.step-step.result in
-    let at = subst (λ (l : List ℕ). IsAt step.next (ended step.outcome (client_came h (take step.used l)))) c.waiting.ensures (c.step-step.ensures.at h is) in
+    let at = subst (λ (l : List ℕ). IsAtItsStage step.next (ended step.outcome (client_came h (take step.used l)))) c.waiting.ensures (c.step-step.ensures.at h is) in
     rw (c.behind.ensures.exchange, c.behind.ensures.outcome, c.behind.ensures.did)
     (client_used _ _ _ h step.used _ _ c.taken.ensures.left.0 c.taken.ensures.left.1 c.taken.ensures.waits c.taken.ensures.there at)

@@ -1,7 +1,7 @@
 use Rattle.std.proofs.Common.{◌≡◌, ◌∙◌, sym, ap, true, List, ℕ}
-use Rattle.body_coder.specs.Readings.{read, start_of}
-use Rattle.body_coder.specs.Stops.{is_bad}
-use Rattle.body_coder.specs.declared.coding.Coding.{Coding}
+use Rattle.http_bodies.specs.Readings.{read, start_of}
+use Rattle.http_bodies.specs.Stops.{is_bad}
+use Rattle.http_bodies.specs.declared.coding.Coding.{Coding}
 use Rattle.exchange_machine.proofs.SideLemmas.{look_broken}
 use Rattle.exchange_machine.proofs.asking.look_behind.Goals as goal
 

@@ -1,6 +1,6 @@
 use Rattle.std.proofs.Common.{◌≡◌, ◌≤◌, take}
 use Rattle.std.specs.Mem.Slots.{slots_items}
-use Rattle.list_facts.specs.Weights.{total}
+use Rattle.base_lists.specs.Weights.{total}
 use Rattle.grant_board.specs.BoardWords.{nonzero}
 use Rattle.grant_board.proofs.opening.left_over.Given as goal
 

@@ -1,7 +1,7 @@
 use Rattle.std.proofs.Common.{◌∙◌, ℕ, List, codes, ap}
 use Rattle.std.specs.List.{list_any}
 use Rattle.std.specs.Str.{str_eq_ignore_ascii_case}
-use Rattle.list_facts.proofs.Found.{list_any_flat_map}
+use Rattle.base_lists.proofs.Found.{list_any_flat_map}
 use Rattle.proxy_words.specs.Parts.{parts}
 use Rattle.http_texts.specs.Fields.{is_among}
 use Rattle.req_view.specs.Request.{values_of}

@@ -3,7 +3,7 @@ use Rattle.std.proofs.Common.{◌≡◌, ◌∙◌, ◌+◌, ◌<◌, true, fals
 use Rattle.std.specs.Prelude.{◌&&◌, ◌||◌}
 use Rattle.std.proofs.lemmas.Option.{slice_get-get_or}
 use Rattle.http_texts.specs.Fields.{is_kept, of_request}
-use Rattle.list_facts.proofs.Filtered.{any_more, any_front}
+use Rattle.base_lists.proofs.Filtered.{any_more, any_front}
 use Rattle.req_view.specs.Request.{NamedValue, is_named}
 use Rattle.http_texts.proofs.fields.keeps_host.Goals as goal
 

@@ -1,5 +1,5 @@
 use Rattle.std.proofs.Common.{ap}
-use Rattle.body_pipe.proofs.Exits.{at_exit}
+use Rattle.http_bodies.proofs.Exits.{at_exit}
 use Rattle.http_texts.specs.Texts.{end_text, stated}
 use Rattle.http_texts.proofs.Putting.{puts_trans, puts_halts, halts_front, puts_as, halts_as}
 use Rattle.http_texts.proofs.heads.put_answer.Goals as goal

@@ -1,7 +1,7 @@
 -- A client of version 1.1 gets each such head that isn't a 100.
 use Rattle.std.proofs.Common.{◌≡◌, ◌∙◌, ◌++◌, sym}
 use Rattle.httparse.specs.Ascii.{crlf_bytes}
-use Rattle.body_pipe.proofs.Exits.{at_exit}
+use Rattle.http_bodies.proofs.Exits.{at_exit}
 use Rattle.http_texts.specs.Texts.{answer_lines, interim_text}
 use Rattle.http_texts.proofs.Putting.{puts_trans, puts_halts, halts_front, puts_as, halts_as, for_client}
 use Rattle.http_texts.proofs.heads.put_interim.Goals as goal

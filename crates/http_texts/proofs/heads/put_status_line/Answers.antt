@@ -1,5 +1,5 @@
 use Rattle.std.proofs.Common.{◌∙◌, ℕ, List, [], ◌∷◌, ◌++◌, codes, ap}
-use Rattle.body_pipe.proofs.Exits.{at_exit}
+use Rattle.http_bodies.proofs.Exits.{at_exit}
 use Rattle.httparse.specs.Ascii.{crlf_bytes, space}
 use Rattle.http_texts.specs.Texts.{status_text}
 use Rattle.http_texts.proofs.Putting.{puts_trans, puts_halts, halts_front, puts_as, halts_as}

@@ -1,4 +1,4 @@
-use Rattle.body_pipe.proofs.Exits.{at_exit}
+use Rattle.http_bodies.proofs.Exits.{at_exit}
 use Rattle.http_texts.specs.Texts.{connection_text}
 use Rattle.http_texts.proofs.Putting.{puts_trans, puts_halts, puts_as, halts_as, halts_front}
 use Rattle.http_texts.proofs.lines.put_end.Goals as goal

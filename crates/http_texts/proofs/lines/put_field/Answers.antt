@@ -1,5 +1,5 @@
 use Rattle.std.proofs.Common.{◌++◌, codes}
-use Rattle.body_pipe.proofs.Exits.{at_exit}
+use Rattle.http_bodies.proofs.Exits.{at_exit}
 use Rattle.httparse.specs.Ascii.{crlf_bytes}
 use Rattle.http_texts.proofs.Putting.{puts_trans, puts_halts, halts_front}
 use Rattle.http_texts.proofs.lines.put_field.Goals as goal

@@ -2,11 +2,11 @@
 use Rattle.std.proofs.Common.{◌≡◌, ◌∙◌, ◌+◌, ◌<◌, [], ◌++◌, length, get_or, take, drop, sym, ap, arith, append_assoc}
 use Rattle.std.specs.Prelude.{filter}
 use Rattle.std.proofs.lemmas.Option.{slice_get-get_or}
-use Rattle.body_pipe.proofs.Exits.{at_exit}
+use Rattle.http_bodies.proofs.Exits.{at_exit}
 use Rattle.http_texts.specs.Fields.{is_kept, dropped}
 use Rattle.http_texts.specs.Lines.{kept_line}
 use Rattle.http_texts.specs.Texts.{field_text, fields_text}
-use Rattle.list_facts.proofs.Filtered.{flat_more, flat_front}
+use Rattle.base_lists.proofs.Filtered.{flat_more, flat_front}
 use Rattle.http_texts.proofs.Putting.{puts_trans, puts_halts, halts_front, puts_as, halts_as}
 use Rattle.req_view.specs.Request.{NamedValue}
 use Rattle.http_texts.proofs.lines.put_fields.Goals as goal

@@ -1,4 +1,4 @@
-use Rattle.body_pipe.proofs.Exits.{at_exit}
+use Rattle.http_bodies.proofs.Exits.{at_exit}
 use Rattle.http_texts.proofs.lines.put_framing.Goals as goal
 
 pub returns-in_err-put-in-Chunked-clause-err : goal.returns-in_err-put-in-Chunked-clause-err

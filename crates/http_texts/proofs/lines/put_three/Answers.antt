@@ -1,4 +1,4 @@
-use Rattle.body_pipe.proofs.Exits.{at_exit}
+use Rattle.http_bodies.proofs.Exits.{at_exit}
 use Rattle.http_texts.proofs.Putting.{puts_trans, puts_halts, halts_front}
 use Rattle.std.proofs.Common.{◌++◌}
 use Rattle.http_texts.proofs.lines.put_three.Goals as goal

@@ -1,6 +1,6 @@
 use Rattle.std.proofs.Common.{◌↔◌, IsTrue, List, subst}
-use Rattle.readable_log.specs.declared.grant.SlotGrant.{SlotGrant}
-use Rattle.readable_log.specs.Windows.{window_of}
+use Rattle.log_reading.specs.declared.grant.SlotGrant.{SlotGrant}
+use Rattle.log_reading.specs.Windows.{window_of}
 use Rattle.late_cert.specs.Tests.{PassesEachTest}
 use Rattle.late_cert.proofs.Least.{sound_least}
 use Rattle.late_cert.proofs.Sound.{sound_exactly}

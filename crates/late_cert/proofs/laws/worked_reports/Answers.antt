@@ -1,6 +1,6 @@
 use Rattle.std.proofs.Common.{◌≡◌, ℕ, List, [], ◌∷◌, pos, negsuc, slice_get, refl, ap, arith}
 use Rattle.std.specs.Option.{option_map_or}
-use Rattle.readable_log.specs.declared.grant.Stay.{Stay}
+use Rattle.log_reading.specs.declared.grant.Stay.{Stay}
 use Rattle.std.proofs.lemmas.Int.{ints}
 use Rattle.std.proofs.lemmas.List.Sorted.{IsPermutation-swap}
 use Rattle.late_cert.specs.Worked.{stay_2, stay_3}

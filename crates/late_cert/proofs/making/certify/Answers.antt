@@ -1,7 +1,7 @@
 use Rattle.std.proofs.Common.{List, subst, sym}
 use Rattle.std.specs.List.Sorted.{IsPermutation, IsStableBy}
-use Rattle.readable_log.specs.declared.grant.SlotGrant.{SlotGrant}
-use Rattle.readable_log.specs.Windows.{window_of}
+use Rattle.log_reading.specs.declared.grant.SlotGrant.{SlotGrant}
+use Rattle.log_reading.specs.Windows.{window_of}
 use Rattle.late_cert.specs.Groups.{is_before, AreGroups}
 use Rattle.late_cert.specs.Reports.{AreReports}
 use Rattle.late_cert.proofs.Grouped.{certified}

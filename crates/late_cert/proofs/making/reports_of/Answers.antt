@@ -1,8 +1,8 @@
 use Rattle.std.proofs.Common.{Option, ℕ, ◌<◌, ◌++◌, ◌∷◌, [], List, subst, sym, arith, append_assoc}
 use Rattle.std.proofs.lemmas.List.{append-nil}
 use Rattle.std.proofs.lemmas.List.Sums.{prefix_len-le-length}
-use Rattle.readable_log.specs.Grants.{is_of}
-use Rattle.readable_log.specs.declared.grant.SlotGrant.{SlotGrant}
+use Rattle.log_reading.specs.Grants.{is_of}
+use Rattle.log_reading.specs.declared.grant.SlotGrant.{SlotGrant}
 use Rattle.late_cert.specs.Groups.{AreGroups}
 use Rattle.late_cert.specs.declared.report.Report.{Report}
 use Rattle.late_cert.proofs.Grouped.{one_more, some_group, no_group}

@@ -1,12 +1,12 @@
 use Rattle.std.proofs.Common.{◌≡◌, ◌+◌, ℤ, List, ◌∙◌, sym, subst, refl, is_lt, rules, get_or}
 use Rattle.std.specs.Ordering.{int_cmp, ordering_then}
-use Rattle.dispatch_log.specs.contracts.queue.QueueOrd.TheImpl as derived
+use Rattle.log_entries.specs.contracts.queue.QueueOrd.TheImpl as derived
 use Rattle.std.specs.List.Sorted.{IsSortedByKey, IsStableByKey, ties}
 use Rattle.std.proofs.lemmas.List.Elements.{filter_agree}
 use Rattle.std.proofs.lemmas.List.Sorted.{answers_always}
 use Rattle.std.specs.declared.cmp.Ordering.{Ordering}
-use Rattle.dispatch_log.specs.declared.queue.Queue.{Queue}
-use Rattle.readable_log.specs.declared.grant.SlotGrant.{SlotGrant}
+use Rattle.log_entries.specs.declared.queue.Queue.{Queue}
+use Rattle.log_reading.specs.declared.grant.SlotGrant.{SlotGrant}
 use Rattle.late_cert.specs.Groups.{is_before}
 use Rattle.late_cert.proofs.Order.{order, group_order, before_is}
 use Rattle.late_cert.proofs.making.sorted_grants.Goals as goal

@@ -1,19 +1,19 @@
 use Rattle.std.proofs.Common.{◌≡◌, ℕ, ◌+◌, ◌<◌, List, [], ◌∷◌, None, Some, drop, length, get_or, ap, sym, ◌∙◌, subst, arith}
 use Rattle.std.proofs.lemmas.List.{drop_all}
-use Rattle.list_facts.proofs.Never.{none_some}
-use Rattle.dispatch_log.specs.declared.entry.Entry.{Entry}
-use Rattle.dispatch_log.specs.Histories.{History, state_of}
-use Rattle.dispatch_log.specs.Rows.{row_of}
-use Rattle.dispatch_log.proofs.RowLemmas.{row_of_at}
-use Rattle.verdict.specs.declared.Verdict.{Verdict}
+use Rattle.base_lists.proofs.Never.{none_some}
+use Rattle.log_entries.specs.declared.entry.Entry.{Entry}
+use Rattle.log_entries.specs.Histories.{History, state_of}
+use Rattle.log_entries.specs.Rows.{row_of}
+use Rattle.log_entries.proofs.RowLemmas.{row_of_at}
+use Rattle.base_verdict.specs.declared.Verdict.{Verdict}
 use Rattle.grant_board.specs.Views.{KeeperView}
 use Rattle.grant_board.specs.KeeperCalls.{Keeper}
-use Rattle.dispatch_log.specs.Legal.{IsLegal}
-use Rattle.dispatch_trace.specs.Histories.{IsAt}
-use Rattle.outstanding.specs.Verdicts.{verdict_in}
-use Rattle.outstanding.specs.Outstanding.{place_in}
-use Rattle.outstanding.proofs.Owing.{IsOwedAt, MayOffer, owed_at, may_offer, own_tickets}
-use Rattle.outstanding.proofs.Weighing.{place_at}
+use Rattle.log_entries.specs.Legal.{IsLegal}
+use Rattle.dispatch_state.specs.Histories.{IsTicketAt}
+use Rattle.locked_book.specs.Verdicts.{verdict_in}
+use Rattle.locked_book.specs.Outstanding.{place_in}
+use Rattle.locked_book.proofs.Owing.{IsOwedAt, MayOffer, owed_at, may_offer, own_tickets}
+use Rattle.locked_book.proofs.Weighing.{place_at}
 use Rattle.locked_book.proofs.Paying.{IsPaying, next_entry, begins, passes, pays, paid_view, paid_woken}
 use Rattle.locked_book.proofs.offering.offer_from.Given as given
 use Rattle.locked_book.proofs.offering.offer_from.Goals as goal
@@ -29,13 +29,13 @@ at_entry h first now before places all entries j e same is low at =
     subst (IsPaying h first before all now places) (next_entry h.log j e (subst (λ l. j < length l) same low) (ap (λ l. get_or l j e) (sym same) ∙ sym at)) is
 
 -- the verdict is owed at the place that was found
-found_place : (h : History) (view : KeeperView) (place : ℕ) (it : ℕ × Verdict) → IsLegal h → IsAt (state_of h).rows (record { place = place; ticket = it.0 })
+found_place : (h : History) (view : KeeperView) (place : ℕ) (it : ℕ × Verdict) → IsLegal h → IsTicketAt (state_of h).rows (record { place = place; ticket = it.0 })
     → place_in it.0 (state_of h).rows ≡ place
 found_place h view place it legal at = place_at (state_of h).rows it.0 place at.0 (own_tickets h legal) at.1 at.2
 
 found_may : (h : History) (first now : Keeper) (before places : List ℕ) (all rest : List Entry) (e : Entry) (it : ℕ × Verdict) (place : ℕ) → IsLegal h
     → IsPaying h first before all now places (e ∷ rest) → verdict_in e ≡ Some it
-    → IsAt (state_of h).rows (record { place = place; ticket = it.0 }) → MayOffer now.view place it.0 it.1
+    → IsTicketAt (state_of h).rows (record { place = place; ticket = it.0 }) → MayOffer now.view place it.0 it.1
 found_may h first now before places all rest e it place legal is told at =
     may_offer h now.view (e ∷ rest) place it.0 it.1 legal is.owing
     (subst (λ p. IsOwedAt h now.view p it.0 it.1) (found_place h now.view place it legal at) (owed_at h now.view e rest it legal is.owing told))

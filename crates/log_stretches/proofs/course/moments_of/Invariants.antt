@@ -1,5 +1,5 @@
 use Rattle.std.proofs.Common.{◌≡◌, take}
-use Rattle.readable_log.specs.Grants.{moment_of}
+use Rattle.log_reading.specs.Grants.{moment_of}
 use Rattle.log_stretches.specs.Courses.{AreMoments}
 use Rattle.log_stretches.proofs.course.moments_of.Given as goal
 

@@ -1,7 +1,7 @@
 use Rattle.std.proofs.Common.{◌≡◌, ◌++◌, List, length}
 use Rattle.std.specs.BTreeMap.{get}
 use Rattle.std.specs.Ordering.{nat_cmp}
-use Rattle.dispatch_log.specs.declared.entry.Entry.{Entry}
+use Rattle.log_entries.specs.declared.entry.Entry.{Entry}
 use Rattle.log_stretches.specs.ReadBack.{AreReadBack}
 use Rattle.log_stretches.proofs.stretch.stretches_of.Given as goal
 

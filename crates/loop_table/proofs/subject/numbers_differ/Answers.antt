@@ -2,7 +2,7 @@ use Rattle.std.proofs.Common.{◌≡◌, ◌+◌, ◌*◌, ◌<◌, ◌^◌, ℕ
 use Rattle.loop_table.specs.declared.token.Token.{Token}
 use Rattle.loop_table.specs.declared.subject.Subject.{Subject}
 use Rattle.loop_table.specs.declared.subject.Subject.TheVariants.{Listener, Mailbox, Client, Server, Waiting, Outside}
-use Rattle.loop_table.specs.Subjects.{number_of, token_number, AreSame}
+use Rattle.loop_table.specs.Subjects.{subject_number, token_number, AreSame}
 use Rattle.loop_table.proofs.subject.numbers_differ.Goals as goal
 
 parts : (i j g h : ℕ) → i < 1048576 → j < 1048576 → g * 1048576 + i ≡ h * 1048576 + j → (i ≡ j) × (g ≡ h)
@@ -11,7 +11,7 @@ parts i j g h low_i low_j e = (omega arith, omega arith)
 places : (p q t u : ℕ) → p < 4096 → q < 4096 → 4096 * t + p ≡ 4096 * u + q → (p ≡ q) × (t ≡ u)
 places p q t u low_p low_q e = (omega arith, omega arith)
 
-same : (a b : Subject) → number_of a ≡ number_of b → AreSame a b
+same : (a b : Subject) → subject_number a ≡ subject_number b → AreSame a b
 same Listener Listener e = tt
 same Listener Mailbox e = absurd (omega (arith, e))
 same Listener (Client b) e = absurd (omega (arith, e))

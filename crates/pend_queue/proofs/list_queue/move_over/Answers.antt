@@ -1,7 +1,7 @@
 use Rattle.std.proofs.Common.{◌≡◌, ◌∷◌, reverse, ap, ◌∙◌, arith}
 use Rattle.pend_queue.proofs.Inserted.{IsAscending-inserted}
 use Rattle.pend_queue.proofs.Merged.{apart-inserted, merged-inserted}
-use Rattle.list_facts.proofs.Reversed.{reverse-push}
+use Rattle.base_lists.proofs.Reversed.{reverse-push}
 use Rattle.pend_queue.proofs.list_queue.move_over.Goals as goal
 
 -- the least pair of what is left is put in

@@ -2,7 +2,7 @@ use Rattle.std.proofs.Common.{◌∙◌, ℕ, List, Option, sym, ap}
 use Rattle.std.specs.List.{flat_map, last_or}
 use Rattle.std.specs.Option.{option_copied}
 use Rattle.proxy_words.specs.Parts.{parts}
-use Rattle.list_facts.proofs.Found.{last_or-append}
+use Rattle.base_lists.proofs.Found.{last_or-append}
 use Rattle.prio_rules.proofs.fields.last_value.Goals as goal
 
 pub values-preserved : goal.values-preserved

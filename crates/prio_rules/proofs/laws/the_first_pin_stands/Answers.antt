@@ -2,7 +2,7 @@ use Rattle.std.proofs.Common.{◌∙◌, List, Option, option_map, ap}
 use Rattle.std.specs.List.{find}
 use Rattle.proxy_config.specs.declared.parts.Pin.{Pin}
 use Rattle.prio_rules.specs.Truth.{guard_holds}
-use Rattle.list_facts.proofs.Found.{find-first, find-none}
+use Rattle.base_lists.proofs.Found.{find-first, find-none}
 use Rattle.prio_rules.proofs.laws.the_first_pin_stands.Goals as goal
 
 pub returns-clause-first : goal.returns-clause-first

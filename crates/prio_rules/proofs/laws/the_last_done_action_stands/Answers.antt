@@ -2,7 +2,7 @@ use Rattle.std.proofs.Common.{◌∙◌, ℤ, pos, List, Option, None, unwrap_or
 use Rattle.std.specs.List.{filter_map, last_or}
 use Rattle.proxy_config.specs.declared.parts.Rule.{Rule}
 use Rattle.prio_rules.specs.Wishes.{set_by}
-use Rattle.list_facts.proofs.Found.{last_or-last, last_or-none}
+use Rattle.base_lists.proofs.Found.{last_or-last, last_or-none}
 use Rattle.prio_rules.proofs.laws.the_last_done_action_stands.Goals as goal
 
 pub returns-clause-last : goal.returns-clause-last

@@ -5,7 +5,7 @@ use Rattle.proxy_words.specs.Parts.{parts}
 use Rattle.req_view.specs.Request.{values_of}
 use Rattle.prio_rules.specs.FieldValues.{field_values}
 use Rattle.prio_rules.specs.Truth.{one_fits, texts}
-use Rattle.list_facts.proofs.Found.{list_any_flat_map}
+use Rattle.base_lists.proofs.Found.{list_any_flat_map}
 use Rattle.prio_rules.proofs.samples.test_holds.Goals as goal
 
 pub returns-in-Header : goal.returns-in-Header

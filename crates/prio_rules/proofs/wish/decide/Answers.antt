@@ -1,6 +1,6 @@
 use Rattle.std.proofs.Common.{◌<◌, length, IfSome, Option, ℕ, sym, subst}
 use Rattle.prio_rules.specs.Truth.{guard_holds}
-use Rattle.list_facts.proofs.Found.{find-All}
+use Rattle.base_lists.proofs.Found.{find-All}
 use Rattle.prio_rules.proofs.wish.decide.Goals as goal
 
 pub returns-clause-known : goal.returns-clause-known

@@ -7,7 +7,7 @@ use Rattle.proxy_config.specs.declared.parts.Server.{Server}
 use Rattle.proxy_config.specs.declared.progress.Progress.{Progress}
 use Rattle.proxy_config.specs.declared.wishes.Wish.{Wish}
 use Rattle.proxy_config.specs.Resolved.{Resolved, start}
-use Rattle.proxy_config.specs.File.{Answers, declared_servers, finished, is_line, run, survey}
+use Rattle.proxy_config.specs.File.{FileAnswers, declared_servers, finished, is_line, run, survey}
 use Rattle.proxy_config.specs.Progress.{decided, settled, take_line, unless_known, with_pins}
 use Rattle.proxy_config.proofs.OnePass.{coming, coming-take, fit}
 use Rattle.proxy_config.proofs.Surveys.{survey-take}
@@ -64,5 +64,5 @@ returns c =
     let same : settled c.lines.progress.draft.servers c.lines.progress ≡ run all long start 1 (lines c.args.bytes.now) =
     ap (λ (servers : List Server). settled servers c.lines.progress) known
     ∙ ap (λ (ls : List (List ℕ)). coming all long c.lines.progress (c.lines.number + 1) ls) (sym none) ∙ c.lines.invariant.coming in
-    subst (λ (read : Result Config ConfigFault). Answers c.finish.result read)
+    subst (λ (read : Result Config ConfigFault). FileAnswers c.finish.result read)
     (ap finished same ∙ ap (λ (l : Option ℕ). finished (run all l start 1 (lines c.args.bytes.now))) c.long_line-long.ensures) c.finish.ensures

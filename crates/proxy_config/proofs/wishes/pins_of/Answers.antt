@@ -11,7 +11,7 @@ use Rattle.proxy_config.proofs.wishes.pins_of.Goals as goal
 
 -- one pin more
 next_pin : (servers : List Server) (all : Result (List Pin) ConfigFault) (pins new : List Pin) (left rest : List Wish) (wish : Wish) (pin : Pin)
-    → all ≡ with_pins servers left (λ more. Ok (pins ++ more)) → left ≡ wish ∷ rest → grammar.pin_of servers wish ≡ Ok pin → new ≡ pins ++ pin ∷ []
+    → all ≡ with_pins servers left (λ more. Ok (pins ++ more)) → left ≡ wish ∷ rest → grammar.asked_pin servers wish ≡ Ok pin → new ≡ pins ++ pin ∷ []
     → all ≡ with_pins servers rest (λ more. Ok (new ++ more))
 next_pin servers all pins new left rest wish pin so_far is read pushed =
     so_far ∙ ap (λ (wishes : List Wish). with_pins servers wishes (λ more. Ok (pins ++ more))) is

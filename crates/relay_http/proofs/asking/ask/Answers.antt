@@ -1,7 +1,7 @@
 -- What was told before, and what is told now.
 use Rattle.std.proofs.Common.{◌≡◌, ◌∙◌, ℕ, ◌-◌, List, ◌++◌, length, take, drop, refl, sym, ap, arith, append_assoc, subst}
 use Rattle.httparse.specs.Grammar.{print_request}
-use Rattle.list_facts.proofs.Fronts.{behind}
+use Rattle.base_lists.proofs.Fronts.{behind}
 use Rattle.exchange_machine.specs.Histories.{client_came}
 use Rattle.exchange_machine.specs.Requests.{LacksHead}
 use Rattle.exchange_machine.specs.Stages.{HeadSays, IsMore, IsTurn}

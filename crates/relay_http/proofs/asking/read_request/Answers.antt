@@ -1,11 +1,11 @@
 -- Bytes are read until a head stands there, or can't.
 use Rattle.std.proofs.Common.{◌∙◌, List, ℕ, [], ◌++◌, sym, ap, arith, refl, subst}
 use Rattle.httparse.specs.Grammar.{print_request}
-use Rattle.counted_io.specs.Streams.{Stream}
-use Rattle.body_pipe.proofs.Exits.{at_exit}
-use Rattle.body_pipe.proofs.Stepping.{moves_none, moves_trans, moves_use}
-use Rattle.body_pipe.specs.Steps.{ends, Moves}
-use Rattle.body_pipe.specs.declared.pipe.Pipe.{Pipe}
+use Rattle.base_streams.specs.Streams.{Stream}
+use Rattle.http_bodies.proofs.Exits.{at_exit}
+use Rattle.http_bodies.proofs.Stepping.{moves_none, moves_trans, moves_use}
+use Rattle.http_bodies.specs.Steps.{ends, Moves}
+use Rattle.http_bodies.specs.declared.pipe.Pipe.{Pipe}
 use Rattle.exchange_machine.specs.Wholes.{begun}
 use Rattle.http_texts.specs.Heads.{LacksRequest}
 use Rattle.relay_http.specs.Failures.{Fails}

@@ -1,6 +1,6 @@
 use Rattle.std.proofs.Common.{◌≡◌, []}
-use Rattle.counted_io.specs.Streams.{Stream}
-use Rattle.body_pipe.specs.Steps.{ends, Moves}
+use Rattle.base_streams.specs.Streams.{Stream}
+use Rattle.http_bodies.specs.Steps.{ends, Moves}
 use Rattle.relay_http.specs.Askings.{HasAsked}
 use Rattle.relay_http.proofs.asking.read_request.Given as goal
 

@@ -2,9 +2,9 @@
 use Rattle.std.proofs.Common.{◌≡◌, ◌∙◌, ℕ, List, ◌++◌, refl, ap, append_assoc, subst}
 use Rattle.std.proofs.lemmas.Result.{IfErr-weaker, on_ok_weaker}
 use Rattle.httparse.specs.Grammar.{print_response}
-use Rattle.body_pipe.proofs.Exits.{at_exit}
-use Rattle.relay_body.specs.Framings.{IsBody, PartOfBody}
-use Rattle.body_pipe.proofs.Stepping.{moves_trans, moves_as}
+use Rattle.http_bodies.proofs.Exits.{at_exit}
+use Rattle.http_bodies.specs.Framings.{IsBody, PartOfBody}
+use Rattle.http_bodies.proofs.Stepping.{moves_trans, moves_as}
 use Rattle.http_texts.specs.Messages.{NoBody, LacksAnswer, print_heads, interims_text}
 use Rattle.http_texts.specs.Messages.PartOfAnswered.{some_heads, head_and_body}
 use Rattle.http_texts.specs.Texts.{answer_text, framed_for}

@@ -1,8 +1,8 @@
 -- The head, the body and what waits, one after the other.
 use Rattle.std.proofs.Common.{◌∙◌, [], ◌++◌, refl, sym, append-nil}
-use Rattle.relay_body.specs.Framings.{LacksBody}
-use Rattle.body_pipe.proofs.Exits.{at_exit}
-use Rattle.body_pipe.proofs.Stepping.{moves_trans, moves_as}
+use Rattle.http_bodies.specs.Framings.{LacksBody}
+use Rattle.http_bodies.proofs.Exits.{at_exit}
+use Rattle.http_bodies.proofs.Stepping.{moves_trans, moves_as}
 use Rattle.http_texts.specs.Messages.{NoBody}
 use Rattle.http_texts.specs.Texts.{answer_text}
 use Rattle.relay_http.proofs.Failing.{moves_fails, moves_put, moves_halts, fails_put, fails_of, fails_as}

@@ -1,8 +1,8 @@
 -- The head, the body and what waits, one after the other.
 use Rattle.std.proofs.Common.{◌∙◌, None, [], ◌++◌, refl, sym, append-nil}
-use Rattle.relay_body.specs.Framings.{LacksBody}
-use Rattle.body_pipe.proofs.Exits.{at_exit}
-use Rattle.body_pipe.proofs.Stepping.{moves_none, moves_trans, moves_as, Countable-later}
+use Rattle.http_bodies.specs.Framings.{LacksBody}
+use Rattle.http_bodies.proofs.Exits.{at_exit}
+use Rattle.http_bodies.proofs.Stepping.{moves_none, moves_trans, moves_as, Countable-later}
 use Rattle.http_texts.specs.Messages.{NoBody, LacksForwarded}
 use Rattle.http_texts.specs.Messages.PartOfForwarded.{nothing, head_and_body}
 use Rattle.http_texts.specs.Messages.LacksForwarded.{no_framing, no_body}

@@ -3,9 +3,9 @@ use Rattle.std.proofs.Common.{◌≡◌, ◌∙◌, ◌<◌, [], ◌∷◌, ◌+
 use Rattle.std.proofs.Common.{refl, sym, ap, arith, append-nil, length-append, subst}
 use Rattle.std.specs.Prelude.{IsSome}
 use Rattle.httparse.specs.Grammar.{print_response}
-use Rattle.body_pipe.proofs.Exits.{at_exit}
-use Rattle.list_facts.proofs.Filtered.{flat_last}
-use Rattle.body_pipe.proofs.Stepping.{moves_none, moves_trans, moves_use, moves_as, Countable-later}
+use Rattle.http_bodies.proofs.Exits.{at_exit}
+use Rattle.base_lists.proofs.Filtered.{flat_last}
+use Rattle.http_bodies.proofs.Stepping.{moves_none, moves_trans, moves_use, moves_as, Countable-later}
 use Rattle.http_texts.specs.Framings.{answer_plan, is_interim}
 use Rattle.http_texts.specs.Heads.{NoAnswer}
 use Rattle.http_texts.specs.Messages.{IsInterim, AreInterims, print_heads, interims_text, LacksAnswer}

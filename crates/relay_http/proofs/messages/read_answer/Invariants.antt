@@ -1,7 +1,7 @@
 use Rattle.std.proofs.Common.{◌≡◌, ◌+◌, ◌-◌, ◌≤◌, List, length}
 use Rattle.std.specs.List.{AllByRecursion}
 use Rattle.httparse.specs.Grammar.{ResponseHead}
-use Rattle.body_pipe.specs.Steps.{ends, Moves}
+use Rattle.http_bodies.specs.Steps.{ends, Moves}
 use Rattle.http_texts.specs.Messages.{IsInterim, print_heads, interims_text}
 use Rattle.http_texts.specs.Texts.{framed_for}
 use Rattle.relay_http.proofs.messages.read_answer.Given as goal

@@ -1,6 +1,6 @@
 -- The head goes out at once.
 use Rattle.std.proofs.Common.{append-nil}
-use Rattle.body_pipe.proofs.Exits.{at_exit}
+use Rattle.http_bodies.proofs.Exits.{at_exit}
 use Rattle.http_texts.specs.Texts.{interim_text}
 use Rattle.http_texts.proofs.Putting.{puts_trans, puts_halts, puts_as, halts_as}
 use Rattle.relay_http.proofs.sending.pass_interim.Goals as goal

@@ -1,6 +1,6 @@
 -- The text, and all that waits.
 use Rattle.std.proofs.Common.{append-nil}
-use Rattle.body_pipe.proofs.Exits.{at_exit}
+use Rattle.http_bodies.proofs.Exits.{at_exit}
 use Rattle.http_texts.proofs.Putting.{puts_trans, puts_halts, puts_as, halts_as}
 use Rattle.relay_http.proofs.sending.send_text.Goals as goal
 

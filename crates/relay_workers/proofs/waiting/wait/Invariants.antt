@@ -1,5 +1,5 @@
 use Rattle.std.proofs.Common.{◌≡◌, [], true}
-use Rattle.grant_desk.specs.Seats.{IsSameSeat}
+use Rattle.shared_desk.specs.Seats.{IsSameSeat}
 use Rattle.relay_workers.proofs.waiting.wait.Given as goal
 
 -- no pass was taken yet, and where the pauses are spent none is left

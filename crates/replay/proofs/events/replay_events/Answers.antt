@@ -1,11 +1,11 @@
 use Rattle.std.proofs.Common.{◌≡◌, [], ap, sym, subst, ◌∙◌, string_bytes, arith}
 use Rattle.std.specs.Str.Lines.{lines}
-use Rattle.dispatch_log.specs.declared.setup.Setup.{Setup}
-use Rattle.dispatch_log.specs.Histories.{History, first_window}
-use Rattle.script.specs.Headers.{Settings, settings_of}
-use Rattle.script.specs.Steps.{steps_of}
-use Rattle.script.specs.ScriptTexts.{IsScriptText}
-use Rattle.script.proofs.Bodies.{settings_whole}
+use Rattle.log_entries.specs.declared.setup.Setup.{Setup}
+use Rattle.log_entries.specs.Histories.{History, first_window}
+use Rattle.log_texts.specs.Headers.{Settings, settings_of}
+use Rattle.log_texts.specs.Steps.{steps_of}
+use Rattle.log_texts.specs.ScriptTexts.{IsScriptText}
+use Rattle.log_texts.proofs.Bodies.{settings_whole}
 use Rattle.replay.specs.Defaults.{names_of, opening}
 use Rattle.std.proofs.lemmas.Grind.{common_steps}
 use Rattle.replay.proofs.events.replay_events.Goals as goal

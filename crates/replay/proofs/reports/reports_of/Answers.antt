@@ -1,8 +1,8 @@
 use Rattle.std.proofs.lemmas.Result.{IfOk-weaker}
-use Rattle.readable_log.specs.Windows.{window_of}
+use Rattle.log_reading.specs.Windows.{window_of}
 use Rattle.late_cert.specs.Certificates.{IsCertified}
 use Rattle.late_cert.specs.Reports.{AreReports}
-use Rattle.readable_log.proofs.Windows.{same_window}
+use Rattle.log_reading.proofs.Windows.{same_window}
 use Rattle.late_cert.proofs.Certified.{certified}
 use Rattle.replay.proofs.reports.reports_of.Goals as goal
 

@@ -1,20 +1,20 @@
 use Rattle.std.proofs.Common.{◌≡◌, ◌++◌, ◌+◌, List, [], ℕ, Option, Some, true, filter_map}
 use Rattle.std.proofs.Common.{is_some, string_bytes, refl, ap, sym, subst, ◌∙◌, append_assoc, append-nil, arith}
 use Rattle.std.specs.Str.Lines.{lines}
-use Rattle.script.specs.declared.step.Step.{Step}
-use Rattle.script.specs.declared.line.Line.{Line}
-use Rattle.script.specs.Faults.{fault_behind}
-use Rattle.script.specs.Lines.{is_fault, line_of, step_in}
-use Rattle.script.proofs.KindsOfLines.{step_is}
-use Rattle.script.specs.Steps.{step_of, steps_of}
-use Rattle.script.specs.ScriptTexts.{IsScriptText}
-use Rattle.script.proofs.Bodies.{through_step, through_other, fault_found}
+use Rattle.log_texts.specs.declared.step.Step.{Step}
+use Rattle.log_texts.specs.declared.line.Line.{Line}
+use Rattle.log_texts.specs.Faults.{fault_behind}
+use Rattle.log_texts.specs.Lines.{is_fault, kind_of_line, step_in}
+use Rattle.log_texts.proofs.KindsOfLines.{step_is}
+use Rattle.log_texts.specs.Steps.{step_of, steps_of}
+use Rattle.log_texts.specs.ScriptTexts.{IsScriptText}
+use Rattle.log_texts.proofs.Bodies.{through_step, through_other, fault_found}
 use Rattle.replay.proofs.Runs.{steps_from_line, steps_past_line, text_from_step}
 use Rattle.replay.proofs.run.run.Goals as goal
 use Rattle.replay.proofs.run.run.Goals.{else-header-number-via-then-header-number+else-faulty, else-header-number-via-else-header-number}
 
 -- the step that a line asks for, by what it is
-asked : (line : List ℕ) (step : Option Step) (kind : Option Line) → step ≡ step_in kind → kind ≡ line_of line → step ≡ step_of line
+asked : (line : List ℕ) (step : Option Step) (kind : Option Line) → step ≡ step_in kind → kind ≡ kind_of_line line → step ≡ step_of line
 asked line step kind is of = is ∙ ap step_in of ∙ step_is line
 
 -- the event of the line is answered, and what is left follows

@@ -1,9 +1,9 @@
 use Rattle.std.proofs.Common.{ℕ, List, ◌++◌, ◌≤◌, length, filter_map, string_bytes}
 use Rattle.std.specs.Str.Lines.{lines}
-use Rattle.dispatch_log.specs.Histories.{History}
-use Rattle.script.specs.Steps.{step_of, steps_of}
-use Rattle.script.specs.ScriptTexts.{IsScriptText}
-use Rattle.script.proofs.Bodies.{IsThrough}
+use Rattle.log_entries.specs.Histories.{History}
+use Rattle.log_texts.specs.Steps.{step_of, steps_of}
+use Rattle.log_texts.specs.ScriptTexts.{IsScriptText}
+use Rattle.log_texts.proofs.Bodies.{IsThrough}
 use Rattle.replay.proofs.run.run.Given as goal
 
 -- the lines so far have no fault; and the written text with a text of the remaining lines behind it is a text of all lines

@@ -1,6 +1,6 @@
 use Rattle.std.proofs.Common.{◌≡◌, ◌≤◌, vec_len}
 use Rattle.std.specs.Io.KnownBytes.{Consumes}
-use Rattle.script.specs.declared.header.TheConstants.{MOST_BYTES}
+use Rattle.log_texts.specs.declared.header.TheConstants.{MOST_BYTES}
 use Rattle.replay.proofs.transfers.read_whole.Given as goal
 
 -- each read gave a byte at least, and all that was read is there

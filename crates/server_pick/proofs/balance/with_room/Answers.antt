@@ -1,7 +1,7 @@
 use Rattle.std.proofs.Common.{length, subst}
-use Rattle.slot_ledger.specs.Ledgers.{scene_of}
+use Rattle.slot_ledger.specs.Ledgers.{scene_in}
 use Rattle.server_pick.specs.Order.{HasRoomBut}
-use Rattle.dispatch_log.proofs.Choices.{room_there}
+use Rattle.log_entries.proofs.Choices.{room_there}
 use Rattle.server_pick.proofs.Filled.{IsFilled, filled_step, filled_all, loop_end}
 use Rattle.server_pick.proofs.balance.with_room.Goals as goal
 
@@ -10,7 +10,7 @@ filling-preserved g c = filled_step _ c.filling.server c.has_room_but.result _ _
 
 pub returns : goal.returns
 returns g c =
-    let scene = scene_of c.args.ledger.now in
+    let scene = scene_in c.args.ledger.now in
     let all = loop_end c.setup.result.now c.args.ledger.now.setup _ _ c.setup.ensures.setup c.len-server-end.ensures c.filling-test.false
     c.filling.auto.server-end in
     filled_all (HasRoomBut scene c.args.avoid) (length scene.servers) _ (λ server has. room_there scene server has.0)

@@ -1,8 +1,8 @@
 use Rattle.std.proofs.Common.{◌≡◌, ℕ, ◌<◌, true}
-use Rattle.dispatch_log.specs.Scenes.{is_usable}
-use Rattle.slot_ledger.specs.Ledgers.{scene_of}
+use Rattle.log_entries.specs.Scenes.{is_usable}
+use Rattle.slot_ledger.specs.Ledgers.{scene_in}
 use Rattle.server_pick.proofs.placement.some_usable.Given as goal
 
 -- no server so far
 abbrev pub invariant-looking : goal.invariant-looking
-invariant-looking g l = (other : ℕ) → other < l.server → is_usable (scene_of l.ledger) other ≡ true → ⊥
+invariant-looking g l = (other : ℕ) → other < l.server → is_usable (scene_in l.ledger) other ≡ true → ⊥

@@ -1,6 +1,6 @@
 use Rattle.std.proofs.Common.{None, not, get_or, ap, ◌∙◌}
 use Rattle.std.proofs.lemmas.Option.{slice_get-get_or}
-use Rattle.list_facts.proofs.Options.{none_from_test}
+use Rattle.base_lists.proofs.Options.{none_from_test}
 use Rattle.slot_ledger.proofs.Stretches.{pass_dropped}
 use Rattle.slot_ledger.proofs.tickets.pass.Goals as goal
 

@@ -1,6 +1,6 @@
 use Rattle.std.proofs.Common.{◌∷◌, sym, ap, subst, length, IsPermutation, arith}
 use Rattle.std.proofs.lemmas.List.Sorted.{length_permutation}
-use Rattle.pend_queue.specs.Pairs.{IsAbsent}
+use Rattle.pend_queue.specs.Pairs.{KeyIsAbsent}
 use Rattle.pend_queue.proofs.Inserted.{IsPermutation-inserted}
 use Rattle.binom_queue.specs.Trees.{items}
 use Rattle.binom_queue.proofs.Heaps.{roots_from_less}
@@ -14,7 +14,7 @@ invariant_of-self g c =
     let root = c.node.inside.root.value in
     let moved = lone root c.args.node c.replace-roots.result c.self.inside.roots (items c.add.result) c.node.invariant.child c.node.view_is
     c.replace-roots.ensures.value c.add.ensures.pairs in
-    let absent = subst (IsAbsent g.K.Ord.cmp c.args.node.0) (sym (ap (λ q. q.pairs) c.self.view_is)) c.requires.absent in
+    let absent = subst (KeyIsAbsent g.K.Ord.cmp c.args.node.0) (sym (ap (λ q. q.pairs) c.self.view_is)) c.requires.absent in
     let become = pushed g.met.K.Ord.total (items c.self.inside.roots) c.self.invariant.distinct c.args.node (items c.add.result) moved absent in
     let long = length_permutation _ _ moved in
     let kept = ap (λ q. q.room) c.self.view_is in
@@ -32,7 +32,7 @@ returns-clause-pairs g c =
     let moved = lone root c.args.node c.replace-roots.result c.self.inside.roots (items c.add.result) c.node.invariant.child c.node.view_is
     c.replace-roots.ensures.value c.add.ensures.pairs in
     let is = ap (λ q. q.pairs) c.self.view_is in
-    let absent = subst (IsAbsent g.K.Ord.cmp c.args.node.0) (sym is) c.requires.absent in
+    let absent = subst (KeyIsAbsent g.K.Ord.cmp c.args.node.0) (sym is) c.requires.absent in
     let become = pushed g.met.K.Ord.total (items c.self.inside.roots) c.self.invariant.distinct c.args.node (items c.add.result) moved absent in
     rw (← is) become.are
 

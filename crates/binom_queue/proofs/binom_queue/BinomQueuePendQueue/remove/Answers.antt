@@ -1,6 +1,6 @@
 use Rattle.std.proofs.Common.{◌∙◌, ◌∷◌, ◌++◌, sym, ap, subst, IsPermutation, option_map, option_to_list, Some, arith, length-append}
 use Rattle.std.proofs.lemmas.List.Sorted.{length_permutation, IsPermutation-trans, IsPermutation-cons}
-use Rattle.pend_queue.specs.Pairs.{IsAscending, without}
+use Rattle.pend_queue.specs.Pairs.{IsAscending, pairs_without}
 use Rattle.pend_queue.proofs.Without.{IsPermutation-without}
 use Rattle.binom_queue.specs.Trees.{items}
 use Rattle.binom_queue.specs.Queue.{by_key}
@@ -71,5 +71,5 @@ returns-clause-permutation g c =
     let up = subst (IsAscending g.K.Ord.cmp) is (IsAscending-by_key g.met.K.Ord.total (items c.self.inside.roots)) in
     let whole = IsPermutation-without g.met.K.Ord.total c.args.key.now c.args.self.now.pairs up in
     subst (λ l. IsPermutation c.args.self.now.pairs (c.part.result ∷ l)) (sym (returns-clause-pairs g c))
-    (subst (λ o. IsPermutation c.args.self.now.pairs (option_to_list o ++ without g.K.Ord.cmp c.args.key.now c.args.self.now.pairs))
+    (subst (λ o. IsPermutation c.args.self.now.pairs (option_to_list o ++ pairs_without g.K.Ord.cmp c.args.key.now c.args.self.now.pairs))
     (sym (returns-clause-value g c)) whole)

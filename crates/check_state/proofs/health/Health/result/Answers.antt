@@ -1,5 +1,5 @@
 use Rattle.std.proofs.Common.{◌≡◌, ◌≤◌, ◌+◌, ◌<◌, subst, sym, ap, ◌∙◌, cond}
-use Rattle.check_state.specs.Standing.{IsHealthOf, limit_of}
+use Rattle.check_state.specs.Standing.{IsHealthOf, results_to_turn}
 use Rattle.check_state.specs.declared.health.Change.TheVariants.{WentDown, WentUp}
 use Rattle.check_state.proofs.Steps.{same_result, further_result, turning_result}
 use Rattle.check_state.proofs.health.Health.result.Goals as goal
@@ -16,17 +16,17 @@ returns-then-ok-self-clause-change c rise fall results is =
 pub returns-then-self-limit-clause-health : goal.returns-then-self-limit-clause-health
 returns-then-self-limit-clause-health c rise fall results is =
     (further_result rise fall results _ c.args.ok (subst (IsHealthOf rise fall results) (sym c.self.view_is) is) c.self.invariant c.if-ok-self.false
-    (subst (λ n. c.self.inside.against + 1 < n) (c.limit-limit.ensures ∙ ap limit_of (sym c.self.view_is)) c.if-self-limit.true)).health
+    (subst (λ n. c.self.inside.against + 1 < n) (c.limit-limit.ensures ∙ ap results_to_turn (sym c.self.view_is)) c.if-self-limit.true)).health
 
 pub returns-then-self-limit-clause-change : goal.returns-then-self-limit-clause-change
 returns-then-self-limit-clause-change c rise fall results is =
     (further_result rise fall results _ c.args.ok (subst (IsHealthOf rise fall results) (sym c.self.view_is) is) c.self.invariant c.if-ok-self.false
-    (subst (λ n. c.self.inside.against + 1 < n) (c.limit-limit.ensures ∙ ap limit_of (sym c.self.view_is)) c.if-self-limit.true)).change_is
+    (subst (λ n. c.self.inside.against + 1 < n) (c.limit-limit.ensures ∙ ap results_to_turn (sym c.self.view_is)) c.if-self-limit.true)).change_is
 
 pub returns-after-ok-clause-health : goal.returns-after-ok-clause-health
 returns-after-ok-clause-health c rise fall results is =
     (turning_result rise fall results _ c.args.ok (subst (IsHealthOf rise fall results) (sym c.self.view_is) is) c.self.invariant c.if-ok-self.false
-    (subst (λ n. n ≤ c.self.inside.against + 1) (c.limit-limit.ensures ∙ ap limit_of (sym c.self.view_is)) c.if-self-limit.false)).health
+    (subst (λ n. n ≤ c.self.inside.against + 1) (c.limit-limit.ensures ∙ ap results_to_turn (sym c.self.view_is)) c.if-self-limit.false)).health
 
 pub returns-after-ok-clause-change : goal.returns-after-ok-clause-change
 returns-after-ok-clause-change c rise fall results is =
@@ -37,4 +37,4 @@ returns-after-ok-clause-change c rise fall results is =
     ]
     in
     told ∙ (turning_result rise fall results _ c.args.ok (subst (IsHealthOf rise fall results) (sym c.self.view_is) is) c.self.invariant c.if-ok-self.false
-    (subst (λ n. n ≤ c.self.inside.against + 1) (c.limit-limit.ensures ∙ ap limit_of (sym c.self.view_is)) c.if-self-limit.false)).change_is
+    (subst (λ n. n ≤ c.self.inside.against + 1) (c.limit-limit.ensures ∙ ap results_to_turn (sym c.self.view_is)) c.if-self-limit.false)).change_is

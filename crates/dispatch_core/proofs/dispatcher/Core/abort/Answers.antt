@@ -1,9 +1,9 @@
 use Rattle.std.proofs.Common.{refl, subst}
-use Rattle.dispatch_log.specs.Dispatch.{IsDispatched}
-use Rattle.dispatch_log.specs.declared.entry.Entry.TheVariants.{Abort}
-use Rattle.dispatch_log.specs.Histories.{History, effective}
-use Rattle.dispatch_log.specs.Legal.{AddsEvent}
-use Rattle.dispatch_log.proofs.Dispatched.{dispatched}
+use Rattle.log_entries.specs.Dispatch.{IsDispatched}
+use Rattle.log_entries.specs.declared.entry.Entry.TheVariants.{Abort}
+use Rattle.log_entries.specs.Histories.{History, effective}
+use Rattle.log_entries.specs.Legal.{AddsEvent}
+use Rattle.log_entries.proofs.Dispatched.{dispatched}
 use Rattle.dispatch_core.proofs.Calls.{added_dispatched}
 use Rattle.dispatch_core.proofs.Dismissals.{aborted_waits, may_abort, abort_may_grant, abort_settles, abort_adds}
 use Rattle.dispatch_core.proofs.Standing.{at_abort}

@@ -1,14 +1,14 @@
 use Rattle.std.proofs.Common.{refl, sym, ◌∙◌, subst, pos, ◌+ℤ◌}
-use Rattle.dispatch_log.specs.declared.entry.Entry.TheVariants.{Arrive}
-use Rattle.dispatch_log.specs.Dispatch.{IsDispatched}
-use Rattle.dispatch_log.specs.Histories.{History, effective}
-use Rattle.dispatch_log.specs.Legal.{AddsEvent}
-use Rattle.dispatch_log.proofs.Dispatched.{dispatched}
+use Rattle.log_entries.specs.declared.entry.Entry.TheVariants.{Arrive}
+use Rattle.log_entries.specs.Dispatch.{IsDispatched}
+use Rattle.log_entries.specs.Histories.{History, effective}
+use Rattle.log_entries.specs.Legal.{AddsEvent}
+use Rattle.log_entries.proofs.Dispatched.{dispatched}
 use Rattle.dispatch_core.proofs.Calls.{added_dispatched, legal_places}
-use Rattle.dispatch_trace.proofs.Placing.{newcomer_put, arrival_places, arrival_room}
+use Rattle.dispatch_state.proofs.Placing.{newcomer_put, arrival_places, arrival_room}
 use Rattle.dispatch_core.proofs.Checking.{core_kept}
 use Rattle.dispatch_core.proofs.Going.{goes_places, adds}
-use Rattle.dispatch_trace.proofs.Placing.{over_granting, may_granting}
+use Rattle.dispatch_state.proofs.Placing.{over_granting, may_granting}
 use Rattle.dispatch_core.proofs.dispatcher.Core.arrive.Goals as goal
 
 pub returns-in-Some-clause-dispatched : goal.returns-in-Some-clause-dispatched

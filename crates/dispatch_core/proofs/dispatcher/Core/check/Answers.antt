@@ -1,9 +1,9 @@
 use Rattle.std.proofs.Common.{sym, ◌∙◌, refl, subst}
-use Rattle.dispatch_log.specs.Dispatch.{IsDispatched}
-use Rattle.dispatch_log.specs.declared.entry.Entry.TheVariants.{Check}
-use Rattle.dispatch_log.specs.Histories.{History, effective}
-use Rattle.dispatch_log.specs.Legal.{AddsEvent}
-use Rattle.dispatch_log.proofs.Dispatched.{dispatched}
+use Rattle.log_entries.specs.Dispatch.{IsDispatched}
+use Rattle.log_entries.specs.declared.entry.Entry.TheVariants.{Check}
+use Rattle.log_entries.specs.Histories.{History, effective}
+use Rattle.log_entries.specs.Legal.{AddsEvent}
+use Rattle.log_entries.proofs.Dispatched.{dispatched}
 use Rattle.dispatch_core.proofs.Calls.{added_dispatched}
 use Rattle.dispatch_core.proofs.Checking.{has_health, check_stage, check_change, check_within, check_room, core_goes}
 use Rattle.dispatch_core.proofs.Going.{carried_adds}

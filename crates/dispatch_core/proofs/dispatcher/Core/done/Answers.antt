@@ -1,11 +1,11 @@
 use Rattle.std.proofs.Common.{◌≡◌, None, Option, ℕ, refl, ap, sym, ◌∙◌, subst}
 use Rattle.std.specs.Option.{option_and_then}
-use Rattle.dispatch_log.specs.Rows.{server_in}
-use Rattle.dispatch_log.specs.Dispatch.{IsDispatched}
-use Rattle.dispatch_log.specs.declared.entry.Entry.TheVariants.{Done}
-use Rattle.dispatch_log.specs.Histories.{History, refuses_done, state_of, effective}
-use Rattle.dispatch_log.specs.Legal.{AddsEvent}
-use Rattle.dispatch_log.proofs.Dispatched.{dispatched}
+use Rattle.log_entries.specs.Rows.{server_in}
+use Rattle.log_entries.specs.Dispatch.{IsDispatched}
+use Rattle.log_entries.specs.declared.entry.Entry.TheVariants.{Done}
+use Rattle.log_entries.specs.Histories.{History, refuses_done, state_of, effective}
+use Rattle.log_entries.specs.Legal.{AddsEvent}
+use Rattle.log_entries.proofs.Dispatched.{dispatched}
 use Rattle.dispatch_core.specs.Steps.{IsReturn}
 use Rattle.dispatch_core.proofs.Calls.{begun_stage, begun_returns, done_returns, done_settles, done_adds, added_dispatched}
 use Rattle.dispatch_core.proofs.Standing.{at_done}

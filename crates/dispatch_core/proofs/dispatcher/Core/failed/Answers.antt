@@ -1,11 +1,11 @@
 use Rattle.std.proofs.Common.{refl, ap, sym, ◌∙◌, subst}
 use Rattle.std.specs.Option.{option_and_then}
-use Rattle.dispatch_log.specs.Rows.{server_in}
-use Rattle.dispatch_log.specs.Dispatch.{IsDispatched}
-use Rattle.dispatch_log.specs.declared.entry.Entry.TheVariants.{Fail}
-use Rattle.dispatch_log.specs.Histories.{History, effective}
-use Rattle.dispatch_log.specs.Legal.{AddsEvent}
-use Rattle.dispatch_log.proofs.Dispatched.{dispatched}
+use Rattle.log_entries.specs.Rows.{server_in}
+use Rattle.log_entries.specs.Dispatch.{IsDispatched}
+use Rattle.log_entries.specs.declared.entry.Entry.TheVariants.{Fail}
+use Rattle.log_entries.specs.Histories.{History, effective}
+use Rattle.log_entries.specs.Legal.{AddsEvent}
+use Rattle.log_entries.proofs.Dispatched.{dispatched}
 use Rattle.dispatch_core.proofs.Calls.{added_dispatched}
 use Rattle.dispatch_core.proofs.Going.{carried_adds}
 use Rattle.dispatch_core.proofs.Retrying.{failure_stage, failure_slot, failure_pin, failure_room}

@@ -1,6 +1,6 @@
 use Rattle.std.proofs.Common.{subst}
-use Rattle.dispatch_log.specs.Dispatch.{IsDispatched}
-use Rattle.dispatch_log.proofs.Dispatched.{dispatched}
+use Rattle.log_entries.specs.Dispatch.{IsDispatched}
+use Rattle.log_entries.proofs.Dispatched.{dispatched}
 use Rattle.dispatch_core.proofs.dispatcher.Core.log.Goals as goal
 
 pub returns-clause-dispatched : goal.returns-clause-dispatched

@@ -1,5 +1,5 @@
 use Rattle.std.proofs.Common.{List, [], length, replicate, subst}
-use Rattle.dispatch_log.specs.declared.setup.ServerSet.{ServerSet}
+use Rattle.log_entries.specs.declared.setup.ServerSet.{ServerSet}
 use Rattle.dispatch_core.specs.Checks.{AreHealths}
 use Rattle.dispatch_core.proofs.Checking.{core_new}
 use Rattle.dispatch_core.proofs.dispatcher.Core.new.Goals as goal

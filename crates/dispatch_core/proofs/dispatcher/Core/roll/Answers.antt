@@ -1,7 +1,7 @@
 use Rattle.std.proofs.Common.{map, ap, ◌∙◌}
-use Rattle.dispatch_log.specs.Histories.{next_window}
-use Rattle.dispatch_log.proofs.Dispatched.{dispatched}
-use Rattle.readable_log.specs.Bases.{results_by}
+use Rattle.log_entries.specs.Histories.{next_window}
+use Rattle.log_entries.proofs.Dispatched.{dispatched}
+use Rattle.log_reading.specs.Bases.{results_by}
 use Rattle.dispatch_core.proofs.Rolling.{saved_all, core_rolled}
 use Rattle.dispatch_core.proofs.dispatcher.Core.roll.Goals as goal
 

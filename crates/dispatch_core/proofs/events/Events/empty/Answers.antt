@@ -1,5 +1,5 @@
 use Rattle.std.proofs.Common.{ap, sym, ◌∙◌}
-use Rattle.dispatch_log.specs.declared.setup.Setup.{Setup}
+use Rattle.log_entries.specs.declared.setup.Setup.{Setup}
 use Rattle.dispatch_core.proofs.Following.{moves_fit, carries_unmoved, carries_moved}
 use Rattle.dispatch_core.proofs.events.Events.empty.Goals as goal
 

@@ -1,5 +1,5 @@
 use Rattle.std.proofs.Common.{ap, ◌∙◌}
-use Rattle.dispatch_log.specs.Judgement.{limit_stage}
+use Rattle.log_entries.specs.Judgement.{limit_stage}
 use Rattle.dispatch_core.proofs.Following.{event_moves, carries_open}
 use Rattle.dispatch_core.proofs.events.Events.follow_limit.Goals as goal
 

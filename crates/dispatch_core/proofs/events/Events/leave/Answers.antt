@@ -1,5 +1,5 @@
 use Rattle.std.proofs.Common.{Option, ℕ, subst}
-use Rattle.dispatch_log.specs.Histories.{state_of}
+use Rattle.log_entries.specs.Histories.{state_of}
 use Rattle.dispatch_core.specs.Steps.{IsReturn}
 use Rattle.dispatch_core.proofs.Calls.{may_end_told, ends_told}
 use Rattle.dispatch_core.proofs.events.Events.leave.Goals as goal

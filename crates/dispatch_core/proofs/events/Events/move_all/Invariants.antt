@@ -1,6 +1,6 @@
-use Rattle.dispatch_log.specs.declared.queue.Queue.TheVariants.{Server}
-use Rattle.dispatch_log.specs.Histories.{state_of}
-use Rattle.dispatch_log.specs.Rows.{queued}
+use Rattle.log_entries.specs.declared.queue.Queue.TheVariants.{Server}
+use Rattle.log_entries.specs.Histories.{state_of}
+use Rattle.log_entries.specs.Rows.{queued}
 use Rattle.dispatch_core.proofs.Emptying.{MovesSince}
 use Rattle.dispatch_core.proofs.events.Events.move_all.Given as goal
 

@@ -1,6 +1,6 @@
 use Rattle.server_pick.specs.declared.placement.Placement.TheVariants.{Slot, OwnQueue, BackendQueue, Nowhere}
 use Rattle.dispatch_core.proofs.Calls.{places}
-use Rattle.dispatch_trace.proofs.Placing.{may_place}
+use Rattle.dispatch_state.proofs.Placing.{may_place}
 use Rattle.dispatch_core.proofs.events.Events.place.Goals as goal
 
 pub direct-requires-clause-lawful : goal.direct-requires-clause-lawful

@@ -1,4 +1,4 @@
-use Rattle.dispatch_trace.specs.Histories.{waiting_of}
+use Rattle.dispatch_state.specs.Histories.{waiting_of}
 use Rattle.dispatch_core.proofs.Settling.{GrantsSince}
 use Rattle.dispatch_core.proofs.events.Events.settle.Given as goal
 

@@ -1,5 +1,5 @@
 use Rattle.std.proofs.Common.{◌≡◌, ◌<◌, None, Some, [], length, slice_get, slice_index_or, vec_capacity, ℕ}
-use Rattle.dispatch_log.specs.declared.setup.ServerSet.{ServerSet}
+use Rattle.log_entries.specs.declared.setup.ServerSet.{ServerSet}
 use Rattle.dispatch_core.specs.Checks.{IsHealthBy}
 use Rattle.dispatch_core.proofs.healths.Healths.new.Given as goal
 

@@ -1,6 +1,6 @@
 use Rattle.std.proofs.Common.{sym, subst}
 use Rattle.grant_board.specs.Views.{Grant}
-use Rattle.verdict.specs.declared.Ending.TheVariants.{Done}
+use Rattle.base_verdict.specs.declared.Ending.TheVariants.{Done}
 use Rattle.exchange_machine.specs.Histories.{posted}
 use Rattle.exchange_machine.specs.Stages.{IsOver}
 use Rattle.exchange_machine.proofs.EventLemmas.{passing_left}

@@ -1,6 +1,6 @@
 use Rattle.std.proofs.Common.{◌≡◌, ◌∙◌, ◌++◌, Bool, refl, ap}
 use Rattle.http_texts.specs.Texts.{answer_text, framed_for}
-use Rattle.body_coder.specs.Readings.{start_of}
+use Rattle.http_bodies.specs.Readings.{start_of}
 use Rattle.exchange_machine.proofs.SideLemmas.{passing_final}
 use Rattle.exchange_machine.proofs.passing.Passing.pass_final.Goals as goal
 

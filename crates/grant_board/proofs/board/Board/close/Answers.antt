@@ -1,6 +1,6 @@
 use Rattle.std.proofs.Common.{ap, sym, subst, ◌∙◌, take}
 use Rattle.std.specs.Mem.Slots.{slots_items}
-use Rattle.list_facts.specs.Weights.{total}
+use Rattle.base_lists.specs.Weights.{total}
 use Rattle.grant_board.specs.BoardWords.{nonzero}
 use Rattle.grant_board.specs.Plays.{keeper_of, relay_of}
 use Rattle.grant_board.specs.Rule.{terms_of}

@@ -1,6 +1,6 @@
 use Rattle.std.proofs.Common.{◌≡◌, ℕ, ◌<◌, None, is_some}
 use Rattle.std.specs.Option.{option_and_then}
-use Rattle.dispatch_log.specs.declared.queue.Queue.{Queue}
+use Rattle.log_entries.specs.declared.queue.Queue.{Queue}
 use Rattle.late_cert.specs.Table.{row_at, worst_of}
 use Rattle.late_cert.proofs.table.Running.clear.Given as goal
 

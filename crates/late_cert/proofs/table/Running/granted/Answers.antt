@@ -3,8 +3,8 @@ use Rattle.std.proofs.Math.ListN.{set}
 use Rattle.std.specs.Int.{int_max}
 use Rattle.std.specs.Option.{option_map_or}
 use Rattle.std.proofs.lemmas.Int.{to_z-of_z}
-use Rattle.dispatch_log.specs.Rows.{same_queue}
-use Rattle.late_cert.specs.Queues.{IsQueueOf}
+use Rattle.log_entries.specs.Rows.{same_queue}
+use Rattle.log_entries.specs.Queues.{IsQueueOf}
 use Rattle.late_cert.specs.Table.{row_at, worst_of, IsTable}
 use Rattle.late_cert.specs.declared.worsts.Worsts.{Worsts}
 use Rattle.late_cert.proofs.ClassRows.{each_class, row_of-at}

@@ -2,12 +2,12 @@ use Rattle.std.proofs.Common.{◌≡◌, ℤ, ◌+◌, List, ◌∷◌, [], ◌+
 use Rattle.std.proofs.lemmas.Int.{to_z-of_z}
 use Rattle.std.proofs.lemmas.List.{take_more, take_all}
 use Rattle.std.specs.List.{AllByRecursion}
-use Rattle.readable_log.specs.declared.grant.SlotGrant.{SlotGrant}
-use Rattle.late_cert.specs.Queues.{IsQueueOf}
+use Rattle.log_reading.specs.declared.grant.SlotGrant.{SlotGrant}
+use Rattle.log_entries.specs.Queues.{IsQueueOf}
 use Rattle.late_cert.specs.Running.{IsGreatest, HasRoomFor, latenesses_of, worst_so_far, worst_with}
 use Rattle.late_cert.specs.Tests.{late_by}
 use Rattle.late_cert.proofs.Worst.{among_with}
-use Rattle.list_facts.proofs.Members.{from_one_on}
+use Rattle.base_lists.proofs.Members.{from_one_on}
 use Rattle.late_cert.proofs.table.Running.granted_from.Goals as goal
 
 roomy : (c : goal.After-lateness) → HasRoomFor c.args.self.now c.index-grants-number.result

@@ -1,6 +1,6 @@
 use Rattle.std.proofs.Common.{is_some, inl, inr, refl, sym, ap, ◌∙◌}
 use Rattle.std.specs.Option.{option_and_then}
-use Rattle.list_facts.proofs.Never.{false_true}
+use Rattle.base_lists.proofs.Never.{false_true}
 use Rattle.late_cert.specs.Table.{worst_of}
 use Rattle.late_cert.proofs.ClassRows.{row_of-at, class_place, each_class}
 use Rattle.late_cert.proofs.Rooms.{row_missing, row_found, table_kept, room_made, room_left, same_worst}

@@ -1,7 +1,7 @@
 use Rattle.std.proofs.Common.{◌≡◌, ◌<◌, cond, length, subst, sym}
 use Rattle.std.specs.Vec.{with_item}
-use Rattle.dispatch_log.specs.Rows.{same_queue}
-use Rattle.late_cert.specs.Queues.{IsQueueOf}
+use Rattle.log_entries.specs.Rows.{same_queue}
+use Rattle.log_entries.specs.Queues.{IsQueueOf}
 use Rattle.late_cert.specs.Table.{worst_of}
 use Rattle.late_cert.proofs.Tables.{server_set}
 use Rattle.late_cert.proofs.worsts.Worsts.set.Goals as goal

@@ -1,6 +1,6 @@
 use Rattle.std.proofs.Common.{drop, length, ap, sym, ◌∙◌, subst, arith}
 use Rattle.dispatch_core.specs.Occurrences.{entry_of}
-use Rattle.outstanding.specs.Books.{IsOwing}
+use Rattle.locked_book.specs.Books.{IsOwing}
 use Rattle.locked_book.proofs.Events.{plain_entry, plain_owes, kept_again, carried}
 use Rattle.std.proofs.lemmas.Grind.{common_steps}
 use Rattle.locked_book.proofs.book.Book.apply.Goals as goal

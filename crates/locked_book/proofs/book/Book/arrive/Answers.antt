@@ -1,7 +1,7 @@
 use Rattle.std.proofs.Common.{pos, ◌+ℤ◌, drop, length, refl, ap, sym, ◌∙◌, subst, arith}
-use Rattle.dispatch_log.specs.declared.entry.Entry.TheVariants.{Arrive}
-use Rattle.dispatch_log.specs.Histories.{effective}
-use Rattle.outstanding.specs.Books.{IsOwing}
+use Rattle.log_entries.specs.declared.entry.Entry.TheVariants.{Arrive}
+use Rattle.log_entries.specs.Histories.{effective}
+use Rattle.locked_book.specs.Books.{IsOwing}
 use Rattle.locked_book.proofs.Events.{plain_owes, kept_again, carried, arrival_place}
 use Rattle.std.proofs.lemmas.Grind.{common_steps}
 use Rattle.locked_book.proofs.book.Book.arrive.Goals as goal

@@ -1,11 +1,11 @@
 use Rattle.std.proofs.Common.{◌≡◌, ℕ, drop, length, min, ap, sym, ◌∙◌, subst, arith}
 use Rattle.grant_board.specs.KeeperCalls.{Keeper}
-use Rattle.dispatch_log.specs.declared.allowance.Intake.{Intake}
-use Rattle.dispatch_log.specs.Histories.{History, state_of, effective}
-use Rattle.dispatch_log.specs.Legal.{IsLegal}
-use Rattle.dispatch_log.specs.Rows.{served}
-use Rattle.outstanding.specs.Books.{mark_by, IsOwing}
-use Rattle.outstanding.specs.Calls.{Booked, SetsBound}
+use Rattle.log_entries.specs.declared.allowance.Intake.{Intake}
+use Rattle.log_entries.specs.Histories.{History, state_of, effective}
+use Rattle.log_entries.specs.Legal.{IsLegal}
+use Rattle.log_entries.specs.Rows.{served}
+use Rattle.locked_book.specs.Books.{mark_by, IsOwing}
+use Rattle.locked_book.specs.Calls.{Booked, SetsBound}
 use Rattle.locked_book.proofs.Events.{kept_again}
 use Rattle.locked_book.proofs.Ends.{may_limit, limit_owes, sets_bound, served_within}
 use Rattle.std.proofs.lemmas.Grind.{common_steps}

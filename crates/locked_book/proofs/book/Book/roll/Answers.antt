@@ -1,5 +1,5 @@
 use Rattle.std.proofs.Common.{sym, subst}
-use Rattle.locked_book.specs.Books.{IsKeptBook}
+use Rattle.locked_book.specs.KeptBooks.{IsKeptBook}
 use Rattle.locked_book.proofs.Ends.{rolled_book}
 use Rattle.locked_book.proofs.book.Book.roll.Goals as goal
 

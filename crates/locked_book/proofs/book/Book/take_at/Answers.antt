@@ -1,9 +1,9 @@
 use Rattle.std.proofs.Common.{drop, length, ap, sym, ◌∙◌, subst, arith}
 use Rattle.grant_board.specs.Views.{KeeperView}
-use Rattle.dispatch_log.specs.Histories.{effective}
-use Rattle.dispatch_trace.specs.Histories.{HasEntryRoom}
-use Rattle.outstanding.specs.Books.{IsOwing}
-use Rattle.outstanding.specs.Calls.{Booked, TakesBack}
+use Rattle.log_entries.specs.Histories.{effective}
+use Rattle.dispatch_state.specs.Histories.{HasEntryRoom}
+use Rattle.locked_book.specs.Books.{IsOwing}
+use Rattle.locked_book.specs.Calls.{Booked, TakesBack}
 use Rattle.locked_book.proofs.Events.{kept_again}
 use Rattle.locked_book.proofs.Ends.{acceptable, end_owes, takes_back}
 use Rattle.std.proofs.lemmas.Grind.{common_steps}

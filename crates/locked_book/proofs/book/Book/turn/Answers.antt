@@ -1,7 +1,7 @@
 use Rattle.std.proofs.Common.{Result, Ok, Err, ◌+◌, ◌*◌, ◌≡◌, subst, arith}
 use Rattle.std.specs.Result.{OnErr}
-use Rattle.outstanding.specs.Turns.{Walks}
-use Rattle.outstanding.proofs.Turns.{walks_after, stopped}
+use Rattle.locked_book.specs.Turns.{Walks}
+use Rattle.locked_book.proofs.Turns.{walks_after, stopped}
 use Rattle.std.proofs.lemmas.Grind.{common_steps}
 use Rattle.locked_book.proofs.book.Book.turn.Goals as goal
 

@@ -1,5 +1,5 @@
 use Rattle.std.proofs.Common.{◌*◌}
-use Rattle.outstanding.specs.Turns.{Walks}
+use Rattle.locked_book.specs.Turns.{Walks}
 use Rattle.locked_book.proofs.book.Book.turn.Given as goal
 
 -- the blocks before are done with

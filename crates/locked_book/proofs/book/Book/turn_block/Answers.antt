@@ -2,10 +2,10 @@ use Rattle.std.proofs.Common.{◌≡◌, ◌↔◌, ◌+◌, ◌*◌, ◌/◌, �
 use mathlib.Core.Bool.{true≢false}
 use Rattle.grant_board.specs.Views.{Terms, count_at}
 use Rattle.grant_board.specs.KeeperCalls.{FindsUnposted}
-use Rattle.place_set.specs.Sets.{HasAhead}
-use Rattle.dispatch_trace.specs.Histories.{HasEntryRoom}
-use Rattle.outstanding.specs.Calls.{Booked}
-use Rattle.outstanding.proofs.Turns.{visit_of}
+use Rattle.base_places.specs.Sets.{HasAhead}
+use Rattle.dispatch_state.specs.Histories.{HasEntryRoom}
+use Rattle.locked_book.specs.Calls.{Booked}
+use Rattle.locked_book.proofs.Turns.{visit_of}
 use Rattle.locked_book.proofs.Walking.{walking_begins, walking_goes, walking_ends}
 use Rattle.locked_book.proofs.book.Book.turn_block.Goals as goal
 

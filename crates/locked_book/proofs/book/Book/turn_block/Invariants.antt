@@ -1,5 +1,5 @@
 use Rattle.std.proofs.Common.{◌↔◌, ◌+◌, ◌*◌, IsTrue}
-use Rattle.dispatch_trace.specs.Histories.{HasEntryRoom}
+use Rattle.dispatch_state.specs.Histories.{HasEntryRoom}
 use Rattle.locked_book.proofs.Walking.{IsWalking}
 use Rattle.locked_book.proofs.book.Book.turn_block.Given as goal
 

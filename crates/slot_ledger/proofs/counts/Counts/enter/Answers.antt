@@ -1,5 +1,5 @@
 use Rattle.std.proofs.Common.{◌≤◌, sym, subst, arith}
-use Rattle.dispatch_log.specs.declared.queue.Queue.TheVariants.{Backend, Server}
+use Rattle.log_entries.specs.declared.queue.Queue.TheVariants.{Backend, Server}
 use Rattle.slot_ledger.specs.Counts.{Counted, queued_at}
 use Rattle.slot_ledger.proofs.counts.Counts.enter.Goals as goal
 

@@ -1,5 +1,5 @@
 use Rattle.std.proofs.Common.{refl, ap}
-use Rattle.dispatch_log.specs.declared.row.Row.{Row}
+use Rattle.log_entries.specs.declared.row.Row.{Row}
 use Rattle.slot_ledger.proofs.Counting.{ledger_includes, ledger_passed}
 use Rattle.slot_ledger.proofs.ledger.Ledger.end.Goals as goal
 

@@ -1,7 +1,7 @@
 use Rattle.std.proofs.Common.{true, ap, length, ◌∙◌}
 use Rattle.std.proofs.Math.ListN.{length-replicate}
 use Rattle.slot_ledger.proofs.Counting.{ledger_new}
-use Rattle.dispatch_log.proofs.Limiting.{opening_limits-length}
+use Rattle.log_entries.proofs.Limiting.{opening_limits-length}
 use Rattle.slot_ledger.proofs.ledger.Ledger.new.Goals as goal
 
 pub invariant_of-result : goal.invariant_of-result

@@ -1,7 +1,7 @@
 use Rattle.std.proofs.Common.{rules, ◌≡◌, ◌-◌, [], ◌∷◌, ◌++◌, None, length, ap, ◌∙◌, replicate, slice_get, arith, length-append}
 use Rattle.std.proofs.Math.ListN.{length-replicate}
 use Rattle.std.proofs.lemmas.List.{replicate_more}
-use Rattle.list_facts.proofs.Pushed.{each_push}
+use Rattle.base_lists.proofs.Pushed.{each_push}
 use Rattle.slot_ledger.proofs.Indexing.{kept_new}
 use Rattle.slot_ledger.proofs.places.Places.new.Goals as goal
 

@@ -1,4 +1,0 @@
-pub mod Exits
-pub mod Feeding
-pub mod Stepping
-pub mod WorkedRows

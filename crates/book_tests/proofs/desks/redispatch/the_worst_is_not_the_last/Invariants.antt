@@ -1,6 +1,0 @@
-use Rattle.outstanding.specs.Books.{terms_of}
-use Rattle.book_tests.proofs.desks.redispatch.the_worst_is_not_the_last.Given as goal
-
--- the board that this test opened
-abbrev pub ghosts-fall_once : goal.ghosts-fall_once
-ghosts-fall_once g a = record { board = a.opened.board; terms = terms_of a.opened.core.setup }

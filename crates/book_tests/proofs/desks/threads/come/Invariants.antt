@@ -1,5 +1,0 @@
-use Rattle.grant_desk.specs.Seats.{IsSameSeat}
-use Rattle.book_tests.proofs.desks.threads.come.Given as goal
-
-abbrev pub invariant-loop : goal.invariant-loop
-invariant-loop g l = IsSameSeat l.initial.relay l.relay

@@ -1,4 +1,0 @@
-mod Composing
-mod Counting
-mod Reading
-mod Serving

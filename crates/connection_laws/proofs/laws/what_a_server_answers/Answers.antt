@@ -1,5 +1,0 @@
-use Rattle.connection_laws.proofs.Reading.{answered_so}
-use Rattle.connection_laws.proofs.laws.what_a_server_answers.Goals as goal
-
-pub returns : goal.returns
-returns c = answered_so

@@ -1,5 +1,0 @@
-use Rattle.connection_laws.proofs.Reading.{sent_so}
-use Rattle.connection_laws.proofs.laws.what_a_server_reads.Goals as goal
-
-pub returns : goal.returns
-returns c = sent_so

@@ -1,4 +1,0 @@
-pub mod Connections
-pub mod Orders
-pub mod Readings
-pub mod ServerConnections

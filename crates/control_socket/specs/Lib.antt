@@ -1,2 +1,0 @@
-pub mod Inboxes
-pub mod Scans

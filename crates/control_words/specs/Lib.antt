@@ -1,6 +1,0 @@
-pub mod Misfits
-pub mod Pieces
-pub mod Commands
-pub mod Wished
-pub mod Wishes
-pub mod States

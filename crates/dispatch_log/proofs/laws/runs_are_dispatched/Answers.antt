@@ -1,9 +1,0 @@
-use Rattle.dispatch_log.proofs.Dispatched.{dispatched}
-use Rattle.dispatch_log.proofs.Runs.{run_legal}
-use Rattle.dispatch_log.proofs.laws.runs_are_dispatched.Goals as goal
-
-pub returns-clause-legal : goal.returns-clause-legal
-returns-clause-legal c = run_legal
-
-pub returns-clause-dispatched : goal.returns-clause-dispatched
-returns-clause-dispatched c setup calls history run = dispatched history (run_legal setup calls history run)

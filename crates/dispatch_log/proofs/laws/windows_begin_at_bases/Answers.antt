@@ -1,8 +1,0 @@
-use Rattle.dispatch_log.proofs.Windows.{opening_base, next_legal}
-use Rattle.dispatch_log.proofs.laws.windows_begin_at_bases.Goals as goal
-
-pub returns-clause-first : goal.returns-clause-first
-returns-clause-first c = opening_base
-
-pub returns-clause-next : goal.returns-clause-next
-returns-clause-next c = next_legal

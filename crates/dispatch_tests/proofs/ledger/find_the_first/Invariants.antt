@@ -1,5 +1,0 @@
-use Rattle.slot_ledger.specs.Slots.{AreBelow}
-use Rattle.dispatch_tests.proofs.ledger.find_the_first.Given as goal
-
-abbrev pub invariant-loop-ticket : goal.invariant-loop-ticket
-invariant-loop-ticket g l = AreBelow l.ticket l.ledger.slots

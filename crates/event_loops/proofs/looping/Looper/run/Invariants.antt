@@ -1,6 +1,0 @@
-use Rattle.std.proofs.Common.{length}
-use Rattle.event_loops.proofs.looping.Looper.run.Given as goal
-
--- one fewer each time
-abbrev pub decreases-loop-resident : goal.decreases-loop-resident
-decreases-loop-resident g l = length l.residents.items

@@ -1,0 +1,30 @@
+use Rattle.std.proofs.Common.{sym, subst, take}
+use Rattle.exchange_machine.specs.Histories.{server_got}
+use Rattle.exchange_events.specs.Steps.{IsAtItsStage, ended, to_server}
+use Rattle.exchange_events.specs.declared.exchange.Exchange.{Exchange}
+use Rattle.exchange_events.proofs.StepLemmas.{at_as}
+use Rattle.exchange_events.proofs.calls.server_took.Goals as goal
+
+pub returns-in-Settling-clause-at : goal.returns-in-Settling-clause-at
+returns-in-Settling-clause-at c h is =
+    let r = c.unmoved-in-Settling.result in
+    subst (λ (x : Exchange). IsAtItsStage r.next (ended r.outcome (server_got h (take c.args.count (to_server x))))) (sym c.in-Settling.is)
+    (c.unmoved-in-Settling.ensures.server_took h c.args.count (at_as h c.in-Settling.is is))
+
+pub returns-in-Leaving-clause-at : goal.returns-in-Leaving-clause-at
+returns-in-Leaving-clause-at c h is =
+    let r = c.unmoved-in-Leaving.result in
+    subst (λ (x : Exchange). IsAtItsStage r.next (ended r.outcome (server_got h (take c.args.count (to_server x))))) (sym c.in-Leaving.is)
+    (c.unmoved-in-Leaving.ensures.server_took h c.args.count (at_as h c.in-Leaving.is is))
+
+pub returns-in-Telling-clause-at : goal.returns-in-Telling-clause-at
+returns-in-Telling-clause-at c h is =
+    let r = c.unmoved-in-Telling.result in
+    subst (λ (x : Exchange). IsAtItsStage r.next (ended r.outcome (server_got h (take c.args.count (to_server x))))) (sym c.in-Telling.is)
+    (c.unmoved-in-Telling.ensures.server_took h c.args.count (at_as h c.in-Telling.is is))
+
+pub returns-in-Over-clause-at : goal.returns-in-Over-clause-at
+returns-in-Over-clause-at c h is =
+    let r = c.unmoved-in-Over.result in
+    subst (λ (x : Exchange). IsAtItsStage r.next (ended r.outcome (server_got h (take c.args.count (to_server x))))) (sym c.in-Over.is)
+    (c.unmoved-in-Over.ensures.server_took h c.args.count (at_as h c.in-Over.is is))

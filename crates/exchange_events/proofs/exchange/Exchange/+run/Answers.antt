@@ -1,0 +1,5 @@
+use Rattle.exchange_events.proofs.StepLemmas.{ran_ends}
+use Rattle.exchange_events.proofs.exchange.Exchange.+run.Goals as goal
+
+pub returns-in-End : goal.returns-in-End
+returns-in-End g n c h is = ran_ends c.args.rules.aborts c.args.self h c.args.events (g.D.Desk.told c.args.desk.now) c.in-End.is is

@@ -1,0 +1,558 @@
+ghost use Rattle.std.specs.Prelude.{◌≡◌, ◌≤◌, ℕ, List, [], false, true, Some, IsTrue, length, take};
+ghost use Rattle.exchange_machine.specs.Histories.{ExchangeHistory, client_came, server_came, server_got, client_got, signed};
+ghost use Rattle.exchange_machine.specs.Reasons.{told_for};
+ghost use Rattle.exchange_machine.specs.declared.signs.Sign.{Sign};
+ghost use Rattle.exchange_machine.specs.Stages.{IsAsking, IsDialing, IsPassing, IsTurn, IsUnread};
+ghost use Rattle.exchange_events.specs.Steps as steps;
+ghost use Rattle.http_texts.specs.declared.additions.Additions as additions;
+ghost use Rattle.http_texts.specs.declared.refusals.Code as codes;
+
+use crate::event::Clock;
+use crate::exchange::{Exchange, Outcome, Step};
+use crate::relaying::{Turned, go_on, not_redialed, refused_late};
+use base_verdict::Ending;
+use exchange_machine::{Asking, Dialing, Passing, Sign, Telling, Terms, Turn, Way};
+use grant_board::Pass;
+use http_texts::{Code, Fault};
+use std::alloc::Global;
+
+fn quiet(next: Exchange, used: usize) -> Step
+    ensures used { result.used ≡ used }
+    ensures same { result.next ≡ next }
+    ensures at { (h : ExchangeHistory) → steps.IsAtItsStage next h → steps.IsAtItsStage result.next (steps.ended result.outcome h) }
+    ensures fails { steps.FailsInTurn result.outcome result.next }
+{
+    Step {
+        next,
+        used,
+        outcome: Outcome::Quiet,
+    }
+}
+
+// The event changes nothing.
+fn unmoved(exchange: Exchange) -> Step
+    ensures same { result.next ≡ exchange }
+    ensures none { result.used ≡ 0 }
+    ensures signs { (h : ExchangeHistory) (sign : Sign) → steps.IsAtItsStage exchange h → steps.IsAtItsStage result.next (steps.ended result.outcome (signed h sign)) }
+    ensures client_bytes { (h : ExchangeHistory) (bytes : List ℕ) → steps.IsAtItsStage exchange h
+        → steps.IsAtItsStage result.next (steps.ended result.outcome (client_came h (take result.used bytes))) }
+    ensures server_bytes { (h : ExchangeHistory) (bytes : List ℕ) → steps.IsAtItsStage exchange h
+        → steps.IsAtItsStage result.next (steps.ended result.outcome (server_came h (take result.used bytes))) }
+    ensures client_took { (h : ExchangeHistory) (count : ℕ) → steps.IsAtItsStage exchange h
+        → steps.IsAtItsStage result.next (steps.ended result.outcome (client_got h (take count []))) }
+    ensures server_took { (h : ExchangeHistory) (count : ℕ) → steps.IsAtItsStage exchange h
+        → steps.IsAtItsStage result.next (steps.ended result.outcome (server_got h (take count []))) }
+    ensures connected { (h : ExchangeHistory) (adds : additions.Additions) → steps.IsAtItsStage exchange h
+        → steps.IsAtItsStage result.next (steps.ended result.outcome (steps.connected_with result.used adds h)) }
+    ensures fails { steps.FailsInTurn result.outcome result.next }
+{
+    Step {
+        next: exchange,
+        used: 0,
+        outcome: Outcome::Quiet,
+    }
+}
+
+pub(crate) fn client_bytes(exchange: Exchange, alloc: Global, input: &[u8]) -> Step
+    ensures within { result.used ≤ length input.now }
+    ensures at { (h : ExchangeHistory) → steps.IsAtItsStage exchange h → steps.IsAtItsStage result.next (steps.ended result.outcome (client_came h (take result.used input.now))) }
+    ensures fails { steps.FailsInTurn result.outcome result.next }
+{
+    match exchange {
+        Exchange::Asking(asking) => asking_bytes(asking, alloc, input),
+        Exchange::Passing(passing) => request_bytes(passing, alloc, input),
+        other => unmoved(other),
+    }
+}
+
+fn asking_bytes(asking: Asking, alloc: Global, input: &[u8]) -> Step
+    ensures within { result.used ≤ length input.now }
+    ensures at { (h : ExchangeHistory) → IsAsking asking h → steps.IsAtItsStage result.next (steps.ended result.outcome (client_came h (take result.used input.now))) }
+    ensures fails { steps.FailsInTurn result.outcome result.next }
+{
+    let (used, turn) = asking.client_bytes(alloc, input);
+    let Turned { next, outcome } = begun(turn);
+    Step {
+        next,
+        used,
+        outcome,
+    }
+}
+
+fn begun(turn: Turn) -> Turned
+    ensures at { (h : ExchangeHistory) → IsTurn turn h → steps.IsAtItsStage result.next (steps.ended result.outcome h) }
+    ensures fails { steps.FailsInTurn result.outcome result.next }
+{
+    match turn {
+        Turn::More(asking) => Turned {
+            next: Exchange::Asking(asking),
+            outcome: Outcome::Quiet,
+        },
+        Turn::Whole(waiting) => Turned {
+            next: Exchange::Waiting(waiting),
+            outcome: Outcome::Quiet,
+        },
+        Turn::Refused(_, why) => unread(why),
+    }
+}
+
+fn unread(why: Fault) -> Turned
+    ensures at { (h : ExchangeHistory) → IsUnread why h → steps.IsAtItsStage result.next (steps.ended result.outcome h) }
+    ensures fails { steps.FailsInTurn result.outcome result.next }
+{
+    if why == Fault::NoMemory {
+        return Turned {
+            next: Exchange::Telling(Telling::starved()),
+            outcome: Outcome::Starved,
+        };
+    }
+    Turned {
+        next: Exchange::Telling(Telling::of_fault(why)),
+        outcome: Outcome::Quiet,
+    }
+}
+
+fn request_bytes(mut passing: Passing, alloc: Global, input: &[u8]) -> Step
+    ensures within { result.used ≤ length input.now }
+    ensures at { (h : ExchangeHistory) → IsPassing passing h → steps.IsAtItsStage result.next (steps.ended result.outcome (client_came h (take result.used input.now))) }
+    ensures fails { steps.FailsInTurn result.outcome result.next }
+{
+    let used = take_request(&mut passing, input);
+    let Turned { next, outcome } = go_on(passing, alloc);
+    Step {
+        next,
+        used,
+        outcome,
+    }
+}
+
+fn take_request(passing: &mut Passing, input: &[u8]) -> usize
+    ensures within { result ≤ length input.now }
+    ensures passes { (h : ExchangeHistory) → IsPassing passing.old h → IsPassing passing.new (client_came h (take result input.now)) }
+{
+    passing.use_held();
+    if !passing.holds_none() {
+        return 0;
+    }
+    passing.client_bytes(input)
+}
+
+pub(crate) fn server_bytes(exchange: Exchange, alloc: Global, input: &[u8]) -> Step
+    ensures within { result.used ≤ length input.now }
+    ensures at { (h : ExchangeHistory) → steps.IsAtItsStage exchange h → steps.IsAtItsStage result.next (steps.ended result.outcome (server_came h (take result.used input.now))) }
+    ensures fails { steps.FailsInTurn result.outcome result.next }
+{
+    match exchange {
+        Exchange::Passing(passing) => answer_bytes(passing, alloc, input),
+        other => unmoved(other),
+    }
+}
+
+fn answer_bytes(mut passing: Passing, alloc: Global, input: &[u8]) -> Step
+    ensures within { result.used ≤ length input.now }
+    ensures at { (h : ExchangeHistory) → IsPassing passing h → steps.IsAtItsStage result.next (steps.ended result.outcome (server_came h (take result.used input.now))) }
+    ensures fails { steps.FailsInTurn result.outcome result.next }
+{
+    let used = take_answer(&mut passing, input);
+    let Turned { next, outcome } = go_on(passing, alloc);
+    Step {
+        next,
+        used,
+        outcome,
+    }
+}
+
+fn take_answer(passing: &mut Passing, input: &[u8]) -> usize
+    ensures within { result ≤ length input.now }
+    ensures passes { (h : ExchangeHistory) → IsPassing passing.old h → IsPassing passing.new (server_came h (take result input.now)) }
+{
+    if passing.is_at_body() && passing.holds_no_answer() {
+        return passing.server_bytes(input);
+    }
+    match passing.server_head_bytes(input) {
+        Ok(used) => used,
+        Err(_) => 0,
+    }
+}
+
+// Returns `count`, or the number of waiting bytes where that is less.
+fn fitting(count: usize, waiting: &[u8]) -> usize
+    ensures within { result ≤ length waiting.now }
+    ensures same { take result waiting.now ≡ take count waiting.now }
+{
+    if count < waiting.len() {
+        count
+    } else {
+        waiting.len()
+    }
+}
+
+pub(crate) fn client_took(exchange: Exchange, alloc: Global, count: usize) -> Step
+    ensures at { (h : ExchangeHistory) → steps.IsAtItsStage exchange h
+        → steps.IsAtItsStage result.next (steps.ended result.outcome (client_got h (take count (steps.to_client exchange)))) }
+    ensures fails { steps.FailsInTurn result.outcome result.next }
+{
+    match exchange {
+        Exchange::Passing(mut passing) => {
+            let used = fitting(count, passing.to_client());
+            passing.client_took(used);
+            let Turned { next, outcome } = go_on(passing, alloc);
+            Step {
+                next,
+                used,
+                outcome,
+            }
+        }
+        Exchange::Settling(mut settling) => {
+            let used = fitting(count, settling.to_client());
+            settling.client_took(used);
+            quiet(Exchange::Settling(settling), used)
+        }
+        Exchange::Leaving(mut leaving) => {
+            let used = fitting(count, leaving.to_client());
+            leaving.client_took(used);
+            quiet(Exchange::Leaving(leaving), used)
+        }
+        Exchange::Telling(mut telling) => {
+            let used = fitting(count, telling.to_client());
+            telling.client_took(used);
+            quiet(Exchange::Telling(telling), used)
+        }
+        Exchange::Asking(asking) => unmoved(Exchange::Asking(asking)),
+        Exchange::Waiting(waiting) => unmoved(Exchange::Waiting(waiting)),
+        Exchange::Dialing(dialing) => unmoved(Exchange::Dialing(dialing)),
+        Exchange::Over => unmoved(Exchange::Over),
+    }
+}
+
+pub(crate) fn server_took(exchange: Exchange, alloc: Global, count: usize) -> Step
+    ensures at { (h : ExchangeHistory) → steps.IsAtItsStage exchange h
+        → steps.IsAtItsStage result.next (steps.ended result.outcome (server_got h (take count (steps.to_server exchange)))) }
+    ensures fails { steps.FailsInTurn result.outcome result.next }
+{
+    match exchange {
+        Exchange::Passing(mut passing) => {
+            let used = fitting(count, passing.to_server());
+            passing.server_took(used);
+            let Turned { next, outcome } = go_on(passing, alloc);
+            Step {
+                next,
+                used,
+                outcome,
+            }
+        }
+        Exchange::Asking(asking) => unmoved(Exchange::Asking(asking)),
+        Exchange::Waiting(waiting) => unmoved(Exchange::Waiting(waiting)),
+        Exchange::Dialing(dialing) => unmoved(Exchange::Dialing(dialing)),
+        Exchange::Settling(settling) => unmoved(Exchange::Settling(settling)),
+        Exchange::Leaving(leaving) => unmoved(Exchange::Leaving(leaving)),
+        Exchange::Telling(telling) => unmoved(Exchange::Telling(telling)),
+        Exchange::Over => unmoved(Exchange::Over),
+    }
+}
+
+pub(crate) fn granted(exchange: Exchange, pass: Pass) -> Step
+    ensures at { (h : ExchangeHistory) → steps.IsAtItsStage exchange h → steps.IsAtItsStage result.next (steps.ended result.outcome (steps.came_pass result.used pass h)) }
+    ensures fails { steps.MayReturn result.outcome result.next }
+{
+    match exchange {
+        Exchange::Waiting(waiting) => quiet(Exchange::Dialing(waiting.grant(pass)), 1),
+        other => Step {
+            next: other,
+            used: 0,
+            outcome: Outcome::Returns(pass),
+        },
+    }
+}
+
+pub(crate) fn unserved(exchange: Exchange, sign: Sign) -> Step
+    requires { told_for sign ≡ Some codes.Code.Unavailable }
+    ensures at { (h : ExchangeHistory) → steps.IsAtItsStage exchange h → steps.IsAtItsStage result.next (steps.ended result.outcome (signed h sign)) }
+    ensures fails { steps.FailsInTurn result.outcome result.next }
+{
+    match exchange {
+        Exchange::Waiting(waiting) => {
+            quiet(Exchange::Telling(waiting.refuse(Code::Unavailable)), 0)
+        }
+        other => unmoved(other),
+    }
+}
+
+pub(crate) fn connected(exchange: Exchange, alloc: Global, terms: Terms) -> Step
+    ensures at { (h : ExchangeHistory) → steps.IsAtItsStage exchange h
+        → steps.IsAtItsStage result.next (steps.ended result.outcome (steps.connected_with result.used terms.adds h)) }
+    ensures fails { steps.FailsInTurn result.outcome result.next }
+{
+    match exchange {
+        Exchange::Dialing(dialing) => begin(dialing, alloc, terms),
+        Exchange::Passing(passing) => reconnected(passing, alloc, terms),
+        other => unmoved(other),
+    }
+}
+
+// On a connection in place of one that broke the waiting bytes are sent as they are.
+fn reconnected(mut passing: Passing, alloc: Global, terms: Terms) -> Step
+    ensures at { (h : ExchangeHistory) → IsPassing passing h
+        → steps.IsAtItsStage result.next (steps.ended result.outcome (steps.connected_with result.used terms.adds h)) }
+    ensures fails { steps.FailsInTurn result.outcome result.next }
+{
+    if !passing.is_dialing() {
+        return unmoved(Exchange::Passing(passing));
+    }
+    passing.connect(terms.fresh);
+    let Turned { next, outcome } = go_on(passing, alloc);
+    Step {
+        next,
+        used: 0,
+        outcome,
+    }
+}
+
+fn begin(dialing: Dialing, alloc: Global, terms: Terms) -> Step
+    ensures at { (h : ExchangeHistory) → IsDialing dialing h
+        → steps.IsAtItsStage result.next (steps.ended result.outcome (steps.connected_with result.used terms.adds h)) }
+    ensures fails { steps.FailsInTurn result.outcome result.next }
+{
+    let Ok(up) = Way::new(alloc) else {
+        return short(dialing);
+    };
+    let Ok(down) = Way::new(alloc) else {
+        return short(dialing);
+    };
+    match dialing.connected(alloc, up, down, terms) {
+        Ok(passing) => {
+            let Turned { next, outcome } = go_on(passing, alloc);
+            Step {
+                next,
+                used: 1,
+                outcome,
+            }
+        }
+        Err(dialing) => short(dialing),
+    }
+}
+
+fn short(dialing: Dialing) -> Step
+    ensures at { (h : ExchangeHistory) (adds : additions.Additions) → IsDialing dialing h
+        → steps.IsAtItsStage result.next (steps.ended result.outcome (steps.connected_with result.used adds h)) }
+    ensures fails { steps.FailsInTurn result.outcome result.next }
+{
+    let (waiting, pass) = dialing.give_up();
+    Step {
+        next: Exchange::Telling(waiting.refuse(Code::Unavailable)),
+        used: 0,
+        outcome: Outcome::StarvedPosts(pass, Ending::Done),
+    }
+}
+
+pub(crate) fn unreachable(exchange: Exchange, sign: Sign) -> Step
+    requires { told_for sign ≡ Some codes.Code.Unavailable }
+    ensures at { (h : ExchangeHistory) → steps.IsAtItsStage exchange h → steps.IsAtItsStage result.next (steps.ended result.outcome (signed h sign)) }
+    ensures fails { steps.FailsInTurn result.outcome result.next }
+{
+    match exchange {
+        Exchange::Dialing(dialing) => { unreached_at_first(dialing, sign) }
+        Exchange::Passing(passing) => unreached(passing, sign),
+        other => unmoved(other),
+    }
+}
+
+// Where no byte reached a server the exchange may wait for another pass; otherwise its client is told.
+fn unreached_at_first(dialing: Dialing, sign: Sign) -> Step
+    requires { told_for sign ≡ Some codes.Code.Unavailable }
+    ensures at { (h : ExchangeHistory) → IsDialing dialing h → steps.IsAtItsStage result.next (steps.ended result.outcome (signed h sign)) }
+    ensures fails { steps.FailsInTurn result.outcome result.next }
+{
+    if dialing.has_reached() {
+        let (waiting, pass) = dialing.give_up();
+        return Step {
+            next: Exchange::Telling(waiting.refuse(Code::Unavailable)),
+            used: 0,
+            outcome: Outcome::Posts(pass, Ending::Done),
+        };
+    }
+    let (waiting, pass) = dialing.fail();
+    Step {
+        next: Exchange::Waiting(waiting),
+        used: 0,
+        outcome: Outcome::Posts(pass, Ending::Failed),
+    }
+}
+
+fn unreached(passing: Passing, sign: Sign) -> Step
+    requires { told_for sign ≡ Some codes.Code.Unavailable }
+    ensures at { (h : ExchangeHistory) → IsPassing passing h → steps.IsAtItsStage result.next (steps.ended result.outcome (signed h sign)) }
+    ensures fails { steps.FailsInTurn result.outcome result.next }
+{
+    if !passing.is_dialing() {
+        return unmoved(Exchange::Passing(passing));
+    }
+    let Turned { next, outcome } = not_redialed(passing, sign);
+    Step {
+        next,
+        used: 0,
+        outcome,
+    }
+}
+
+/// The client has left: nothing more is written, and a pass is posted as done.
+pub(crate) fn gone(exchange: Exchange, sign: Sign) -> Step
+    ensures over { result.next ≡ Exchange.Over }
+    ensures at { (h : ExchangeHistory) → steps.IsAtItsStage exchange h → steps.IsAtItsStage result.next (steps.ended result.outcome (signed h sign)) }
+    ensures fails { steps.FailsInTurn result.outcome result.next }
+{
+    match exchange {
+        Exchange::Dialing(dialing) => {
+            let pass = dialing.abandon();
+            Step {
+                next: Exchange::Over,
+                used: 0,
+                outcome: Outcome::Posts(pass, Ending::Done),
+            }
+        }
+        Exchange::Passing(passing) => {
+            let pass = passing.abandon();
+            Step {
+                next: Exchange::Over,
+                used: 0,
+                outcome: Outcome::Posts(pass, Ending::Done),
+            }
+        }
+        Exchange::Asking(_asking) => quiet(Exchange::Over, 0),
+        Exchange::Waiting(_waiting) => quiet(Exchange::Over, 0),
+        Exchange::Settling(_settling) => quiet(Exchange::Over, 0),
+        Exchange::Leaving(_leaving) => quiet(Exchange::Over, 0),
+        Exchange::Telling(_telling) => quiet(Exchange::Over, 0),
+        Exchange::Over => quiet(Exchange::Over, 0),
+    }
+}
+
+pub(crate) fn client_ended(exchange: Exchange, aborts: bool) -> Step
+    ensures at { (h : ExchangeHistory) → steps.IsAtItsStage exchange h → steps.IsAtItsStage result.next (steps.ended result.outcome (signed h Sign.ClientEnded)) }
+    ensures leaves { steps.is_left aborts exchange ≡ true → result.next ≡ Exchange.Over }
+    ensures stays { steps.is_left aborts exchange ≡ false → result.next ≡ exchange }
+    ensures fails { steps.FailsInTurn result.outcome result.next }
+{
+    if is_left(&exchange, aborts) {
+        gone(exchange, Sign::ClientEnded)
+    } else {
+        unmoved(exchange)
+    }
+}
+
+// Says whether an exchange ends when its client sends no more.
+fn is_left(exchange: &Exchange, aborts: bool) -> bool
+    ensures { result ≡ steps.is_left aborts exchange.now }
+{
+    match exchange {
+        Exchange::Asking(_) => true,
+        Exchange::Waiting(_) => aborts,
+        Exchange::Dialing(_) => aborts,
+        Exchange::Passing(passing) => aborts || !passing.is_asked(),
+        Exchange::Settling(_) => false,
+        Exchange::Leaving(_) => false,
+        Exchange::Telling(_) => false,
+        Exchange::Over => false,
+    }
+}
+
+pub(crate) fn server_ended(exchange: Exchange, alloc: Global, sign: Sign) -> Step
+    requires { told_for sign ≡ Some codes.Code.BadGateway }
+    ensures at { (h : ExchangeHistory) → steps.IsAtItsStage exchange h → steps.IsAtItsStage result.next (steps.ended result.outcome (signed h sign)) }
+    ensures fails { steps.FailsInTurn result.outcome result.next }
+{
+    match exchange {
+        Exchange::Passing(mut passing) => {
+            passing.server_ended(is_end(sign));
+            let Turned { next, outcome } = go_on(passing, alloc);
+            Step {
+                next,
+                used: 0,
+                outcome,
+            }
+        }
+        other => unmoved(other),
+    }
+}
+
+// Says whether the server's input came to its end without an error.
+fn is_end(sign: Sign) -> bool
+    ensures end { IsTrue result → sign ≡ Sign.ServerEnded }
+    ensures each { sign ≡ Sign.ServerEnded → IsTrue result }
+{
+    match sign {
+        Sign::ServerEnded => true,
+        _ => false,
+    }
+}
+
+pub(crate) fn server_deaf(exchange: Exchange, alloc: Global) -> Step
+    ensures at { (h : ExchangeHistory) → steps.IsAtItsStage exchange h → steps.IsAtItsStage result.next (steps.ended result.outcome (signed h Sign.ServerDeaf)) }
+    ensures fails { steps.FailsInTurn result.outcome result.next }
+{
+    match exchange {
+        Exchange::Passing(mut passing) => {
+            passing.cut_off();
+            let Turned { next, outcome } = go_on(passing, alloc);
+            Step {
+                next,
+                used: 0,
+                outcome,
+            }
+        }
+        other => unmoved(other),
+    }
+}
+
+pub(crate) fn time_over(exchange: Exchange, clock: Clock) -> Step
+    ensures at { (h : ExchangeHistory) → steps.IsAtItsStage exchange h → steps.IsAtItsStage result.next (steps.ended result.outcome (signed h (steps.over clock))) }
+    ensures fails { steps.FailsInTurn result.outcome result.next }
+{
+    match clock {
+        Clock::Client => client_over(exchange),
+        Clock::Queue => unserved(exchange, Sign::QueueOver),
+        Clock::Connect => unreachable(exchange, Sign::ConnectOver),
+        Clock::Server => server_over(exchange),
+    }
+}
+
+fn client_over(exchange: Exchange) -> Step
+    ensures at { (h : ExchangeHistory) → steps.IsAtItsStage exchange h → steps.IsAtItsStage result.next (steps.ended result.outcome (signed h Sign.ClientOver)) }
+    ensures fails { steps.FailsInTurn result.outcome result.next }
+{
+    match exchange {
+        Exchange::Asking(asking) => asked_late(asking),
+        Exchange::Waiting(waiting) => unmoved(Exchange::Waiting(waiting)),
+        Exchange::Dialing(dialing) => unmoved(Exchange::Dialing(dialing)),
+        other => gone(other, Sign::ClientOver),
+    }
+}
+
+// A client that sent nothing at all is told nothing.
+fn asked_late(asking: Asking) -> Step
+    ensures at { (h : ExchangeHistory) → IsAsking asking h → steps.IsAtItsStage result.next (steps.ended result.outcome (signed h Sign.ClientOver)) }
+    ensures fails { steps.FailsInTurn result.outcome result.next }
+{
+    if asking.is_silent() {
+        quiet(Exchange::Over, 0)
+    } else {
+        quiet(Exchange::Telling(asking.late()), 0)
+    }
+}
+
+fn server_over(exchange: Exchange) -> Step
+    ensures at { (h : ExchangeHistory) → steps.IsAtItsStage exchange h → steps.IsAtItsStage result.next (steps.ended result.outcome (signed h Sign.ServerOver)) }
+    ensures fails { steps.FailsInTurn result.outcome result.next }
+{
+    match exchange {
+        Exchange::Passing(passing) => {
+            let Turned { next, outcome } = refused_late(passing);
+            Step {
+                next,
+                used: 0,
+                outcome,
+            }
+        }
+        other => unmoved(other),
+    }
+}

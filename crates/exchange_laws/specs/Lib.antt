@@ -1,0 +1,10 @@
+pub mod Connections
+pub mod Orders
+pub mod Readings
+pub mod ServerConnections
+pub mod Alike
+pub mod Found
+pub mod Messages
+pub mod Replies
+pub mod PassesConnections
+pub mod Passes

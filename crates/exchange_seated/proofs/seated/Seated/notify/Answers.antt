@@ -1,0 +1,17 @@
+use Rattle.std.proofs.Common.{◌∙◌, List, ◌++◌, sym, ap, append-nil}
+use Rattle.grant_board.specs.Views.{Grant}
+use Rattle.exchange_events.specs.Passes.{held_by}
+use Rattle.exchange_seated.proofs.Connecting.{holds_on}
+use Rattle.exchange_seated.proofs.Seating.{gone_few}
+use Rattle.exchange_seated.proofs.seated.Seated.notify.Goals as goal
+
+pub part-seated-requires-clause-own : goal.part-seated-requires-clause-own
+part-seated-requires-clause-own g c = c.event.ensures.own _ c.step-next.ensures.own
+
+pub part-seated-requires-clause-few : goal.part-seated-requires-clause-few
+part-seated-requires-clause-few g c = gone_few _ _ _ (c.step-next.ensures.passes c.args.self.at) (c.event.ensures.none _)
+
+pub returns-clause-holds : goal.returns-clause-holds
+returns-clause-holds g c =
+    holds_on _ _ _ _ (sym (append-nil (held_by c.args.self.exchange)) ∙ ap (λ (l : List Grant). held_by c.args.self.exchange ++ l) (sym (c.event.ensures.none _))
+    ∙ c.step-next.ensures.passes c.args.self.at) c.part-seated.ensures.exchange

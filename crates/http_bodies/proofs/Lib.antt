@@ -1,0 +1,15 @@
+pub mod ChunkRows
+pub mod Comparing
+pub mod Emitting
+pub mod WorkedRows
+pub mod Writing
+pub mod CodedBodies
+pub mod Derivatives
+pub mod Meanings
+pub mod Reaching
+pub mod Running
+pub mod SizeLines
+pub mod Exits
+pub mod PipeFeeding
+pub mod Stepping
+pub mod PipeRows

@@ -1,0 +1,149 @@
+-- A coding that is fed from a pipe: what it used is a body, a part of one, or will never be one.
+use Rattle.std.proofs.Common.{◌≡◌, ◌≢◌, ◌∙◌, ℕ, Bool, true, false, List, [], ◌∷◌, ◌++◌, take, drop, refl, sym, ap, arith, append_assoc, append-nil, subst}
+use Rattle.std.specs.Io.KnownBytes.{IsAtEnd}
+use Rattle.std.proofs.KnownBytes.{Consumes-nil}
+use Rattle.std.proofs.lemmas.Bool.{false≢true}
+use Rattle.std.proofs.lemmas.List.{take-append-drop}
+use Rattle.base_streams.specs.Streams.{Stream}
+use Rattle.http_bodies.specs.Framings.{IsBody, PartOfBody, LacksBody}
+use Rattle.http_bodies.specs.declared.fault.Fault.{Fault}
+use Rattle.http_bodies.specs.declared.fault.Fault.TheVariants as Faulty
+use Rattle.http_bodies.specs.declared.framing.Framing.{Framing}
+use Rattle.http_bodies.specs.declared.framing.Framing.TheVariants as Framed
+use Rattle.http_bodies.proofs.Writing.{Wrote-nil}
+use Rattle.http_bodies.specs.Readings.{Reading, Feeds, Hands, start_of}
+use Rattle.http_bodies.specs.Stops.{is_done, is_bad}
+use Rattle.http_bodies.specs.declared.coding.Coding.{Coding}
+use Rattle.http_bodies.specs.declared.coding.Coding.TheVariants.{ToEnd}
+use Rattle.http_bodies.proofs.Derivatives.{feeds_nil, feeds_trans}
+use Rattle.http_bodies.proofs.Running.{read_nothing, run_text, run_done, run_bad, run_early}
+use Rattle.http_bodies.specs.Steps.{Ends, ends, Moves, Breaks, LacksNothing}
+use Rattle.http_bodies.specs.declared.pipe.Pipe.{Pipe}
+use Rattle.http_bodies.proofs.Stepping.{moves_none, moves_trans, moves_as, moves_breaks, breaks_as, breaks_less, breaks_end, breaks_framing}
+
+-- the front of what is held is used, and its text is put behind what waits
+moves_feed : (p0 p : Pipe) (s w : Stream) (used text : List ℕ) → p0.inbox ≡ used ++ p.inbox → p.outbox ≡ p0.outbox ++ text → p.turns ≡ p0.turns
+    → Moves (ends p0 s w) (ends p s w) used text
+moves_feed p0 p s w used text e waits turns = record {
+  taken = [];
+  reads = record {
+    same_source = refl;
+    same_sink = refl;
+    bytes = Consumes-nil s.bytes;
+    few = omega arith;
+    reads = omega arith;
+    writes = omega arith;
+    spent = omega (arith, turns);
+  };
+  held = append-nil p0.inbox ∙ e;
+  front = [];
+  writes = Wrote-nil w;
+  waiting = sym waits;
+  good_reads = refl;
+  good_writes = refl;
+}
+
+pub feed_moves : {old new : Coding} (p0 p : Pipe) (input : List ℕ) (n : ℕ) (s w : Stream) → input ≡ p0.inbox
+    → Hands old new (take n input) p0.outbox p.outbox → p.inbox ≡ drop n p0.inbox → p.turns ≡ p0.turns
+    → (used : List ℕ) × (text : List ℕ) × Feeds old new used text × Moves (ends p0 s w) (ends p s w) used text
+feed_moves p0 p input n s w same hands rest turns =
+    let held : p0.inbox ≡ take n input ++ p.inbox =
+    sym same ∙ sym (take-append-drop n input) ∙ ap (λ l. take n input ++ l) (ap (drop n) same ∙ sym rest) in
+    (take n input, hands.given, hands.feeds, moves_feed p0 p s w (take n input) hands.given held hands.waits turns)
+
+-- what a coding used of a body, from its first byte on, and the text that it gave for it
+pub record Passing (framing : Framing) (framed : Bool) (c : Coding) (a b : Ends) : Type 0 where
+  pub used : List ℕ
+  pub text : List ℕ
+  pub feeds : Feeds (start_of framing framed) c used text
+  pub moves : Moves a b used text
+
+pub passing_start : (framing : Framing) (framed : Bool) (c : Coding) (e : Ends) → c ≡ start_of framing framed → Passing framing framed c e e
+passing_start framing framed c e is = record {
+  used = [];
+  text = [];
+  feeds = subst (λ (d : Coding). Feeds (start_of framing framed) d [] []) (sym is) (feeds_nil (start_of framing framed));
+  moves = moves_none e;
+}
+
+pub passing_feed : {framing : Framing} {framed : Bool} {c d : Coding} {a b e : Ends} → Passing framing framed c a b
+    → (used : List ℕ) × (text : List ℕ) × Feeds c d used text × Moves b e used text → Passing framing framed d a e
+passing_feed p fed = record {
+  used = p.used ++ fed.0;
+  text = p.text ++ fed.1;
+  feeds = feeds_trans p.feeds fed.2;
+  moves = moves_trans p.moves fed.3;
+}
+
+pub passing_on : {framing : Framing} {framed : Bool} {c : Coding} {a b e : Ends} → Passing framing framed c a b → Moves b e [] []
+    → Passing framing framed c a e
+passing_on p moves = record {
+  used = p.used;
+  text = p.text;
+  feeds = p.feeds;
+  moves = moves_as (append-nil p.used) (append-nil p.text) (moves_trans p.moves moves);
+}
+
+-- what goes on to the end is given as it came, and is never done
+all_given : (c : Coding) (used text : List ℕ) → Feeds ToEnd c used text → text ≡ used
+all_given c used text f =
+    sym (append-nil text)
+    ∙ ap (λ (q : Reading). text ++ q.text) (sym (read_nothing c))
+    ∙ sym (ap (λ (q : Reading). q.text) (f.goes_on []))
+    ∙ append-nil used
+
+never_done : (c : Coding) (used text : List ℕ) → Feeds ToEnd c used text → is_done c ≡ false
+never_done c used text f =
+    ap (λ (q : Reading). is_done q.coding) (sym (read_nothing c)) ∙ sym (ap (λ (q : Reading). is_done q.coding) (f.goes_on []))
+
+module _ {framing : Framing} {framed : Bool} {c : Coding} {a b : Ends} (p : Passing framing framed c a b) where
+  pub never_whole : framing ≡ Framed.ToEnd → is_done c ≡ true → ⊥
+  never_whole e is =
+      let none = subst (λ (f : Framing). Feeds (start_of f framed) c p.used p.text → is_done c ≡ false) (sym e) (never_done c p.used p.text) p.feeds in
+      false≢true (sym none ∙ is)
+
+  pub whole_body : is_done c ≡ true → (used : List ℕ) × (text : List ℕ) × IsBody framing framed used text × Moves a b used text
+  whole_body is =
+      let body = run_done framing framed ((p.used, p.text) ∷ []) c (c, p.feeds, refl) is in
+      (p.used ++ [], p.text ++ [], body, moves_as (sym (append-nil p.used)) (sym (append-nil p.text)) p.moves)
+
+  pub body_to_end : framing ≡ Framed.ToEnd → (used : List ℕ) × (text : List ℕ) × IsBody framing framed used text × Moves a b used text
+  body_to_end e =
+      let body = subst (λ (f : Framing). Feeds (start_of f framed) c p.used p.text → IsBody f framed p.used p.text) (sym e) (all_given c p.used p.text) p.feeds in
+      (p.used, p.text, body, p.moves)
+
+  -- a fault: the text is that of a part of a body at the front of what was used
+  part_of : {d : Ends} {fault : Fault} → Breaks a d p.used p.text (LacksBody framing) fault
+      → (used : List ℕ) × (text : List ℕ) × PartOfBody framing framed used text × Breaks a d used text (LacksBody framing) fault
+  part_of breaks =
+      let sent = run_text framing framed ((p.used, p.text) ∷ []) c (c, p.feeds, refl) in
+      let front = sym (append-nil p.used) ∙ sent.input_is in (
+        sent.used,
+        p.text ++ [],
+        sent.part,
+        breaks_less (LacksBody framing) sent.used sent.rest (breaks_as (LacksBody framing) front (sym (append-nil p.text)) breaks),
+      )
+
+  -- of a call that failed
+  pub part_before : {d : Ends} {fault : Fault} → Breaks b d [] [] LacksNothing fault
+      → (used : List ℕ) × (text : List ℕ) × PartOfBody framing framed used text × Breaks a d used text (LacksBody framing) fault
+  part_before breaks =
+      part_of (breaks_as (LacksBody framing) (append-nil p.used) (append-nil p.text)
+      (moves_breaks LacksNothing (LacksBody framing) (λ l none. absurd none) p.moves breaks))
+
+  -- of bytes that will never be a body
+  pub part_of_none : is_bad c ≡ true
+      → (used : List ℕ) × (text : List ℕ) × PartOfBody framing framed used text × Breaks a b used text (LacksBody framing) Faulty.Framing
+  part_of_none is =
+      let never = λ (more : List ℕ). run_bad framing framed ((p.used, p.text) ∷ []) c (c, p.feeds, refl) more is in
+      part_of (breaks_framing (LacksBody framing) p.moves
+      (λ more. subst (LacksBody framing)
+      (ap (λ l. l ++ (b.pipe.inbox ++ more)) (append-nil p.used) ∙ sym (append_assoc p.used b.pipe.inbox more))
+      (never (b.pipe.inbox ++ more))))
+
+  -- of an input that ended too early
+  pub part_at_end : is_done c ≡ false → framing ≢ Framed.ToEnd → IsAtEnd b.source.bytes → b.pipe.inbox ≡ []
+      → (used : List ℕ) × (text : List ℕ) × PartOfBody framing framed used text × Breaks a b used text (LacksBody framing) Faulty.Read
+  part_at_end is other end none =
+      let early = run_early framing framed ((p.used, p.text) ∷ []) c (c, p.feeds, refl) other is in
+      part_of (breaks_end (LacksBody framing) p.moves end (subst (LacksBody framing) (ap (λ l. p.used ++ l) (sym none)) early))

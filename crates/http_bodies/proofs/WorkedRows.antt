@@ -1,0 +1,46 @@
+-- The definitions at worked examples: what must hold, and what must not.
+use base.Fml.{GName}
+use Rattle.std.proofs.Common.{◌≡◌, ℕ, List, [], Some, true, codes, refl, arith}
+use Rattle.base_streams.specs.Streams.{Stream}
+use Rattle.httparse.specs.Grammar.LineEnd.{lf}
+use Rattle.http_bodies.specs.Framings.{IsBody, LacksBody}
+use Rattle.http_bodies.specs.Texts.{Wrote}
+use Rattle.http_bodies.specs.declared.framing.Framing.TheVariants.{Length, ToEnd}
+use Rattle.http_bodies.specs.Trailers.{print_trailers, IsTrailer}
+
+-- an empty line that ends in a line feed alone ends the trailers
+bare_blank : print_trailers (record { lines = []; blank = lf }) ≡ codes "\n"
+bare_blank = refl
+
+-- a lone CR is the empty line, and no trailer
+no_return : ¬ (IsTrailer (codes "\r"))
+no_return is = is.more refl
+
+three_bytes : IsBody (Length 3) true (codes "abc") (codes "abc")
+three_bytes = (refl, refl)
+
+not_two_bytes : ¬ (IsBody (Length 3) true (codes "ab") (codes "ab"))
+not_two_bytes is = omega (arith, is.0)
+
+two_lack_one : LacksBody (Length 3) (codes "ab")
+two_lack_one = omega arith
+
+three_lack_none : ¬ (LacksBody (Length 3) (codes "abc"))
+three_lack_none lacks = omega (arith, lacks)
+
+-- what goes on to the end lacks nothing
+empty_is_whole : ¬ (LacksBody ToEnd [])
+empty_is_whole lacks = lacks
+
+stream : GName → List ℕ → ℕ → Stream
+stream end bytes calls = record { name = end; bytes = Some bytes; calls = calls; failures = 0 }
+
+-- two bytes went out by one write
+one_write : (end : GName) → Wrote (stream end [] 0) (stream end (codes "ab") 1) (codes "ab")
+unfolding stream
+one_write end = record { bytes = refl; more = omega arith; some = omega arith; none = λ e. absurd (omega (arith, e)) }
+
+-- one byte isn't what two writes took, since each takes one at least
+not_two_writes : (end : GName) → ¬ (Wrote (stream end [] 0) (stream end (codes "a") 2) (codes "a"))
+unfolding stream
+not_two_writes end wrote = omega (arith, wrote.some)

@@ -1,0 +1,15 @@
+-- What waits is written first.
+use Rattle.std.proofs.Common.{[], sym, refl, append-nil}
+use Rattle.http_bodies.proofs.Emitting.{stops_as}
+use Rattle.http_bodies.proofs.Exits.{at_exit}
+use Rattle.http_bodies.proofs.Stepping.{moves_emit, breaks_emit}
+use Rattle.http_bodies.proofs.pipe.Pipe.advance.Goals as goal
+
+pub returns-in_err-flush-clause-err : goal.returns-in_err-flush-clause-err
+returns-in_err-flush-clause-err g c =
+    let before = c.args.self.now in
+    at_exit c.from_residual-in_err-flush.result _ _ c.from_residual-in_err-flush.ensures.1
+    (breaks_emit (g.S.Source.stream c.args.source.now) [] before.inbox (stops_as (sym (append-nil before.outbox)) c.in_err-flush.ensures.err) refl)
+
+pub returns-clause-ok : goal.returns-clause-ok
+returns-clause-ok g c = moves_emit (g.S.Source.stream c.args.source.now) [] c.in_ok-flush.ensures.ok (sym c.in_ok-flush.ensures.inbox)

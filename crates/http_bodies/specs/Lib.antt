@@ -1,0 +1,11 @@
+pub mod Bodies
+pub mod Chunks
+pub mod Framings
+pub mod Lengths
+pub mod Texts
+pub mod Trailers
+pub mod Parts
+pub mod Readings
+pub mod Runs
+pub mod Stops
+pub mod Steps

@@ -1,0 +1,70 @@
+ghost use Rattle.std.specs.Prelude.{◌≡◌, ◌≢◌, ◌⊎◌, ◌<◌, ℕ, List, [], length, false, IfOk, OnOk, IfErr};
+ghost use Rattle.std.specs.Io.KnownBytes.{IsAtEnd};
+ghost use Rattle.http_bodies.specs.Steps.{ends, Countable, Moves, Breaks, LacksNothing};
+ghost use Rattle.http_bodies.specs.Framings.{IsBody, PartOfBody, LacksBody};
+
+use crate::coding::Coding;
+use crate::fault::Fault;
+use crate::framing::Framing;
+use crate::pipe::Pipe;
+use base_streams::{Sink, Source};
+
+impl Pipe {
+    /// Hands on a body. A chunked body is written in chunks, or for an HTTP/1.0 client as its data
+    /// alone. The last bytes may still wait in the pipe.
+    pub fn pass_body<S: Source, K: Sink>(
+        &mut self,
+        source: &mut S,
+        sink: &mut K,
+        framing: Framing,
+        framed: bool,
+    ) -> Result<(), Fault>
+        requires { Countable (ends self.old (S.stream source.old) (K.stream sink.old)) }
+        ensures ok { OnOk result ((used : List ℕ) × (text : List ℕ) × IsBody framing framed used text × Moves (ends self.old (S.stream source.old) (K.stream sink.old)) (ends self.new (S.stream source.new) (K.stream sink.new)) used text) }
+        ensures end { framing ≡ Framing.ToEnd → OnOk result (IsAtEnd (S.stream source.new).bytes) }
+        ensures all { framing ≡ Framing.ToEnd → OnOk result (self.new.inbox ≡ []) }
+        ensures err { IfErr result (λ fault. (used : List ℕ) × (text : List ℕ) × PartOfBody framing framed used text
+            × Breaks (ends self.old (S.stream source.old) (K.stream sink.old)) (ends self.new (S.stream source.new) (K.stream sink.new)) used text (LacksBody framing) fault) }
+    {
+        let mut coding = Coding::new(framing, framed);
+        'passing: loop {
+            let whole = self.feed(&mut coding)?;
+            if whole {
+                return Ok(());
+            }
+            let more = self.advance(source, sink)?;
+            if !more {
+                return ended(framing);
+            }
+        }
+    }
+
+    // Writes all that waits, and reads once where nothing is held. Returns false at the end of the input.
+    fn advance<S: Source, K: Sink>(&mut self, source: &mut S, sink: &mut K) -> Result<bool, Fault>
+        requires some { (self.old.inbox ≡ []) ⊎ (0 < length self.old.outbox) }
+        requires countable { Countable (ends self.old (S.stream source.old) (K.stream sink.old)) }
+        ensures ok { OnOk result (Moves (ends self.old (S.stream source.old) (K.stream sink.old)) (ends self.new (S.stream source.new) (K.stream sink.new)) [] []) }
+        ensures spent { OnOk result (self.new.turns < self.old.turns) }
+        ensures end { IfOk result (λ more. more ≡ false → IsAtEnd (S.stream source.new).bytes) }
+        ensures none { IfOk result (λ more. more ≡ false → self.new.inbox ≡ []) }
+        ensures err { IfErr result (Breaks (ends self.old (S.stream source.old) (K.stream sink.old)) (ends self.new (S.stream source.new) (K.stream sink.new)) [] [] LacksNothing) }
+    {
+        if self.held().is_empty() {
+            let count = self.supply(source, sink)?;
+            return Ok(0 < count);
+        }
+        self.flush(sink)?;
+        Ok(true)
+    }
+}
+
+// What it means for the body that the input ended.
+fn ended(framing: Framing) -> Result<(), Fault>
+    ensures ok { OnOk result (framing ≡ Framing.ToEnd) }
+    ensures err { IfErr result (λ fault. (fault ≡ Fault.Read) × (framing ≢ Framing.ToEnd)) }
+{
+    match framing {
+        Framing::ToEnd => Ok(()),
+        Framing::Empty | Framing::Length(_) | Framing::Chunked => Err(Fault::Read),
+    }
+}

@@ -1,9 +1,0 @@
--- The queues of a dispatcher.
-use Rattle.std.specs.Prelude.{ℕ, ◌<◌}
-use Rattle.dispatch_log.specs.declared.queue.Queue.{Queue}
-use Rattle.dispatch_log.specs.declared.queue.Queue.TheVariants.{Backend, Server}
-
--- a queue is the backend's, or that of one of this many servers
-abbrev pub IsQueueOf : ℕ → Queue → Type 0
-IsQueueOf servers Backend = Unit {0}
-IsQueueOf servers (Server server) = server < servers

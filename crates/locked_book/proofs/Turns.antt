@@ -1,0 +1,147 @@
+-- Places that are visited one after the other.
+use Rattle.std.proofs.Common.{◌≡◌, ◌≢◌, inl, inr, ℕ, ◌+◌, ◌<◌, ◌≤◌, nat_lt, Bool, true}
+use Rattle.std.proofs.Common.{false, List, [], ◌∷◌, ◌++◌, Contains, refl, ap, sym, ◌∙◌, subst, arith}
+use mathlib.Core.Logic.{dite}
+use native.Mathlib.Decide.{ℕ_discrete}
+use Rattle.std.proofs.lemmas.Bool.Decides.{nat_tests}
+use Rattle.std.proofs.lemmas.List.Elements.{Contains-append_left, Contains-append_right, Contains-append_cases}
+use Rattle.base_lists.proofs.Members.{Contains-nil, Contains-head, Contains-tail, Contains-cases}
+use Rattle.base_lists.proofs.Totals.{total-append}
+use Rattle.grant_board.specs.Views.{KeeperView, grant, at_place, count_at}
+use Rattle.grant_board.proofs.Grants.{at_place-no}
+use Rattle.std.proofs.Common.{Option, None, Some, IfSome, IfNone}
+use Rattle.grant_board.specs.declared.returned.Return.{Return}
+use Rattle.grant_board.specs.KeeperCalls.{FindsUnposted}
+use Rattle.log_entries.specs.Histories.{effective}
+use Rattle.locked_book.specs.Calls.{Booked, TakesBack, grants_in, added}
+use Rattle.locked_book.specs.Turns.{Visits, VisitsFrom, Walks}
+
+-- a visit leaves the other places out
+pub visit_keeps : (m p q : ℕ) (old : Booked) (woken : List ℕ) (new : Booked) (woken_then : List ℕ) → q ≢ p → Visits m p old woken new woken_then
+    → 0 < count_at q old.view.out → 0 < count_at q new.view.out
+visit_keeps m p q old woken new woken_then apart visit out =
+    elim visit.found [
+      | inl took ↦
+          let t = took.1 in
+          let g = grant p took.0.ticket t.collects.verdict in
+          let gs = grants_in new.history (added old.history new.history) in
+          let view : count_at q new.view.out ≡ count_at q (t.between.out ++ gs) = ap (λ (v : KeeperView). count_at q v.out) t.view in
+          omega (arith, out, view, total-append (at_place q) t.between.out gs, t.collects.weighs (at_place q), at_place-no q g (λ same. apart (sym same)))
+      | inr none ↦ subst (λ (v : KeeperView). 0 < count_at q v.out) (sym none.1.after) out
+    ]
+
+-- more visits, above all of them
+pub visits_after : (m : ℕ) (places others : List ℕ) (first mid : ℕ) (a : Booked) (woken_a : List ℕ) (b : Booked) (woken_b : List ℕ) (c : Booked)
+    (woken_c : List ℕ) → first ≤ mid → ((q : ℕ) → Contains places q → q < mid)
+    → VisitsFrom m first places a woken_a b woken_b → VisitsFrom m mid others b woken_b c woken_c
+    → VisitsFrom m first (places ++ others) a woken_a c woken_c
+visits_after m [] [] first mid a woken_a b woken_b c woken_c low below some more = (more.0 ∙ some.0, more.1 ∙ some.1)
+visits_after m [] (p ∷ others) first mid a woken_a b woken_b c woken_c low below some more =
+    subst (λ (it : Booked). VisitsFrom m first (p ∷ others) it woken_a c woken_c) some.0
+    (subst (λ l. VisitsFrom m first (p ∷ others) b l c woken_c) some.1 (let up = more.0 in omega (arith, low, up), more.1))
+visits_after m (q ∷ places) others first mid a woken_a b woken_b c woken_c low below some more = (
+  some.0,
+  (
+    some.1.0,
+    some.1.1,
+    some.1.2,
+    visits_after m places others (q + 1) mid some.1.0 some.1.1 b woken_b c woken_c
+        (let less = below q (Contains-head q places) in omega (arith, less)) (λ r there. below r (Contains-tail q places r there)) some.1.3 more,
+  ),
+)
+
+-- visits of places below a number leave those from it on out
+pub visits_keep : (m : ℕ) (places : List ℕ) (first mid q : ℕ) (a : Booked) (woken_a : List ℕ) (b : Booked) (woken_b : List ℕ)
+    → ((p : ℕ) → Contains places p → p < mid) → mid ≤ q → VisitsFrom m first places a woken_a b woken_b
+    → 0 < count_at q a.view.out → 0 < count_at q b.view.out
+visits_keep m [] first mid q a woken_a b woken_b below high some out = subst (λ (it : Booked). 0 < count_at q it.view.out) (sym some.0) out
+visits_keep m (p ∷ places) first mid q a woken_a b woken_b below high some out =
+    visits_keep m places (p + 1) mid q some.1.0 some.1.1 b woken_b (λ r there. below r (Contains-tail p places r there)) high some.1.3
+    (visit_keeps m p q a woken_a some.1.0 some.1.1 (λ same. let less = below p (Contains-head p places) in absurd (omega (arith, same, less, high)))
+    some.1.2 out)
+
+pub walks_none : (m low high : ℕ) (a : Booked) (woken_a : List ℕ) → ((q : ℕ) → low ≤ q → q < high → 0 < count_at q a.view.out → ⊥)
+    → Walks m low high a woken_a a woken_a
+walks_none m low high a woken_a none = record {
+  places = [];
+  visits = (refl, refl);
+  below = λ q there. absurd (Contains-nil q there);
+  all = λ q from to out. absurd (none q from to out);
+}
+
+-- a walk has all that was out as far as no other place was
+all_further : (m low mid high : ℕ) (a : Booked) (woken_a : List ℕ) (b : Booked) (woken_b : List ℕ)
+    → ((q : ℕ) → mid ≤ q → q < high → 0 < count_at q a.view.out → ⊥) → (is : Walks m low mid a woken_a b woken_b)
+    → (q : ℕ) → low ≤ q → q < high → 0 < count_at q a.view.out → Contains is.places q
+all_further m low mid high a woken_a b woken_b none is q from to out = by_place (nat_lt q mid) refl
+  where
+    by_place : (b : Bool) → nat_lt q mid ≡ b → Contains is.places q
+    by_place true e = is.all q from (grind (arith, nat_tests)) out
+    by_place false e = absurd (none q (grind (arith, nat_tests)) to out)
+
+pub walks_further : (m low mid high : ℕ) (a : Booked) (woken_a : List ℕ) (b : Booked) (woken_b : List ℕ) → mid ≤ high
+    → ((q : ℕ) → mid ≤ q → q < high → 0 < count_at q a.view.out → ⊥)
+    → Walks m low mid a woken_a b woken_b → Walks m low high a woken_a b woken_b
+walks_further m low mid high a woken_a b woken_b up none is = record {
+  places = is.places;
+  visits = is.visits;
+  below = λ q there. let less = is.below q there in omega (arith, less, up);
+  all = all_further m low mid high a woken_a b woken_b none is;
+}
+
+-- one place more, and none that was out is between
+pub walks_on : (m low mid p : ℕ) (a : Booked) (woken_a : List ℕ) (b : Booked) (woken_b : List ℕ) (c : Booked) (woken_c : List ℕ) → low ≤ mid → mid ≤ p
+    → ((q : ℕ) → mid ≤ q → q < p → 0 < count_at q a.view.out → ⊥)
+    → Walks m low mid a woken_a b woken_b → Visits m p b woken_b c woken_c → Walks m low (p + 1) a woken_a c woken_c
+walks_on m low mid p a woken_a b woken_b c woken_c from up none is one = record {
+  places = is.places ++ p ∷ [];
+  visits = visits_after m is.places (p ∷ []) low mid a woken_a b woken_b c woken_c from is.below is.visits (up, (c, woken_c, one, (refl, refl)));
+  below = λ q there. elim (Contains-append_cases is.places (p ∷ []) q there) [
+    | inl old ↦ let less = is.below q old in omega (arith, less, up)
+    | inr new ↦ elim (Contains-cases p [] q new) [ inl same ↦ omega (arith, same) | inr nil ↦ absurd (Contains-nil q nil) ]
+  ];
+  all = λ q after less out. dite (ℕ_discrete q p)
+      (λ same. Contains-append_right is.places (p ∷ []) q (subst (Contains (p ∷ [])) (sym same) (Contains-head p [])))
+      (λ apart. Contains-append_left is.places (p ∷ []) q
+      (all_further m low mid p a woken_a b woken_b none is q after (omega (arith, less, apart)) out));
+}
+
+-- one walk after the other
+pub walks_after : (m low mid high : ℕ) (a : Booked) (woken_a : List ℕ) (b : Booked) (woken_b : List ℕ) (c : Booked) (woken_c : List ℕ)
+    → low ≤ mid → mid ≤ high → Walks m low mid a woken_a b woken_b → Walks m mid high b woken_b c woken_c → Walks m low high a woken_a c woken_c
+walks_after m low mid high a woken_a b woken_b c woken_c from up is more = record {
+  places = is.places ++ more.places;
+  visits = visits_after m is.places more.places low mid a woken_a b woken_b c woken_c from is.below is.visits more.visits;
+  below = λ q there. elim (Contains-append_cases is.places more.places q there) [
+    | inl old ↦ let less = is.below q old in omega (arith, less, up)
+    | inr new ↦ more.below q new
+  ];
+  all = λ q after less out. by_place q after less out (nat_lt q mid) refl;
+}
+  where
+    by_place : (q : ℕ) → low ≤ q → q < high → 0 < count_at q a.view.out → (b : Bool) → nat_lt q mid ≡ b → Contains (is.places ++ more.places) q
+    by_place q after less out true e = Contains-append_left is.places more.places q (is.all q after (grind (arith, nat_tests)) out)
+    by_place q after less out false e =
+        let high_enough : mid ≤ q = grind (arith, nat_tests) in
+        Contains-append_right is.places more.places q
+        (more.all q high_enough less (visits_keep m is.places low mid q a woken_a b woken_b is.below high_enough is.visits out))
+
+-- what was out when a part of a walk was done is out after it, from its end on
+pub walks_keep : (m low high q : ℕ) (a : Booked) (woken_a : List ℕ) (b : Booked) (woken_b : List ℕ) → high ≤ q → Walks m low high a woken_a b woken_b
+    → 0 < count_at q a.view.out → 0 < count_at q b.view.out
+walks_keep m low high q a woken_a b woken_b after is out = visits_keep m is.places low high q a woken_a b woken_b is.below after is.visits out
+
+-- a look that found something, or nothing
+pub visit_of : (m p : ℕ) (old : Booked) (woken : List ℕ) (new : Booked) (woken_then : List ℕ) (found : Option Return) → 0 < count_at p old.view.out
+    → IfSome found (λ back. TakesBack old new p (effective old.history m) back woken woken_then)
+    → IfNone found ((new.history ≡ old.history) × FindsUnposted old.view new.view p × (woken_then ≡ woken))
+    → Visits m p old woken new woken_then
+visit_of m p old woken new woken_then None out some none = record { out = out; found = inr none }
+visit_of m p old woken new woken_then (Some back) out some none = record { out = out; found = inl (back, some) }
+
+-- a walk that stopped before its next part, or within it
+pub stopped : (m low : ℕ) (a : Booked) (woken_a : List ℕ) (b : Booked) (woken_b : List ℕ) (c : Booked) (woken_c : List ℕ) (others : List ℕ) (mid : ℕ)
+    → low ≤ mid → Walks m low mid a woken_a b woken_b → VisitsFrom m mid others b woken_b c woken_c
+    → (places : List ℕ) × VisitsFrom m low places a woken_a c woken_c
+stopped m low a woken_a b woken_b c woken_c others mid from is more =
+    (is.places ++ others, visits_after m is.places others low mid a woken_a b woken_b c woken_c from is.below is.visits more)

@@ -1,0 +1,157 @@
+//! From a pass to a connection to its server.
+
+ghost use Rattle.std.specs.Prelude.{◌≡◌, IfSome, true};
+
+use crate::guest::{Guest, Task, Watch};
+use crate::keeping::Soon;
+use crate::looping::Looper;
+use crate::serving::Then;
+use exchange_driver::Live;
+use exchange_seated::Notice;
+use grant_board::BoardName;
+use loop_table::{Hole, Token};
+use mio::net::TcpStream as Dialing;
+use std::net::{Net, TcpListener, TcpStream};
+use std::sync::Wait;
+use std::sync::ledger::Ledger;
+use std::time::Clock;
+
+/// The most connections that are opened in place of ones that broke before the server got a byte.
+const MOST_REDIALS: u32 = 1;
+
+/// The connection that a guest was given.
+#[derive(Clone, Copy, Debug, PartialEq, Eq)]
+enum Begun {
+    /// A new one, which may still fail.
+    Fresh,
+    /// One that was used before.
+    Used,
+}
+
+impl<
+    'a,
+    N: BoardName + Ledger,
+    R: Net<Listener = TcpListener, Stream = TcpStream> + Clock + Print + Wait,
+> Looper<'a, N, R> {
+    /// Begins a connection to the server of a guest's pass, without waiting, where no used one is
+    /// free. Where that server has just failed the guest, it waits a while first.
+    pub(crate) fn dial(&mut self, guest: Box<Guest<N>>, hole: Hole) -> Then<N> {
+        if guest.visit.pauses || guest.linked.socket().is_some() {
+            return self.keep(guest, hole, Soon::Rests);
+        }
+        let mut guest = guest;
+        match self.begin(&mut guest) {
+            None => self.tell_of_no_connection(guest, hole),
+            Some(begun) => {
+                if self.teller.is_some() {
+                    count_anew(guest.linked.socket());
+                }
+                guest.visit.fresh = begun == Begun::Fresh;
+                guest.visit.server_watch = self.watch_of(&guest, hole.token());
+                match begun {
+                    Begun::Fresh => self.look_at_connection(guest, hole, false),
+                    Begun::Used => self.tell_of_connection(guest, hole),
+                }
+            }
+        }
+    }
+
+    // Begins a connection, where the last look-up of the server's name found an address. `None`
+    // where no connection can be had. By its type the guest's connection is one to the server of
+    // its pass.
+    fn begin(&mut self, guest: &mut Guest<N>) -> Option<Begun>
+        ensures { IfSome result (λ _. guest.new.linked.line.there ≡ true) }
+    {
+        let server = guest.linked.seated().server()?;
+        if self.takes_up(guest, server) {
+            return Some(Begun::Used);
+        }
+        let live = self.opened(server)?;
+        if guest.linked.open(self.settings.alloc, live) {
+            Some(Begun::Fresh)
+        } else {
+            None
+        }
+    }
+
+    // Opens a connection. Where the system is short of descriptors, an unused connection is closed first.
+    fn opened(&mut self, server: usize) -> Option<Live> {
+        let address = self.shared.address_of(self.rt, server)?;
+        let stream = match Dialing::connect(self.rt, address) {
+            Ok(stream) => stream,
+            Err(_) if self.close_any() => Dialing::connect(self.rt, address).ok()?,
+            Err(_) => return None,
+        };
+        let _ = stream.set_nodelay(true);
+        Some(Live::new(TcpStream::from(stream)))
+    }
+
+    // Registers a new connection with the poll.
+    fn watch_of(&self, guest: &Guest<N>, token: Token) -> Watch {
+        if !guest.visit.fresh && self.is_watched_anew(guest, token) {
+            Watch::Reads
+        } else {
+            Watch::Nothing
+        }
+    }
+
+    /// Finds out whether a connection that was begun has succeeded.
+    pub(crate) fn look_at_connection(
+        &mut self,
+        guest: Box<Guest<N>>,
+        hole: Hole,
+        broken: bool,
+    ) -> Then<N> {
+        let is_there = match guest.linked.socket() {
+            None => return self.keep(guest, hole, Soon::Rests),
+            Some(live) => live.stream().peer_addr().is_ok(),
+        };
+        if is_there {
+            self.tell_of_connection(guest, hole)
+        } else if broken {
+            self.tell_of_no_connection(guest, hole)
+        } else {
+            self.keep(guest, hole, Soon::Rests)
+        }
+    }
+
+    fn tell_of_connection(&mut self, guest: Box<Guest<N>>, hole: Hole) -> Then<N> {
+        let fresh = guest.visit.fresh;
+        let terms = self.shared.terms(&guest.visit.presence, fresh);
+        self.tell(guest, hole, Notice::Connected(terms))
+    }
+
+    /// Handles the failure of a connection to a guest's server, whose name is looked up again.
+    pub(crate) fn tell_of_no_connection(&mut self, guest: Box<Guest<N>>, hole: Hole) -> Then<N> {
+        if let Some(number) = guest.linked.seated().server() {
+            self.shared.front.addresses.look_again(self.rt, number);
+        }
+        self.tell(guest, hole, Notice::Unreachable)
+    }
+
+    /// Opens another connection in place of one that broke before it got a byte of the request, or
+    /// was used before and broke before a byte of the answer came: once for each of the two causes.
+    pub(crate) fn redial(&mut self, guest: Box<Guest<N>>, hole: Hole) -> Then<N> {
+        let mut guest = guest;
+        let visit = &mut guest.visit;
+        let fresh = visit.fresh;
+        visit.forget_server();
+        if fresh {
+            visit.redials = visit.redials.saturating_add(1);
+        }
+        visit.spoilt = visit.spoilt || !fresh;
+        visit.task = if visit.redials <= MOST_REDIALS {
+            Task::Dial
+        } else {
+            Task::GiveUp
+        };
+        Then::Goes(guest, hole)
+    }
+}
+
+// Counts the connection's bytes from 0 for this exchange.
+fn count_anew(server: Option<&Live>) {
+    if let Some(live) = server {
+        live.count_anew();
+    }
+}

@@ -1,0 +1,169 @@
+//! Guests in their slots: they are kept until there is more to do, and closed.
+
+use crate::guest::{Guest, Keyword, Resident, Visit, Watch, break_off};
+use crate::looping::Looper;
+use crate::serving::Then;
+use exchange_driver::{Live, Socket};
+use exchange_seated::{Linked, Stage};
+use grant_board::BoardName;
+use log_lines::{By, During};
+use loop_shared::{watch, watch_anew};
+use loop_table::{Hole, Subject, Token};
+use mio::Interest;
+use std::net::{Net, TcpListener, TcpStream};
+use std::os::fd::AsRawFd;
+use std::sync::Wait;
+use std::sync::ledger::Ledger;
+use std::time::Clock;
+
+/// When there is more to do for a guest.
+#[derive(Clone, Copy, Debug, PartialEq, Eq)]
+pub(crate) enum Soon {
+    /// At once.
+    AtOnce,
+    /// Once the places that a returned slot woke were looked at.
+    Next,
+    /// Once the others have had their turn.
+    Later,
+    /// Once the poll reports one of its sockets, or a timeout expires.
+    Rests,
+}
+
+impl<
+    'a,
+    N: BoardName + Ledger,
+    R: Net<Listener = TcpListener, Stream = TcpStream> + Clock + Print + Wait,
+> Looper<'a, N, R> {
+    /// Makes a guest of an exchange and its visit. Where there is no memory for it, the exchange ends.
+    pub(crate) fn seat(&mut self, linked: Linked<N, Live>, visit: Visit, hole: Hole) -> Then<N> {
+        match Box::new(self.settings.alloc, Guest { linked, visit }) {
+            Ok(guest) => Then::Goes(guest, hole),
+            Err(refused) => {
+                let Guest { linked, visit } = refused.value;
+                self.close_on(linked, visit, hole)
+            }
+        }
+    }
+
+    /// Puts a guest into its slot until there is more to do.
+    pub(crate) fn keep(&mut self, guest: Box<Guest<N>>, hole: Hole, soon: Soon) -> Then<N> {
+        let mut guest = guest;
+        let token = hole.token();
+        let Guest { linked, visit } = &mut *guest;
+        self.time(linked.seated(), visit, token.index());
+        match soon {
+            Soon::AtOnce => return Then::Goes(guest, hole),
+            Soon::Next => self.agenda.note(token.index()),
+            Soon::Later => self.agenda.put_off(token.index()),
+            Soon::Rests => {
+                if !self.is_watched(&mut guest, token) {
+                    return self.close(guest, hole);
+                }
+            }
+        }
+        self.lay(Resident::Guest(guest), hole);
+        Then::Rests
+    }
+
+    // Registers its sockets with the poll. Says whether that succeeded.
+    fn is_watched(&self, guest: &mut Guest<N>, token: Token) -> bool {
+        let dials = guest.stage() == Stage::Dialing;
+        let Guest { linked, visit } = guest;
+        let Visit {
+            client,
+            client_watch,
+            server_watch,
+            ..
+        } = visit;
+        let subject = Subject::Client(token);
+        self.watches(client.socket(), client_watch, subject, false)
+            && self.watches(linked.socket(), server_watch, Subject::Server(token), dials)
+    }
+
+    // Registers a socket with the poll; for writing too, where its last write was full, or where it
+    // is being opened.
+    fn watches(
+        &self,
+        socket: Option<&Live>,
+        told: &mut Watch,
+        subject: Subject,
+        opens: bool,
+    ) -> bool {
+        let Some(socket) = socket else {
+            return true;
+        };
+        let writes = opens || socket.is_full();
+        let connection = socket.stream().as_raw_fd();
+        let (is_there, interest) = match (*told, writes) {
+            (Watch::Both, _) | (Watch::Reads, false) => return true,
+            (Watch::Reads, true) => (true, Interest::READABLE | Interest::WRITABLE),
+            (Watch::Nothing, true) => (false, Interest::READABLE | Interest::WRITABLE),
+            (Watch::Nothing, false) => (false, Interest::READABLE),
+        };
+        *told = if writes { Watch::Both } else { Watch::Reads };
+        if is_there {
+            watch_anew(&self.registry, connection, subject, interest)
+        } else {
+            watch(&self.registry, connection, subject, interest)
+        }
+    }
+
+    /// Puts the occupant of a slot back there.
+    pub(crate) fn lay(&mut self, resident: Resident<N>, hole: Hole) {
+        match self.guests.fill(hole, resident) {
+            Ok(()) => {}
+            Err(resident) => self.let_go(resident),
+        }
+    }
+
+    fn let_go(&mut self, resident: Resident<N>) {
+        match resident {
+            Resident::Lingering(_lingering) => self.lingering = self.lingering.saturating_sub(1),
+            Resident::Unused(unused) => self.shared.note_used(unused.server()),
+            Resident::Guest(guest) => {
+                let Guest { linked, visit } = Box::into_inner(guest);
+                self.dismiss(linked, visit);
+            }
+        }
+    }
+
+    /// Ends a guest at any stage: its pass is posted, and its client's connection is closed.
+    pub(crate) fn close(&mut self, guest: Box<Guest<N>>, hole: Hole) -> Then<N> {
+        let Guest { linked, visit } = Box::into_inner(guest);
+        self.close_on(linked, visit, hole)
+    }
+
+    /// The same for a guest that isn't boxed.
+    pub(crate) fn close_on(
+        &mut self,
+        linked: Linked<N, Live>,
+        visit: Visit,
+        hole: Hole,
+    ) -> Then<N> {
+        self.close_slot(hole, visit.timer);
+        self.dismiss(linked, visit);
+        Then::Rests
+    }
+
+    fn dismiss(&mut self, linked: Linked<N, Live>, visit: Visit) {
+        break_off(&linked);
+        let during = match linked.seated().stage() {
+            Stage::Telling => Some(During::Last),
+            _ => None,
+        };
+        let (presence, client) = visit.into_client();
+        let mut presence = presence;
+        self.tell_end(&mut presence, &client, By::Client, during);
+        match linked.abandon() {
+            Some(posting) => self.post(posting),
+            None => {}
+        }
+        self.shared.note_end(self.rt, presence);
+    }
+
+    /// Frees a slot and stops its timeout.
+    pub(crate) fn close_slot(&mut self, hole: Hole, timer: Option<Keyword>) {
+        self.untime(timer, hole.token().index());
+        self.guests.close(hole);
+    }
+}

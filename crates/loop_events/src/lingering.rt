@@ -1,0 +1,127 @@
+//! Clients whose answers were sent whole. The sending side is closed first, and what comes is read
+//! and thrown away: closing a connection with unread bytes resets it, and may cut the answer off
+//! (RFC 9112, section 9.6).
+
+use crate::guest::{Guest, Keyword, Lingering, Resident, Visit};
+use crate::looping::Looper;
+use crate::serving::Then;
+use exchange_driver::{Heard, Live, Socket};
+use exchange_seated::Linked;
+use grant_board::BoardName;
+use log_lines::By;
+use loop_shared::{Gate, watch};
+use loop_table::{Hole, Subject};
+use mio::Interest;
+use std::net::{Net, Shutdown, TcpListener, TcpStream};
+use std::os::fd::AsRawFd;
+use std::sync::Wait;
+use std::sync::ledger::Ledger;
+use std::time::Clock;
+
+/// The most bytes of a lingering client that are thrown away.
+const MOST_THROWN: usize = 1 << 26;
+
+/// The longest time that a client lingers while it sends, in milliseconds.
+const MOST_MILLIS: u64 = 30_000;
+
+/// The most reads in a row before the others get their turn.
+const READS: usize = 64;
+
+impl<
+    'a,
+    N: BoardName + Ledger,
+    R: Net<Listener = TcpListener, Stream = TcpStream> + Clock + Print + Wait,
+> Looper<'a, N, R> {
+    /// Lets a guest linger whose answer was sent whole.
+    pub(crate) fn finish(&mut self, guest: Box<Guest<N>>, hole: Hole) -> Then<N> {
+        let Guest { linked, visit } = Box::into_inner(guest);
+        self.finish_on(linked, visit, hole)
+    }
+
+    /// The same for a guest that isn't boxed.
+    pub(crate) fn finish_on(
+        &mut self,
+        linked: Linked<N, Live>,
+        visit: Visit,
+        hole: Hole,
+    ) -> Then<N> {
+        let key = hole.token().index();
+        let mut visit = visit;
+        self.tell_end(&mut visit.presence, &visit.client, By::Nobody, None);
+        self.untime(visit.timer, key);
+        match linked.abandon() {
+            Some(posting) => self.post(posting),
+            None => {}
+        }
+        let (presence, client) = visit.into_client();
+        self.shared.note_end(self.rt, presence);
+        match client.into_socket() {
+            Some(client) if client.stream().shutdown(Shutdown::Write).is_ok() => {
+                let since = self.gate.moment();
+                let lingering = Lingering {
+                    client,
+                    left: MOST_THROWN,
+                    since,
+                };
+                match Box::new(self.settings.alloc, lingering) {
+                    Ok(lingering) => {
+                        self.lingering = self.lingering.saturating_add(1);
+                        self.begin_time(Some(Keyword::Linger), key);
+                        self.listen(lingering, hole);
+                    }
+                    Err(_) => self.guests.close(hole),
+                }
+            }
+            _ => self.guests.close(hole),
+        }
+        Then::Rests
+    }
+
+    /// Reads and throws away what a lingering client sends.
+    pub(crate) fn listen(&mut self, lingering: Box<Lingering>, hole: Hole) {
+        let mut lingering = lingering;
+        for _ in 0..READS {
+            match lingering.client.read_now(self.buffer.as_mut_slice()) {
+                Heard::Bytes(count) => {
+                    self.linger_on(&lingering, hole.token().index());
+                    lingering.left = lingering.left.saturating_sub(count);
+                    if lingering.left == 0 {
+                        return self.end_lingering(hole);
+                    }
+                }
+                Heard::Nothing => return self.linger(lingering, hole),
+                Heard::Ended { .. } => return self.end_lingering(hole),
+            }
+        }
+        self.agenda.put_off(hole.token().index());
+        self.lay(Resident::Lingering(lingering), hole);
+    }
+
+    // Restarts its timeout since it sent something, within a limit.
+    fn linger_on(&mut self, lingering: &Lingering, key: usize) {
+        let now = self.gate.moment();
+        if now.get().saturating_sub(lingering.since.get()) < MOST_MILLIS {
+            self.untime(Some(Keyword::Linger), key);
+            self.begin_time(Some(Keyword::Linger), key);
+        }
+    }
+
+    // Puts it into its slot until the poll reports more bytes. Where too many linger, it is closed at once.
+    fn linger(&mut self, lingering: Box<Lingering>, hole: Hole) {
+        let connection = lingering.client.stream().as_raw_fd();
+        let subject = Subject::Client(hole.token());
+        if self.lingering <= self.most_lingering
+            && watch(&self.registry, connection, subject, Interest::READABLE)
+        {
+            self.lay(Resident::Lingering(lingering), hole);
+        } else {
+            self.end_lingering(hole);
+        }
+    }
+
+    /// Closes a lingering client.
+    pub(crate) fn end_lingering(&mut self, hole: Hole) {
+        self.lingering = self.lingering.saturating_sub(1);
+        self.close_slot(hole, Some(Keyword::Linger));
+    }
+}

@@ -1,0 +1,173 @@
+//! From a request to a place, and requests that wait there for their pass.
+
+use crate::accounting::note_ticket;
+use crate::guest::{Guest, Task, Visit};
+use crate::keeping::Soon;
+use crate::looping::Looper;
+use crate::serving::Then;
+use dispatch_state::Ticketed;
+use exchange_seated::{Linked, Posting, Queued};
+use grant_board::BoardName;
+use log_entries::Refusal;
+use log_lines::By;
+use loop_shared::{Gate, Outsider, Parked, arrive_as};
+use loop_table::Hole;
+use prio_rules::{Wish, decide};
+use std::net::{Net, TcpListener, TcpStream};
+use std::sync::Wait;
+use std::sync::ledger::Ledger;
+use std::time::Clock;
+
+impl<
+    'a,
+    N: BoardName + Ledger,
+    R: Net<Listener = TcpListener, Stream = TcpStream> + Clock + Print + Wait,
+> Looper<'a, N, R> {
+    /// Asks for a place for a guest's request. Where there is none, or others wait for one, it waits outside.
+    pub(crate) fn arrive(&mut self, guest: Box<Guest<N>>, hole: Hole) -> Then<N> {
+        let Guest { linked, visit } = Box::into_inner(guest);
+        match linked.into_queued() {
+            Err(linked) => self.close_on(linked, visit, hole),
+            Ok(queued) => self.enter(queued, visit, hole),
+        }
+    }
+
+    fn enter(&mut self, queued: Queued, visit: Visit, hole: Hole) -> Then<N> {
+        let mut visit = visit;
+        if self.shared.is_refusing() {
+            self.note_asked(&mut visit, queued.view(), None);
+            return self.turn_away(queued, visit, hole);
+        }
+        let wish = decide(&self.shared.proxy.config, queued.view());
+        self.note_asked(&mut visit, queued.view(), Some(&wish));
+        if self.shared.has_outside() {
+            return self.go_outside(queued, visit, &wish, hole);
+        }
+        match arrive_as(self.rt, self.shared.proxy, &mut self.gate, &wish) {
+            Ok(at) => self.park(queued, visit, at, hole),
+            Err(Refusal::PlacesFull) => self.go_outside(queued, visit, &wish, hole),
+            Err(_) => self.turn_away(queued, visit, hole),
+        }
+    }
+
+    // Ends a request that the dispatcher refuses for another cause than want of places.
+    fn turn_away(&mut self, queued: Queued, visit: Visit, hole: Hole) -> Then<N> {
+        let mut visit = visit;
+        visit.task = Task::Refuse;
+        self.seat(Linked::unseated(self.settings.alloc, queued), visit, hole)
+    }
+
+    // Lets a request wait for a place.
+    fn go_outside(&mut self, queued: Queued, visit: Visit, wish: &Wish, hole: Hole) -> Then<N> {
+        self.untime(visit.timer, hole.token().index());
+        let (presence, client) = visit.into_client();
+        let mut client = client;
+        client.rest();
+        let outsider = Outsider {
+            presence,
+            queued,
+            client,
+            came: self.gate.moment(),
+            pin: wish.pin,
+        };
+        match self.wait_outside(wish, outsider) {
+            Ok(()) => {
+                self.guests.close(hole);
+                Then::Rests
+            }
+            Err(outsider) => {
+                let Outsider {
+                    presence,
+                    queued,
+                    client,
+                    came: _,
+                    pin: _,
+                } = outsider;
+                let visit = Visit::new(presence, client);
+                self.turn_away(queued, visit, hole)
+            }
+        }
+    }
+
+    // Puts the request at its place, and looks at the place afterwards.
+    fn park(&mut self, queued: Queued, visit: Visit, at: Ticketed, hole: Hole) -> Then<N> {
+        self.untime(visit.timer, hole.token().index());
+        let watch = visit.client_watch;
+        let (presence, client) = visit.into_client();
+        let mut presence = presence;
+        note_ticket(&mut presence, at);
+        let mut client = client;
+        client.rest();
+        self.shared.park(
+            self.rt,
+            Parked {
+                presence,
+                queued,
+                client,
+                at,
+                failed: None,
+                watched: false,
+                came: None,
+                late: false,
+            },
+        );
+        match self.granted_at(at.place) {
+            Some(granted) => self.welcome(granted, hole, watch),
+            None => {
+                self.guests.close(hole);
+                self.shared.note_wait();
+                Then::Rests
+            }
+        }
+    }
+
+    /// Handles a request whose server couldn't be reached: it is put at its place again, then its
+    /// pass is posted, and then the place is looked at.
+    pub(crate) fn fail(
+        &mut self,
+        posting: Posting<N>,
+        queued: Queued,
+        visit: Visit,
+        hole: Hole,
+    ) -> Then<N> {
+        self.close_slot(hole, visit.timer);
+        let (at, tried, came) = (visit.at, visit.tried, visit.came);
+        let (presence, client) = visit.into_client();
+        let place = posting.place();
+        match at {
+            None => {
+                let mut presence = presence;
+                self.tell_end(&mut presence, &client, By::Client, None);
+                self.shared.note_end(self.rt, presence);
+            }
+            Some(at) => {
+                self.shared.park(
+                    self.rt,
+                    Parked {
+                        presence,
+                        queued,
+                        client,
+                        at,
+                        failed: tried,
+                        watched: false,
+                        came,
+                        late: false,
+                    },
+                );
+                self.shared.note_wait();
+            }
+        }
+        self.post(posting);
+        // Another thread that collected the failure before may have found no request here yet.
+        self.look_later_at(place);
+        Then::Rests
+    }
+
+    /// The poll reports a client whose request waits. Where it has left, its request is aborted.
+    pub(crate) fn hear_waiting(&mut self, place: usize, ticket: u64) {
+        if self.shared.lies_left(self.rt, place, ticket) {
+            self.shared.proxy.give_up(self.rt, &mut self.gate, ticket);
+            self.go_on();
+        }
+    }
+}

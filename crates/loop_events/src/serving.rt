@@ -1,0 +1,234 @@
+//! The events and results of a guest's exchange.
+
+use crate::accounting::has_received;
+use crate::guest::{Guest, Keyword, Resident, Task, Visit};
+use crate::keeping::Soon;
+use crate::looping::Looper;
+use exchange_driver::{Live, Rest};
+use exchange_seated::{Carried, Given, Notice, Stage};
+use grant_board::BoardName;
+use loop_table::{Hole, Token};
+use mio::event::Event;
+use std::net::{Net, TcpListener, TcpStream};
+use std::sync::Wait;
+use std::sync::ledger::Ledger;
+use std::time::Clock;
+
+/// Whether there is more to do for a guest.
+pub(crate) enum Then<N: BoardName + Ledger> {
+    /// There is more to do at once.
+    Goes(Box<Guest<N>>, Hole),
+    /// It was put away, or is over.
+    Rests,
+}
+
+/// The poll's report of a socket.
+#[derive(Clone, Copy)]
+pub(crate) struct Told {
+    pub(crate) reads: bool,
+    pub(crate) writes: bool,
+    /// The other end sends no more.
+    pub(crate) closed: bool,
+    /// The connection failed.
+    pub(crate) broken: bool,
+}
+
+impl Told {
+    pub(crate) fn of(event: &Event) -> Told {
+        let broken = event.is_error() || event.is_write_closed();
+        let closed = event.is_read_closed();
+        Told {
+            reads: broken || closed || event.is_readable(),
+            writes: broken || event.is_writable(),
+            closed,
+            broken,
+        }
+    }
+}
+
+impl<
+    'a,
+    N: BoardName + Ledger,
+    R: Net<Listener = TcpListener, Stream = TcpStream> + Clock + Print + Wait,
+> Looper<'a, N, R> {
+    /// Handles the poll's report of a client. A reset ends its exchange at any stage; an end of its
+    /// input only under `option abortonclose`.
+    pub(crate) fn hear_client(&mut self, token: Token, told: Told) {
+        let Some((resident, hole)) = self.guests.lend(token) else {
+            return;
+        };
+        match resident {
+            Resident::Lingering(lingering) => self.listen(lingering, hole),
+            Resident::Unused(unused) => self.lay(Resident::Unused(unused), hole),
+            Resident::Guest(guest) => {
+                let mut guest = guest;
+                guest.visit.client.wake(told.reads, told.writes);
+                guest.visit.ended = guest.visit.ended || told.closed;
+                let then = if told.broken {
+                    self.tell(guest, hole, Notice::ClientFailed)
+                } else if self.has_left(&guest) {
+                    self.tell(guest, hole, Notice::ClientEnd)
+                } else {
+                    Then::Goes(guest, hole)
+                };
+                self.go(then);
+            }
+        }
+    }
+
+    // Says whether a client sends no more and, under `option abortonclose`, waits for no answer.
+    fn has_left(&self, guest: &Guest<N>) -> bool {
+        guest.visit.ended && self.settings.rules.aborts && guest.linked.seated().has_asked()
+    }
+
+    /// Handles the poll's report of a server's connection.
+    pub(crate) fn hear_server(&mut self, token: Token, told: Told) {
+        let Some((resident, hole)) = self.guests.lend(token) else {
+            return;
+        };
+        match resident {
+            Resident::Lingering(lingering) => self.listen(lingering, hole),
+            Resident::Unused(unused) => self.end_unused(unused, hole),
+            Resident::Guest(guest) => {
+                let mut guest = guest;
+                guest.linked.wake(told.reads, told.writes);
+                let then = match guest.stage() {
+                    Stage::Dialing => self.look_at_connection(guest, hole, told.broken),
+                    _ => Then::Goes(guest, hole),
+                };
+                self.go(then);
+            }
+        }
+    }
+
+    /// Goes on with the occupant of a slot.
+    pub(crate) fn work(&mut self, token: Token) {
+        let Some((resident, hole)) = self.guests.lend(token) else {
+            return;
+        };
+        match resident {
+            Resident::Lingering(lingering) => self.listen(lingering, hole),
+            Resident::Unused(unused) => self.lay(Resident::Unused(unused), hole),
+            Resident::Guest(guest) => self.go(Then::Goes(guest, hole)),
+        }
+    }
+
+    /// Goes on with a guest as long as there is more to do at once.
+    pub(crate) fn go(&mut self, then: Then<N>) {
+        let mut then = then;
+        for _ in self.rt.forever() {
+            match then {
+                Then::Rests => return,
+                Then::Goes(guest, hole) => then = self.act(guest, hole),
+            }
+        }
+        unreachable!()
+    }
+
+    fn act(&mut self, guest: Box<Guest<N>>, hole: Hole) -> Then<N> {
+        match guest.visit.task {
+            Task::Serve => self.serve(guest, hole),
+            Task::Arrive => self.arrive(guest, hole),
+            Task::Dial => self.dial(guest, hole),
+            Task::Refuse => self.tell(guest, hole, Notice::Unserved),
+            Task::GiveUp => self.tell_of_no_connection(guest, hole),
+            Task::Leave => self.tell(guest, hole, Notice::ClientEnd),
+        }
+    }
+
+    // Reads and writes.
+    fn serve(&mut self, guest: Box<Guest<N>>, hole: Hole) -> Then<N> {
+        let Guest { linked, visit } = Box::into_inner(guest);
+        let mut visit = visit;
+        let carried = linked.drive(self.settings, &mut visit.client, self.buffer.as_mut_slice());
+        let soon = match carried.rest {
+            Rest::Waits => Soon::Rests,
+            Rest::Again => Soon::Later,
+        };
+        self.settle(carried, visit, hole, soon)
+    }
+
+    /// Reports an event to a guest's exchange.
+    pub(crate) fn tell(&mut self, guest: Box<Guest<N>>, hole: Hole, notice: Notice) -> Then<N> {
+        let Guest { linked, visit } = Box::into_inner(guest);
+        let mut visit = visit;
+        visit.task = Task::Serve;
+        self.note_notice(&mut visit, linked.seated().stage(), &notice);
+        let carried = linked.notify(self.settings, notice);
+        self.settle(carried, visit, hole, Soon::AtOnce)
+    }
+
+    fn settle(
+        &mut self,
+        carried: Carried<N, Live>,
+        visit: Visit,
+        hole: Hole,
+        soon: Soon,
+    ) -> Then<N> {
+        let Carried {
+            linked,
+            given,
+            client,
+            server,
+            rest: _,
+        } = carried;
+        let key = hole.token().index();
+        let mut visit = visit;
+        let answers = server.is_some() && has_received(linked.socket());
+        self.note_bytes(&mut visit, client.is_some(), answers);
+        self.note_moved(&visit, key, client, Keyword::Client);
+        self.note_moved(&visit, key, server, Keyword::Server);
+        match self.seat(linked, visit, hole) {
+            Then::Goes(guest, hole) => self.give(given, guest, hole, soon),
+            Then::Rests => {
+                self.give_up_with(given);
+                Then::Rests
+            }
+        }
+    }
+
+    fn give(&mut self, given: Given<N>, guest: Box<Guest<N>>, hole: Hole, soon: Soon) -> Then<N> {
+        match given {
+            Given::Nothing => self.place(guest, hole, soon),
+            Given::Posts(posting) => self.part(posting, guest, hole),
+            Given::Retries => self.redial(guest, hole),
+        }
+    }
+
+    // Posts the pass of an exchange that ended for want of memory.
+    fn give_up_with(&mut self, given: Given<N>) {
+        match given {
+            Given::Nothing | Given::Retries => {}
+            Given::Posts(posting) => self.post(posting),
+        }
+    }
+
+    // Decides by its stage where a guest goes next.
+    fn place(&mut self, guest: Box<Guest<N>>, hole: Hole, soon: Soon) -> Then<N> {
+        if self.has_left(&guest) {
+            let mut guest = guest;
+            guest.visit.ended = false;
+            return next(guest, hole, Task::Leave);
+        }
+        match guest.stage() {
+            Stage::Asking | Stage::Passing => self.keep(guest, hole, soon),
+            Stage::Waiting => next(guest, hole, Task::Arrive),
+            Stage::Dialing => next(guest, hole, Task::Dial),
+            Stage::Telling => {
+                if guest.linked.seated().has_told() {
+                    self.end_or_ask_again(guest, hole)
+                } else {
+                    self.keep(guest, hole, soon)
+                }
+            }
+            Stage::Over => self.close(guest, hole),
+        }
+    }
+}
+
+// Sets the guest's next task.
+fn next<N: BoardName + Ledger>(guest: Box<Guest<N>>, hole: Hole, task: Task) -> Then<N> {
+    let mut guest = guest;
+    guest.visit.task = task;
+    Then::Goes(guest, hole)
+}

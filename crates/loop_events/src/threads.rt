@@ -1,0 +1,222 @@
+//! The threads: the loops, and one that checks the servers.
+
+use crate::looping::Looper;
+use crate::reusing::Shelves;
+use crate::timing::Keywords;
+use due_key::Moment;
+use exchange_driver::Settings;
+use exchange_events::Rules;
+use grant_board::BoardName;
+use log_requests::Teller;
+use loop_shared::{Shared, SocketGate, run_checks, run_controls, run_windows};
+use loop_table::{Agenda, Limits, Slots};
+use mio::Poll;
+use std::alloc::{AllocError, Global};
+use std::net::{Net, TcpListener, TcpStream};
+use std::sync::Wait;
+use std::sync::atomic::{AtomicBool, Ordering};
+use std::sync::ledger::Ledger;
+use std::thread;
+use std::thread::{JoinHandle, Scope, Threads};
+use std::time::Clock;
+
+/// The most bytes of one read.
+const BUFFER: usize = 16_384;
+
+/// The most moves of each direction of an exchange before the others get their turn.
+const TURNS: u32 = 4;
+
+/// The most guests of a loop.
+const MOST_GUESTS: u64 = 16_384;
+
+/// The most lingering clients of a loop.
+const MOST_LINGERING: u64 = 4096;
+
+/// The most unused connections of a loop.
+const MOST_UNUSED: u64 = 4096;
+
+/// A loop that hasn't started yet.
+#[derive(Drop)]
+pub struct Unbegun {
+    poll: Poll,
+    home: usize,
+}
+
+/// Makes a loop for each poll.
+pub fn loops_of(alloc: Global, polls: Vec<Poll>) -> Result<Vec<Unbegun>, AllocError> {
+    let mut loops = Vec::new(alloc);
+    for (home, poll) in polls.into_iter().enumerate() {
+        loops.push(Unbegun { poll, home })?;
+    }
+    Ok(loops)
+}
+
+/// Runs all threads in a scope. It returns once the proxy has ended and each thread has.
+pub fn run_all<
+    R: Net<Listener = TcpListener, Stream = TcpStream> + Clock + Print + Threads + Wait + Sync,
+    N: BoardName + Ledger + Send + Sync,
+    S: Lends<N> + Sync,
+>(rt: &R, shared: &S, loops: Vec<Unbegun>) {
+    let stop = AtomicBool::new(false);
+    let told = &stop;
+    thread::scope(thread::scope_env(), rt, move |scope| {
+        let mut loops = loops;
+        let checking = if shared.lend().has_checks() {
+            let started = scope.spawn(move || run_checks(rt, shared.lend(), told));
+            kept(rt, shared.lend(), started.ok())
+        } else {
+            None
+        };
+        let steering = if shared.lend().has_controls() {
+            let started = scope.spawn(move || run_controls(rt, shared.lend()));
+            kept(rt, shared.lend(), started.ok())
+        } else {
+            None
+        };
+        let rolling = match shared.lend().front.window {
+            None => None,
+            Some(millis) => {
+                let started = scope.spawn(move || run_windows(rt, shared.lend(), millis));
+                kept(rt, shared.lend(), started.ok())
+            }
+        };
+        begin_loops(scope, rt, shared, &mut loops);
+        told.store(true, Ordering::SeqCst);
+        join(rt, checking);
+        join(rt, steering);
+        join(rt, rolling);
+    })
+}
+
+// Starts a thread beside the loops. Where that fails, the proxy ends.
+fn kept<R: Wait, N: BoardName + Ledger, T>(
+    rt: &R,
+    shared: &Shared<'_, N>,
+    started: Option<T>,
+) -> Option<T> {
+    if started.is_none() {
+        shared.give_up(rt);
+    }
+    started
+}
+
+fn join<R: Threads + Wait>(rt: &R, thread: Option<JoinHandle<()>>) {
+    if let Some(handle) = thread {
+        handle.join(rt);
+    }
+}
+
+// Starts a thread for each loop, the last one first. Where one can't be started, the proxy ends.
+fn begin_loops<
+    's,
+    E,
+    R: Net<Listener = TcpListener, Stream = TcpStream> + Clock + Print + Threads + Wait + Sync,
+    N: BoardName + Ledger + Send + Sync + 's,
+    S: Lends<N> + Sync + 's,
+>(scope: &Scope<'s, E>, rt: &'s R, shared: &'s S, loops: &mut Vec<Unbegun>) {
+    let Some(next) = loops.pop() else {
+        return shared.lend().wait_for_end(rt);
+    };
+    let started = scope.spawn(move || run_loop(rt, shared.lend(), next)).ok();
+    if started.is_none() {
+        shared.lend().give_up(rt);
+    }
+    begin_loops(scope, rt, shared, loops);
+    if let Some(handle) = started {
+        handle.join(rt);
+    }
+}
+
+fn run_loop<
+    'a,
+    R: Net<Listener = TcpListener, Stream = TcpStream> + Clock + Print + Wait,
+    N: BoardName + Ledger,
+>(rt: &'a R, shared: &'a Shared<'a, N>, unbegun: Unbegun) {
+    let Unbegun { poll, home } = unbegun;
+    match looper(rt, shared, &poll, home) {
+        Err(_) => shared.give_up(rt),
+        Ok(looper) => {
+            looper.run(poll);
+            shared.close(rt);
+        }
+    }
+}
+
+// Makes a loop. Fails also where the system refuses a poll.
+fn looper<
+    'a,
+    R: Net<Listener = TcpListener, Stream = TcpStream> + Clock + Print + Wait,
+    N: BoardName + Ledger,
+>(
+    rt: &'a R,
+    shared: &'a Shared<'a, N>,
+    poll: &Poll,
+    home: usize,
+) -> Result<Looper<'a, N, R>, AllocError> {
+    let alloc = shared.proxy.alloc;
+    let Ok(registry) = poll.registry().try_clone() else {
+        return Err(AllocError);
+    };
+    let loops = shared.loops().max(1) as u64;
+    let most_lingering = (shared.most.lingering / loops).min(MOST_LINGERING);
+    let servers = shared.proxy.config.servers.len();
+    let most_unused = shared.most.unused.min(MOST_UNUSED);
+    let guests = shared.most.clients.min(MOST_GUESTS);
+    let room = (guests + most_lingering + most_unused) as usize;
+    let mut limits = Limits::new(alloc);
+    let keywords = Keywords::of(alloc, shared.front, &mut limits, room)?;
+    let rules = Rules {
+        aborts: shared.proxy.config.abortonclose,
+    };
+    let buffer = vec![in alloc; 0u8; BUFFER]?;
+    let gate = SocketGate::new(alloc, rt, shared.front)?;
+    let agenda = Agenda::with_room(alloc, room)?;
+    let shelves = Shelves::empty(alloc, servers, most_unused as usize)?;
+    let guests = Slots::with_room(alloc, room)?;
+    Ok(Looper {
+        rt,
+        shared,
+        home,
+        registry,
+        gate,
+        settings: Settings {
+            alloc,
+            rules,
+            turns: TURNS,
+        },
+        guests,
+        room,
+        limits,
+        keywords,
+        buffer,
+        shelves,
+        agenda,
+        more: true,
+        short: false,
+        tried: Moment::zero(),
+        freed: false,
+        lingering: 0,
+        most_lingering: most_lingering as usize,
+        teller: teller_of(rt, shared),
+    })
+}
+
+// Makes the sink for a loop's records.
+fn teller_of<'a, R: Wait, N: BoardName + Ledger>(
+    rt: &R,
+    shared: &'a Shared<'a, N>,
+) -> Option<Teller<'a>> {
+    shared.front.log?.teller(rt)
+}
+
+/// Lends threads the data that they share. Whether a type parameter may be shared is known only
+/// from a bound, so this trait shows it once, for `Shared`.
+pub trait Lends<N: BoardName + Ledger> {
+    fn lend(&self) -> &Shared<'_, N>;
+}
+
+impl<N: BoardName + Ledger> Lends<N> for Shared<'_, N> {
+    fn lend(&self) -> &Shared<'_, N> {
+        self
+    }
+}

@@ -1,4 +1,0 @@
-pub mod Alike
-pub mod Found
-pub mod Messages
-pub mod Replies

@@ -1,8 +1,0 @@
-use Rattle.std.proofs.Common.{[], sym, subst}
-use Rattle.exchange_machine.specs.Histories.{History}
-use Rattle.exchange_machine.specs.Stages.{IsPassing}
-use Rattle.mixed_exchange.proofs.StepLemmas.{none_of_server}
-use Rattle.mixed_exchange.proofs.calls.take_answer.Goals as goal
-
-pub returns-in-Err-clause-passes : goal.returns-in-Err-clause-passes
-returns-in-Err-clause-passes c h is = subst (λ (g : History). IsPassing c.server_head_bytes.new.self g) (sym (none_of_server h [])) (c.in-Err.ensures.err h is)

@@ -1,5 +1,0 @@
-use Rattle.exchange_machine.specs.Reasons.Reason.{bad_answer}
-use Rattle.mixed_exchange.proofs.relaying.refused_badly.Goals as goal
-
-pub returns-clause-at : goal.returns-clause-at
-returns-clause-at c h is lacks = c.left.ensures.at h (c.refuse.ensures h is (bad_answer lacks))

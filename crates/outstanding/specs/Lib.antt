@@ -1,5 +1,0 @@
-pub mod Verdicts
-pub mod Outstanding
-pub mod Books
-pub mod Calls
-pub mod Turns

@@ -1,2 +1,0 @@
-mod Connecting
-mod Meaning

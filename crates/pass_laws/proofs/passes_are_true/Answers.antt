@@ -1,8 +1,0 @@
-use Rattle.pass_laws.proofs.Meaning.{passes_are_true, passes_keep_bounds}
-use Rattle.pass_laws.proofs.passes_are_true.Goals as goal
-
-pub returns-clause-passes : goal.returns-clause-passes
-returns-clause-passes c = passes_are_true
-
-pub returns-clause-bounds : goal.returns-clause-bounds
-returns-clause-bounds c = passes_keep_bounds

@@ -1,5 +1,0 @@
-pub mod Counts
-pub mod Bins
-pub mod Lateness
-pub mod Texts
-pub mod Refusals

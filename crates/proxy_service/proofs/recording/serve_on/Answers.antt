@@ -1,7 +1,0 @@
-use denote.Param.Send.{sendable}
-use Rattle.std.proofs.Crossing.{crosses}
-use Rattle.service_parts.proofs.Crosses.{site_sync}
-use Rattle.proxy_service.proofs.recording.serve_on.Goals as goal
-
-pub serve_watched-requires-sync-S : goal.serve_watched-requires-sync-S
-serve_watched-requires-sync-S g c κs within = search (site_sync, crosses, sendable) depth 60 fits 20000

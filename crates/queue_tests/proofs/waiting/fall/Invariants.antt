@@ -1,5 +1,0 @@
-use Rattle.std.proofs.Common.{◌≡◌}
-use Rattle.queue_tests.proofs.waiting.fall.Given as goal
-
-abbrev pub invariant-loop-moved : goal.invariant-loop-moved
-invariant-loop-moved g l = l.waiting.servers ≡ 2

@@ -1,9 +1,0 @@
--- The window that a log records.
-use Rattle.std.proofs.Common.{◌≡◌}
-use Rattle.dispatch_log.specs.Histories.{History}
-use Rattle.dispatch_log.specs.Logs.{Recorded}
-use Rattle.readable_log.specs.Windows.{window_in, window_of}
-
--- a log with a history's base and entries records its window
-pub same_window : (log : Recorded) (h : History) → log.base ≡ h.base → log.entries ≡ h.log → window_of log ≡ window_in h
-same_window log h base entries = cc

@@ -1,9 +1,0 @@
-use Rattle.readable_log.proofs.Back.{known-push}
-use Rattle.readable_log.proofs.Joinings.{joining_of-push}
-use Rattle.readable_log.proofs.laws.entries_add_up.Goals as goal
-
-pub returns-clause-key : goal.returns-clause-key
-returns-clause-key c = known-push
-
-pub returns-clause-joining : goal.returns-clause-joining
-returns-clause-joining c = joining_of-push

@@ -1,9 +1,0 @@
-use Rattle.readable_log.proofs.Moments.{moments_rise}
-use Rattle.readable_log.proofs.Timely.{timely}
-use Rattle.readable_log.proofs.laws.readable_logs_are_timely.Goals as goal
-
-pub returns-clause-moments : goal.returns-clause-moments
-returns-clause-moments c = λ window p q readable le. moments_rise window readable p q le
-
-pub returns-clause-grants : goal.returns-clause-grants
-returns-clause-grants c = timely

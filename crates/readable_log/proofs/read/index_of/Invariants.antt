@@ -1,9 +1,0 @@
-use Rattle.std.proofs.Common.{[], take}
-use Rattle.readable_log.specs.Index.{IsIndexOf}
-use Rattle.readable_log.proofs.read.index_of.Given as goal
-
--- what is known of the rows so far
-abbrev pub invariant-loop-row : goal.invariant-loop-row
-invariant-loop-row l = record {
-  indexed : IsIndexOf (take l.row-index l.base) [] l.index;
-}

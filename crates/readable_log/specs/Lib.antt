@@ -1,9 +1,0 @@
-pub mod Windows
-pub mod Bases
-pub mod Grants
-pub mod Readable
-pub mod Timely
-pub mod LogParts
-pub mod Ordered
-pub mod Index
-pub mod Worked

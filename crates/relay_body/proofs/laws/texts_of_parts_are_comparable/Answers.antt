@@ -1,5 +1,0 @@
-use Rattle.relay_body.proofs.Comparing.{bodies_agree}
-use Rattle.relay_body.proofs.laws.texts_of_parts_are_comparable.Goals as goal
-
-pub returns : goal.returns
-returns c = bodies_agree

@@ -1,6 +1,0 @@
-pub mod Bodies
-pub mod Chunks
-pub mod Framings
-pub mod Lengths
-pub mod Texts
-pub mod Trailers

@@ -1,0 +1,13 @@
+use Rattle.std.proofs.Common.{◌≡◌, ◌<◌, [], false}
+use Rattle.relay_http.specs.declared.exchange.Stage.TheVariants.{Asked}
+use Rattle.shared_desk.specs.Seats.{IsSameSeat}
+use Rattle.relay_workers.proofs.working.attend.Given as goal
+
+-- the request has its place, and is still to be handed on
+abbrev pub invariant-loop : goal.invariant-loop
+invariant-loop g l =
+    IsSameSeat l.initial.seat l.seat
+    × (l.seat.view.passes ≡ [])
+    × (l.admitted.at.place < g.N.BoardName.terms.places)
+    × (l.hand.runner.exchange.stage ≡ Asked) × (l.hand.runner.exchange.begun ≡ false)
+    × (l.hand.runner.exchange.most ≡ l.initial.hand.runner.exchange.most)

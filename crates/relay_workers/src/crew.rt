@@ -1,0 +1,150 @@
+ghost use Rattle.std.specs.Prelude.{◌≡◌, ◌+◌, true, [], vec_len, IfOk};
+ghost use Rattle.relay_workers.specs.Tallies.{of_both};
+
+use crate::checking::checker;
+use crate::gate::{Gate, Pause};
+use crate::lending::{join_all, split_off};
+use crate::proxy::Proxy;
+use crate::stopping::Stopped;
+use crate::tally::Tally;
+use crate::working::worker;
+use board_seats::Idle;
+use grant_board::{BoardName, RelaySeat};
+use std::sync::Wait;
+use std::sync::atomic::{AtomicBool, Ordering};
+use std::thread::{Scope, Threads};
+use std::{thread, vec};
+
+/// Serves with a thread for each member of a crew, and one more for the checks of servers, until no
+/// more clients come to any member. The seat is the board's first one; each member gets a seat that
+/// is split off it, and joined again.
+///
+/// Returns the sum of the members' tallies, or why the first one stopped that did; `NoMemory` also
+/// where a thread can't be started.
+pub fn serve<
+    R: Threads + Wait + Sync,
+    N: BoardName + Send + Sync,
+    G: Gate + Send + Drop,
+    P: Pause + Send + Drop,
+>(
+    rt: &R,
+    proxy: &Proxy<N>,
+    seat: RelaySeat,
+    crew: Vec<(G, P)>,
+    checks: (G, P),
+) -> (RelaySeat, Result<Tally, Stopped>)
+    requires named { (seat.board ≡ N.board) × (seat.view.terms ≡ N.terms) }
+    requires first { seat.view.first ≡ true }
+    requires idle { seat.view.passes ≡ [] }
+    ensures same { (result.0.board ≡ seat.board) × (result.0.view.terms ≡ seat.view.terms) × (result.0.view.first ≡ true) }
+    ensures idle { result.0.view.passes ≡ [] }
+    ensures joined { result.0.view.split + seat.view.joined ≡ result.0.view.joined + seat.view.split }
+    ensures each { IfOk result.1 (λ tally. result.0.view.split ≡ seat.view.split + vec_len crew) }
+{
+    let mut first = seat;
+    let mut seats = Vec::new(proxy.alloc);
+    let enough = split_off(proxy, &mut first, &mut seats, crew.len());
+    let all = if enough {
+        run_all(rt, proxy, &mut seats, crew, checks)
+    } else {
+        Err(Stopped::NoMemory)
+    };
+    join_all(proxy, &mut first, seats);
+    (first, all)
+}
+
+// Runs all threads in a scope.
+fn run_all<
+    R: Threads + Wait + Sync,
+    N: BoardName + Send + Sync,
+    S: Lends<N> + Sync,
+    G: Gate + Send + Drop,
+    P: Pause + Send + Drop,
+>(
+    rt: &R,
+    shared: &S,
+    seats: &mut Vec<Idle<N>>,
+    crew: Vec<(G, P)>,
+    checks: (G, P),
+) -> Result<Tally, Stopped>
+    ensures { vec_len seats.new ≡ vec_len seats.old }
+{
+    let stop = AtomicBool::new(false);
+    let told = &stop;
+    let mut members = crew.into_iter();
+    let lent = seats.as_mut_slice();
+    thread::scope(thread::scope_env(), rt, move |scope| {
+        let (gate, pause) = checks;
+        let checking = scope
+            .spawn(move || {
+                let mut gate = gate;
+                let mut pause = pause;
+                checker(rt, shared.proxy(), &mut gate, &mut pause, told)
+            })
+            .ok();
+        let all = run_crew(scope, rt, shared, lent, &mut members);
+        told.store(true, Ordering::SeqCst);
+        match checking {
+            Some(handle) => {
+                handle.join(rt);
+                all
+            }
+            None => all.and(Err(Stopped::NoMemory)),
+        }
+    })
+}
+
+// Starts a thread for each seat and member. One that can't be started isn't run.
+fn run_crew<
+    's,
+    E,
+    R: Threads + Wait + Sync,
+    N: BoardName + Send + Sync + 's,
+    S: Lends<N> + Sync + 's,
+    G: Gate + Send + Drop + 's,
+    P: Pause + Send + Drop + 's,
+>(
+    scope: &Scope<'s, E>,
+    rt: &'s R,
+    shared: &'s S,
+    seats: &'s mut [Idle<N>],
+    crew: &mut vec::IntoIter<(G, P)>,
+) -> Result<Tally, Stopped> {
+    let Some((idle, rest)) = seats.split_first_mut() else {
+        return Ok(Tally::zero());
+    };
+    let Some((gate, pause)) = crew.next() else {
+        return Ok(Tally::zero());
+    };
+    let started = scope
+        .spawn(move || worker(rt, shared.proxy(), idle, gate, pause))
+        .ok();
+    let others = run_crew(scope, rt, shared, rest, crew);
+    let mine = match started {
+        Some(handle) => handle.join(rt),
+        None => Err(Stopped::NoMemory),
+    };
+    first_stop(mine, others)
+}
+
+// Returns the sum, or why the first one stopped that did.
+fn first_stop(
+    mine: Result<Tally, Stopped>,
+    others: Result<Tally, Stopped>,
+) -> Result<Tally, Stopped>
+    ensures { result ≡ of_both mine others }
+{
+    Ok(mine?.sum(others?))
+}
+
+// Lends threads a proxy. Whether a type parameter may be shared is known only from a bound, so this
+// trait shows it once, for `Proxy`, where `serve` begins.
+trait Lends<N: BoardName> {
+    fn proxy(&self) -> &Proxy<N>;
+}
+
+impl<N: BoardName> Lends<N> for Proxy<N> {
+    fn proxy(&self) -> &Proxy<N> {
+        self
+    }
+}

@@ -1,6 +1,0 @@
-use Rattle.std.proofs.Common.{arith}
-use Rattle.std.proofs.lemmas.Grind.{common_steps}
-use Rattle.reporting_core.proofs.lines.is_direct.Goals as goal
-
-pub returns-in-Direct : goal.returns-in-Direct
-returns-in-Direct c = grind (arith, common_steps)

@@ -1,0 +1,10 @@
+pub mod Inboxes
+pub mod Scans
+pub mod Misfits
+pub mod Pieces
+pub mod Commands
+pub mod Wished
+pub mod Wishes
+pub mod States
+pub mod Endings
+pub mod NoCommands

@@ -1,0 +1,32 @@
+-- How long is waited, at worked examples.
+use Rattle.std.proofs.Common.{◌≡◌, refl}
+use Rattle.std.specs.Prelude.{Some, None}
+use Rattle.proxy_config.specs.declared.parts.Checks.{Checks}
+use Rattle.run_gate.specs.Waits.{turnaround, patience, left}
+
+-- a second where a connect may take five, or any time; and no longer than a connect
+a_second_at_most : turnaround (Some 5000) ≡ 1000
+a_second_at_most = refl
+
+a_second_without_a_limit : turnaround None ≡ 1000
+a_second_without_a_limit = refl
+
+no_longer_than_a_connect : turnaround (Some 20) ≡ 20
+no_longer_than_a_connect = refl
+
+abbrev checks : Checks
+checks = record { inter = 300; rise = 1; fall = 1 }
+
+-- a check takes no longer than until the next, nor than a connect
+until_the_next : patience (Some 5000) (Some checks) ≡ Some 300
+until_the_next = refl
+
+as_a_connect : patience (Some 20) (Some checks) ≡ Some 20
+as_a_connect = refl
+
+-- of 20 milliseconds 13 are left after 7, and all while the clock is behind
+some_left : left 10 20 17 ≡ 13
+some_left = refl
+
+all_left : left 17 20 10 ≡ 20
+all_left = refl

@@ -1,0 +1,5 @@
+pub mod Queues
+pub mod Gauges
+pub mod Faults
+pub mod Parts
+pub mod Sizes

@@ -1,0 +1,64 @@
+//! The threads that serve a proxy: by the command line, or by the configuration and the machine.
+
+ghost use Rattle.std.specs.Prelude.{◌≡◌, ◌≤◌};
+
+use crate::limits::{LoopSizes, MOST_LOOPS, MOST_WAITING, MOST_WORKERS, RunLimits};
+use proxy_config::Config;
+use std::thread;
+use std::thread::Threads;
+
+/// The threads of a proxy, and its number of clients.
+#[derive(Clone, Copy)]
+pub struct Crew {
+    pub threads: LoopSizes,
+    /// The number of workers that was asked for, which nothing depends on.
+    pub workers: usize,
+    pub requests: u64,
+}
+
+/// Returns the threads of a proxy. Where the command line says nothing, there are as many loops as
+/// the machine has processors for them, and as many workers as requests may be at servers at a
+/// time.
+pub fn crew_of(rt: &impl Threads, config: &Config, sizes: RunLimits) -> Crew
+    ensures places { result.threads.places ≡ sizes.places }
+    ensures requests { result.requests ≡ sizes.requests }
+{
+    let slots = slots_of(config, sizes.places);
+    let loops = match sizes.loops {
+        Some(loops) => loops as usize,
+        None => match thread::available_parallelism(rt) {
+            Ok(processors) => processors.get().min(MOST_LOOPS as usize),
+            Err(_) => 1,
+        },
+    };
+    let workers = match sizes.workers {
+        Some(workers) => workers as usize,
+        None => slots.min(MOST_WORKERS as usize).max(1),
+    };
+    Crew {
+        threads: LoopSizes {
+            loops,
+            places: sizes.places,
+            slots,
+            waiting: u64::from(sizes.waiting.unwrap_or(MOST_WAITING)),
+        },
+        workers,
+        requests: sizes.requests,
+    }
+}
+
+// Returns how many requests may be at servers at a time: the sum of the servers' limits, or all
+// live requests where one has none.
+fn slots_of(config: &Config, places: usize) -> usize
+    ensures { result ≤ places }
+{
+    let mut slots = 0;
+    let servers = config.servers.as_slice();
+    for server in servers {
+        if server.maxconn == 0 {
+            return places;
+        }
+        slots = places.min((server.maxconn as usize).saturating_add(slots));
+    }
+    slots
+}

@@ -1,0 +1,135 @@
+//! What the threads of a proxy share beside its dispatcher.
+
+ghost use Rattle.std.specs.Prelude.{◌≡◌};
+
+use crate::fault::ServeFault;
+use crate::limits::LoopSizes;
+use crate::opening::RunOptions;
+use crate::preparing::{LOG, names_of};
+use log_lines::{Proportions, ProxyNumbers};
+use log_requests::{Extent, Logs, RequestLog, base_of};
+use log_sink::Sink;
+use proxy_config::Config;
+use run_admin::Admin;
+use run_control::Controls;
+use run_gate::{Addresses, Clients, GateShared};
+use run_windows::WindowPrinter;
+use std::alloc::{AllocError, Global};
+use std::net::TcpListener;
+use std::sync::Arc;
+use std::time::{Clock, Instant};
+
+/// The parts beside serving; no loop waits for them.
+#[derive(Drop)]
+pub struct Beside {
+    pub windows: WindowPrinter,
+    pub addresses: Addresses,
+    pub controls: Option<Controls>,
+    pub keeping: Option<u64>,
+    pub reusing: Option<u64>,
+    pub window: Option<u64>,
+    pub forwarded_for: bool,
+    pub log: Option<RequestLog>,
+    pub admin: Option<Admin>,
+    /// Moments are milliseconds since this one.
+    pub start: Instant,
+}
+
+/// Makes them for a configuration, with this number of loops and places.
+pub fn beside_of<R: Clock + AllocGlobal>(
+    rt: &R,
+    config: &Config,
+    options: RunOptions,
+    threads: LoopSizes,
+) -> Result<Beside, ServeFault> {
+    let alloc = rt.alloc();
+    let Ok(start) = Instant::now(rt) else {
+        return Err(ServeFault::Read);
+    };
+    let RunOptions {
+        keeping,
+        reusing,
+        window,
+        forwarded_for,
+        controls,
+        mut logs,
+        admin,
+    } = options;
+    if admin.is_some() {
+        logs.numbers = Some(numbers_of(alloc, config, threads.places)?);
+    }
+    let servers = config.servers.len();
+    let names = names_of(alloc, config)?;
+    let loops = threads.loops;
+    let base = base_of(rt, start);
+    let windows = WindowPrinter::new(alloc, names, servers)?
+        .dated(window.map(|_| base))
+        .onto(sink_of(&logs)?);
+    let extent = Extent {
+        servers,
+        loops,
+        start,
+        base,
+    };
+    Ok(Beside {
+        windows,
+        addresses: Addresses::new(alloc, config)?,
+        controls,
+        keeping,
+        reusing,
+        window,
+        forwarded_for,
+        log: RequestLog::new(alloc, logs, extent)?,
+        admin,
+        start,
+    })
+}
+
+// Makes the counters of a fresh proxy.
+fn numbers_of(alloc: Global, config: &Config, places: usize) -> Result<ProxyNumbers, AllocError> {
+    let mut limits = Vec::with_capacity(alloc, config.servers.len())?;
+    for server in config.servers.as_slice() {
+        limits.push(server.maxconn)?;
+    }
+    let proportions = Proportions {
+        places,
+        entries: LOG,
+    };
+    ProxyNumbers::new(alloc, limits.as_slice(), proportions)
+}
+
+// Returns the sink that the lines of windows share with those of the access log.
+fn sink_of(logs: &Logs) -> Result<Option<Arc<Sink>>, AllocError> {
+    match &logs.access {
+        Some(access) if access.has_windows => Ok(Some(Arc::try_clone(&access.sink)?)),
+        _ => Ok(None),
+    }
+}
+
+/// Makes the data that the gates share.
+pub fn front_of<'a>(
+    alloc: Global,
+    config: &'a Config,
+    listener: TcpListener,
+    requests: u64,
+    beside: &'a Beside,
+) -> GateShared<'a>
+    ensures { result.config.now ≡ config.now }
+{
+    GateShared {
+        alloc,
+        config,
+        listener,
+        clients: Clients::new(requests),
+        start: beside.start,
+        addresses: &beside.addresses,
+        windows: &beside.windows,
+        controls: beside.controls.as_ref(),
+        log: beside.log.as_ref(),
+        admin: beside.admin.as_ref(),
+        keeping: beside.keeping,
+        reusing: beside.reusing,
+        window: beside.window,
+        forwarded_for: beside.forwarded_for,
+    }
+}

@@ -1,0 +1,4 @@
+pub mod Faults
+pub mod Returns
+pub mod RunFaults
+pub mod Statuses

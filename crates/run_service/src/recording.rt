@@ -1,0 +1,254 @@
+//! A service whose log is copied while it serves.
+
+ghost use Rattle.std.specs.Prelude.{◌≡◌, ◌≤◌, ◌+◌, ◌^◌, true, []};
+ghost use Rattle.config_setup.specs.Setups.{SetupIsAsked};
+ghost use Rattle.log_entries.specs.declared.setup.Setup.{Setup};
+ghost use Rattle.locked_book.specs.Books.{terms_for};
+ghost use Rattle.proxy_config.specs.Sound.{IsSoundConfig};
+ghost use Rattle.run_parts.specs.Parts.{AreNew};
+
+use crate::looping::SeatSource;
+use crate::serving::{proxy_of, serve_clients};
+use grant_board::BoardName;
+use late_cert::Reports;
+use loop_events::Proxy;
+use proxy_config::Config;
+use run_parts::{
+    Crew, GateShared, Lends, Logs, LoopSizes, Parts, Record, RunLimits, RunOptions, ServeFault,
+    Site, beside_of, crew_of, front_of, parts_of,
+};
+use std::marker::Brand;
+use std::net::{Net, TcpListener, TcpStream};
+use std::sync::Wait;
+use std::sync::ledger::Ledger;
+use std::thread;
+use std::thread::{Scope, Threads};
+use std::time::{Clock, Duration};
+
+/// The log is copied each time this number of milliseconds has passed.
+const PAUSE: u64 = 5;
+
+/// The parts of a service whose log is copied, and the target of the copy.
+#[derive(Clone, Copy)]
+struct Watched<'a> {
+    crew: Crew,
+    record: &'a Record,
+}
+
+/// Serves as a configuration says at an open listener. Meanwhile the entries of the log's first
+/// window are copied to a record, and the reports of the last window are returned, where
+/// `listen_and_serve` prints them.
+pub fn serve_recorded<
+    R: Net<Listener = TcpListener, Stream = TcpStream>
+        + Clock
+        + Print
+        + Eprint
+        + AllocGlobal
+        + Threads
+        + Wait
+        + Sync
+        + Copy
+        + Send
+        + 'static,
+>(
+    rt: &R,
+    config: Config,
+    listener: TcpListener,
+    sizes: RunLimits,
+    record: &Record,
+) -> Result<Reports, ServeFault>
+    requires config { IsSoundConfig config }
+{
+    let served = serve_all(rt, config, listener, sizes, record);
+    record.end();
+    served
+}
+
+fn serve_all<
+    R: Net<Listener = TcpListener, Stream = TcpStream>
+        + Clock
+        + Print
+        + Eprint
+        + AllocGlobal
+        + Threads
+        + Wait
+        + Sync
+        + Copy
+        + Send
+        + 'static,
+>(
+    rt: &R,
+    config: Config,
+    listener: TcpListener,
+    sizes: RunLimits,
+    record: &Record,
+) -> Result<Reports, ServeFault>
+    requires config { IsSoundConfig config }
+{
+    let crew = crew_of(rt, &config, sizes);
+    let parts = parts_of(rt.alloc(), &config, crew.threads.places)?;
+    serve_on::<Brand, _>(rt, config, parts, listener, Watched { crew, record })
+}
+
+// The same at a desk that is made of these parts.
+fn serve_on<
+    N: BoardName + Ledger + Send + Sync,
+    R: Net<Listener = TcpListener, Stream = TcpStream>
+        + Clock
+        + Print
+        + Eprint
+        + AllocGlobal
+        + Threads
+        + Wait
+        + Sync
+        + Copy
+        + Send
+        + 'static,
+>(
+    rt: &R,
+    config: Config,
+    parts: Parts,
+    listener: TcpListener,
+    watched: Watched<'_>,
+) -> Result<Reports, ServeFault>
+    requires named { parts.board ≡ N.board }
+    requires ledger { (parts.ledger.name ≡ N.name) × (parts.ledger.parts ≡ N.parts) }
+    requires room { 2 ^ 64 ≤ parts.ledger.parts + 1 }
+    requires sound { IsSoundConfig config }
+    requires parts { (setup : Setup) × AreNew setup parts × SetupIsAsked config setup × (N.terms ≡ terms_for setup) × (setup.places ≡ watched.crew.threads.places) }
+{
+    let alloc = rt.alloc();
+    let (proxy, source) = proxy_of::<N>(alloc, config, parts);
+    let options = RunOptions {
+        keeping: None,
+        reusing: None,
+        window: None,
+        forwarded_for: false,
+        controls: None,
+        logs: Logs {
+            access: None,
+            events: None,
+            numbers: None,
+        },
+        admin: None,
+    };
+    let threads = watched.crew.threads;
+    let beside = beside_of(rt, &proxy.config, options, threads)?;
+    let requests = watched.crew.requests;
+    let front = front_of(alloc, &proxy.config, listener, requests, &beside);
+    let site = Site {
+        proxy: &proxy,
+        front: &front,
+    };
+    serve_watched(rt, &site, &front, source, watched)?;
+    Ok(proxy.desk.report(rt, alloc)?)
+}
+
+// Serves until no more clients come. The last entries are copied when all threads have ended.
+fn serve_watched<
+    N: BoardName + Ledger + Send + Sync,
+    R: Net<Listener = TcpListener, Stream = TcpStream>
+        + Clock
+        + Print
+        + Eprint
+        + Threads
+        + Wait
+        + Sync
+        + Copy
+        + Send
+        + 'static,
+    S: Lends<N> + Sync,
+>(
+    rt: &R,
+    shared: &S,
+    front: &GateShared<'_>,
+    source: SeatSource,
+    watched: Watched<'_>,
+) -> Result<(), ServeFault>
+    requires named { (source.first.board ≡ N.board) × (source.first.view.terms ≡ N.terms) }
+    requires first { source.first.view.first ≡ true }
+    requires idle { source.first.view.passes ≡ [] }
+    requires ledger { (source.ledger.name ≡ N.name) × (source.ledger.parts ≡ N.parts) }
+    requires room { 2 ^ 64 ≤ source.ledger.parts + 1 }
+    requires places { watched.crew.threads.places ≡ N.terms.places }
+{
+    let Watched { crew, record } = watched;
+    thread::scope(
+        thread::scope_env(),
+        rt,
+        move |scope|
+            requires named { (source.first.board ≡ N.board) × (source.first.view.terms ≡ N.terms) }
+            requires first { source.first.view.first ≡ true }
+            requires idle { source.first.view.passes ≡ [] }
+            requires ledger { (source.ledger.name ≡ N.name) × (source.ledger.parts ≡ N.parts) }
+            requires room { 2 ^ 64 ≤ source.ledger.parts + 1 }
+            requires places { crew.threads.places ≡ N.terms.places }
+        {
+            if !start_copying(scope, rt, shared, record) {
+                return Err(ServeFault::NoMemory);
+            }
+            let served = serve_lent(rt, shared, front, source, crew.threads);
+            record.close();
+            served
+        },
+    )
+}
+
+fn serve_lent<
+    N: BoardName + Ledger + Send + Sync,
+    R: Net<Listener = TcpListener, Stream = TcpStream>
+        + Clock
+        + Print
+        + Eprint
+        + Threads
+        + Wait
+        + Sync
+        + Copy
+        + Send
+        + 'static,
+    S: Lends<N> + Sync,
+>(
+    rt: &R,
+    shared: &S,
+    front: &GateShared<'_>,
+    source: SeatSource,
+    threads: LoopSizes,
+) -> Result<(), ServeFault>
+    requires named { (source.first.board ≡ N.board) × (source.first.view.terms ≡ N.terms) }
+    requires first { source.first.view.first ≡ true }
+    requires idle { source.first.view.passes ≡ [] }
+    requires ledger { (source.ledger.name ≡ N.name) × (source.ledger.parts ≡ N.parts) }
+    requires room { 2 ^ 64 ≤ source.ledger.parts + 1 }
+    requires places { threads.places ≡ N.terms.places }
+{
+    serve_clients(rt, shared, front, source, threads)
+}
+
+// Starts a thread of the scope that copies the log, and says whether that succeeded.
+fn start_copying<
+    's,
+    E,
+    R: Clock + Threads + Wait + Sync,
+    N: BoardName + Ledger + Send + Sync + 's,
+    S: Lends<N> + Sync + 's,
+>(scope: &Scope<'s, E>, rt: &'s R, shared: &'s S, record: &'s Record) -> bool {
+    let started = scope
+        .spawn(move || copy_all(rt, shared.proxy(), record))
+        .ok();
+    started.is_some()
+}
+
+// Copies the log as it grows, until nothing more is decided.
+fn copy_all<N: BoardName + Ledger, R: Clock + Wait>(rt: &R, proxy: &Proxy<N>, record: &Record) {
+    let mut copied = 0;
+    for _ in rt.forever() {
+        let is_last = record.is_closed();
+        if let Ok(later) = proxy.desk.entries_after(rt, proxy.alloc, copied) {
+            copied = record.add(rt, later.as_slice()).saturating_add(copied);
+        }
+        if is_last {
+            return;
+        }
+        thread::sleep(rt, Duration::from_millis(PAUSE));
+    }
+}

@@ -1,7 +1,0 @@
-use Rattle.std.proofs.Math.Logic.{∥∥₁_map}
-use Rattle.seated_exchange.proofs.Connecting.{woken_on}
-use Rattle.seated_exchange.proofs.linked.Linked.wake.Goals as goal
-
-pub returns-clause-on : goal.returns-clause-on
-returns-clause-on g c opened before on =
-    ∥∥₁_map on (woken_on opened _ _ before _ c.wake.ensures.left.0 c.wake.ensures.left.1 c.wake.ensures.waits.0)

@@ -1,2 +1,0 @@
--- What lends a proxy to threads may be shared: proved with the gates, and handed on here.
-pub use Rattle.socket_gate.proofs.Crosses.{site_sync}

@@ -1,6 +1,0 @@
-use Rattle.std.proofs.Common.{◌≤◌}
-use Rattle.service_parts.proofs.crew.slots_of.Given as goal
-
--- no more than places so far
-abbrev pub invariant-loop-server : goal.invariant-loop-server
-invariant-loop-server l = l.slots ≤ l.places

@@ -1,4 +1,0 @@
-pub mod Queues
-pub mod Gauges
-pub mod Faults
-pub mod Parts

@@ -1,0 +1,175 @@
+ghost use Rattle.std.specs.Prelude.{◌≡◌, ◌<◌};
+ghost use Rattle.shared_desk.specs.Seats.{IsSameSeat};
+ghost use Rattle.locked_book.specs.Books.{terms_for};
+
+use super::*;
+use crate::assertions::same;
+
+// Four requests: one is served, one is aborted, one waits too long, and one finds no server.
+#[derive(Clone, Copy)]
+struct Four {
+    served: Ticketed,
+    aborted: Ticketed,
+    late: Ticketed,
+    lost: Ticketed,
+}
+
+// The third one isn't told before its timeout.
+fn come<N: BoardName, R: Abort + Wait>(
+    rt: &R,
+    alloc: Global,
+    desk: &Desk<N>,
+    relay: &mut RelaySeat,
+) -> Four
+    requires named { relay.old.board ≡ N.board }
+    requires terms { relay.old.view.terms ≡ N.terms }
+    ensures places { (result.served.place < N.terms.places) × (result.aborted.place < N.terms.places) × (result.late.place < N.terms.places) × (result.lost.place < N.terms.places) }
+    ensures seat { IsSameSeat relay.old relay.new }
+{
+    let served = arrive(rt, alloc, desk, 0, offset(0));
+    let aborted = arrive(rt, alloc, desk, 5, offset(0));
+    let late = arrive(rt, alloc, desk, 5, offset(0));
+    abort(rt, desk, 6, aborted.ticket);
+    turn(rt, desk, 14);
+    same(rt, serve(desk.board(), relay, late), None);
+    turn(rt, desk, 15);
+    check(rt, desk, 16, 0, false);
+    let lost = arrive(rt, alloc, desk, 17, offset(0));
+    Four {
+        served,
+        aborted,
+        late,
+        lost,
+    }
+}
+
+fn abort<N: BoardName, R: Abort + Wait>(rt: &R, desk: &Desk<N>, moment: u64, ticket: u64) {
+    let mut woken = PlaceSet::new();
+    let answer = desk.abort(rt, at(moment), ticket, &mut woken);
+    answer.expect(rt, "an abort");
+}
+
+// Returns what each of the four was told.
+fn tell_each<N: BoardName, R: Abort + Wait>(
+    rt: &R,
+    alloc: Global,
+    desk: &Desk<N>,
+    relay: &mut RelaySeat,
+) -> [Option<Verdict>; 4]
+    requires named { relay.old.board ≡ N.board }
+    requires terms { relay.old.view.terms ≡ N.terms }
+    ensures { IsSameSeat relay.old relay.new }
+{
+    let four = come(rt, alloc, desk, relay);
+    let verdicts = [
+        serve(desk.board(), relay, four.served),
+        serve(desk.board(), relay, four.aborted),
+        serve(desk.board(), relay, four.late),
+        serve(desk.board(), relay, four.lost),
+    ];
+    turn(rt, desk, 18);
+    verdicts
+}
+
+fn each_event<N: BoardName, R: Abort + Wait>(
+    rt: &R,
+    alloc: Global,
+    opened: Opened,
+) -> ([Option<Verdict>; 4], Closing)
+    requires named { opened.board ≡ N.board }
+    requires terms { N.terms ≡ terms_for opened.core.setup }
+{
+    let (desk, mut relay) = start::<N>(opened);
+    let told = tell_each(rt, alloc, &desk, &mut relay);
+    (told, desk.close(relay))
+}
+
+#[test]
+fn each_is_told(rt: HostRuntime) {
+    let alloc = rt.alloc();
+    let opened = one_server(&rt, alloc, 8, 4096, 1);
+    let (told, closing) = each_event::<Brand, _>(&rt, alloc, opened);
+    let verdicts = [
+        Some(Verdict::Serve(0)),
+        Some(Verdict::Told(Cause::Aborted)),
+        Some(Verdict::Told(Cause::Timeout)),
+        Some(Verdict::Told(Cause::NoServer)),
+    ];
+    same(&rt, told, verdicts);
+    same(&rt, closing, Closing { left: 0 });
+}
+
+// Returns the number of passes that the seat has between its take and its post, and after it.
+fn vouch<N: BoardName, R: Abort + Wait>(
+    rt: &R,
+    desk: &Desk<N>,
+    relay: RelaySeat,
+    it: Ticketed,
+) -> (u64, u64)
+    requires named { relay.board ≡ N.board }
+    requires in_range { it.place < relay.view.terms.places }
+{
+    let mut relay = relay;
+    let pass = match relay.try_take(desk.board(), it.place, it.ticket) {
+        Taking::Taken(pass) => pass,
+        Taking::NotYet => panic!(rt; "not offered"),
+    };
+    let (mut relay, taken) = desk.vouch(rt, relay);
+    relay.post(desk.board(), pass, Ending::Done);
+    let (_, posted) = desk.vouch(rt, relay);
+    (taken, posted)
+}
+
+// Returns the ticket that comes back from a place.
+fn collect<N: BoardName, R: Abort + Wait>(
+    rt: &R,
+    desk: &Desk<N>,
+    moment: u64,
+    place: usize,
+) -> Option<u64>
+    requires { place < N.terms.places }
+{
+    let mut woken = PlaceSet::new();
+    let answer = desk.collect_at(rt, at(moment), place, &mut woken);
+    let found = answer.expect(rt, "a collection");
+    found.map(|back| back.ticket)
+}
+
+// Says whether a tick at this moment would tell a timeout, before the tick and after it.
+fn tick<N: BoardName, R: Abort + Wait>(rt: &R, desk: &Desk<N>, moment: u64) -> (bool, bool) {
+    let before = desk.expired(rt, at(moment));
+    let mut woken = PlaceSet::new();
+    let answer = desk.tick(rt, at(moment), &mut woken);
+    answer.expect(rt, "a tick");
+    (before, desk.expired(rt, at(moment)))
+}
+
+// Of three requests for one slot, one is over and one has waited too long.
+fn ask_on<N: BoardName, R: Abort + Wait>(rt: &R, alloc: Global, desk: &Desk<N>, relay: RelaySeat)
+    requires named { relay.board ≡ N.board }
+    requires terms { relay.view.terms ≡ N.terms }
+{
+    let first = arrive(rt, alloc, desk, 0, offset(0));
+    arrive(rt, alloc, desk, 1, offset(0));
+    arrive(rt, alloc, desk, 2, offset(0));
+    same(rt, vouch(rt, desk, relay, first), (1, 0));
+    same(rt, collect(rt, desk, 3, first.place), Some(first.ticket));
+    same(rt, tick(rt, desk, 11), (false, false));
+    same(rt, tick(rt, desk, 12), (true, false));
+}
+
+fn ask<N: BoardName, R: Abort + Wait>(rt: &R, alloc: Global, opened: Opened)
+    requires named { opened.board ≡ N.board }
+    requires terms { N.terms ≡ terms_for opened.core.setup }
+{
+    let (desk, relay) = start::<N>(opened);
+    ask_on(rt, alloc, &desk, relay);
+    drop(desk);
+}
+
+#[test]
+fn what_came_back_is_found(rt: HostRuntime) {
+    let alloc = rt.alloc();
+    let opened = one_server(&rt, alloc, 8, 4096, 1);
+    ask::<Brand, _>(&rt, alloc, opened);
+}

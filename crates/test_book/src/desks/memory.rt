@@ -1,0 +1,124 @@
+ghost use Rattle.std.specs.Prelude.{◌≡◌, ◌<◌, IfOk};
+ghost use Rattle.shared_desk.specs.Seats.{IsSameSeat};
+ghost use Rattle.locked_book.specs.Books.{terms_for};
+
+use super::*;
+use crate::assertions::same;
+use std::test::Fail;
+
+// The test succeeds whichever single allocation is refused: it makes the same call again.
+
+fn open_once(alloc: Global) -> Result<Option<Opened>, AllocError> {
+    let setup = setup_of_one(alloc, 1, 10, 1)?;
+    open_sound(alloc, setup, &[1])
+}
+
+fn open_in_the_end(alloc: Global) -> Result<Opened, Fail> {
+    let opened = match open_once(alloc) {
+        Ok(opened) => opened,
+        Err(_) => open_once(alloc)?,
+    };
+    let Some(opened) = opened else {
+        return Err(Fail::from("not a sound setup"));
+    };
+    Ok(opened)
+}
+
+fn come<N: BoardName, R: Wait>(
+    rt: &R,
+    alloc: Global,
+    desk: &Desk<N>,
+    woken: &mut PlaceSet,
+) -> Result<Ticketed, Refusal>
+    ensures { IfOk result (λ it. it.place < N.terms.places) }
+{
+    match desk.arrive(rt, alloc, Moment::zero(), offset(0), woken) {
+        Err(Refusal::NoMemory) => desk.arrive(rt, alloc, Moment::zero(), offset(0), woken),
+        answer => answer,
+    }
+}
+
+// Returns the number of reports.
+fn report<N: BoardName, R: Wait>(
+    rt: &R,
+    alloc: Global,
+    desk: &Desk<N>,
+) -> Result<usize, AllocError> {
+    match desk.report(rt, alloc) {
+        Ok(reports) => Ok(reports.len()),
+        Err(_) => Ok(desk.report(rt, alloc)?.len()),
+    }
+}
+
+// Returns the number of servers' lines.
+fn lines<N: BoardName, R: Wait>(
+    rt: &R,
+    alloc: Global,
+    desk: &Desk<N>,
+) -> Result<usize, AllocError> {
+    match desk.servers(rt, alloc) {
+        Ok(lines) => Ok(lines.len()),
+        Err(_) => Ok(desk.servers(rt, alloc)?.len()),
+    }
+}
+
+// Says whether there was no room, so that a window ended.
+fn room<N: BoardName, R: Wait>(rt: &R, alloc: Global, desk: &Desk<N>) -> Result<bool, AllocError> {
+    match desk.make_room(rt, alloc) {
+        Ok(window) => Ok(window.is_some()),
+        Err(_) => Ok(desk.make_room(rt, alloc)?.is_some()),
+    }
+}
+
+fn tell<N: BoardName, R: Wait>(
+    rt: &R,
+    alloc: Global,
+    desk: &Desk<N>,
+) -> Result<(usize, usize, bool), AllocError> {
+    Ok((
+        report(rt, alloc, desk)?,
+        lines(rt, alloc, desk)?,
+        room(rt, alloc, desk)?,
+    ))
+}
+
+// A request arrives and is served, and its return waits on the board until there is room.
+fn use_up<N: BoardName, R: Wait>(
+    rt: &R,
+    alloc: Global,
+    desk: &Desk<N>,
+    relay: &mut RelaySeat,
+) -> Result<(usize, usize, bool), Fail>
+    requires named { relay.old.board ≡ N.board }
+    requires terms { relay.old.view.terms ≡ N.terms }
+    ensures { IsSameSeat relay.old relay.new }
+{
+    let mut woken = PlaceSet::new();
+    let Ok(it) = come(rt, alloc, desk, &mut woken) else {
+        return Err(Fail::from("refused"));
+    };
+    serve(desk.board(), relay, it);
+    Ok(tell(rt, alloc, desk)?)
+}
+
+fn use_up_one<N: BoardName, R: Wait>(
+    rt: &R,
+    alloc: Global,
+    opened: Opened,
+) -> (Result<(usize, usize, bool), Fail>, Closing)
+    requires named { opened.board ≡ N.board }
+    requires terms { N.terms ≡ terms_for opened.core.setup }
+{
+    let (desk, mut relay) = start::<N>(opened);
+    let told = use_up(rt, alloc, &desk, &mut relay);
+    (told, desk.close(relay))
+}
+
+#[test]
+fn a_refused_growth_changes_no_desk(rt: HostRuntime) -> Result<(), Fail> {
+    let opened = open_in_the_end(rt.alloc())?;
+    let (told, closing) = use_up_one::<Brand, _>(&rt, rt.alloc(), opened);
+    same(&rt, told?, (0, 1, true));
+    same(&rt, closing, Closing { left: 1 });
+    Ok(())
+}

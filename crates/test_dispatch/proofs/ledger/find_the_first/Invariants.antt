@@ -1,0 +1,5 @@
+use Rattle.slot_ledger.specs.Slots.{AreBelow}
+use Rattle.test_dispatch.proofs.ledger.find_the_first.Given as goal
+
+abbrev pub invariant-loop-ticket : goal.invariant-loop-ticket
+invariant-loop-ticket g l = AreBelow l.ticket l.ledger.slots

@@ -1,0 +1,139 @@
+//! Tests of a proxy's counters, as Prometheus gets them.
+
+use base_verdict::Cause;
+use due_key::{Class, Due, Moment, Offset};
+use log_entries::{Arrival, Entry, Queue};
+use log_lines::{Account, By, During, Follower, Proportions, ProxyNumbers, push_metrics};
+use log_texts::Names;
+use std::alloc::Global;
+use std::process::Abort;
+
+const BACKEND: Queue = Queue::Backend;
+
+fn moment(rt: &impl Abort, number: u64) -> Moment {
+    Moment::new(number).expect(rt, "a moment")
+}
+
+// A request of a class that arrives at a moment and is due at another.
+fn arrive(rt: &impl Abort, ticket: u64, class: i64, times: (u64, i64)) -> Entry {
+    let (at, due) = times;
+    let arrival = Arrival {
+        ticket,
+        due: Due::of(Moment::zero(), Offset::clamp(due)),
+        class: Class::clamp(class),
+        place: 0,
+        pin: None,
+    };
+    Entry::Arrive(moment(rt, at), arrival)
+}
+
+fn names(rt: &impl Abort, alloc: Global) -> Names {
+    let mut list = Vec::new(alloc);
+    for name in ["a\"1", "b"] {
+        let name = String::from_str(alloc, name).expect(rt, "memory");
+        list.push(name).expect(rt, "memory");
+    }
+    Names::new(list)
+}
+
+fn counted(rt: &impl Abort, alloc: Global, entries: &[Entry]) -> (ProxyNumbers, Follower) {
+    let proportions = Proportions {
+        places: 16,
+        entries: 100,
+    };
+    let mut numbers = ProxyNumbers::new(alloc, &[1, 2], proportions).expect(rt, "memory");
+    let mut follower = Follower::new(alloc);
+    for entry in entries {
+        numbers.note(&follower, entry);
+        follower.follow(*entry).expect(rt, "memory");
+    }
+    (numbers, follower)
+}
+
+fn metrics(rt: &impl Abort, alloc: Global, numbers: &ProxyNumbers) -> String {
+    let mut text = String::new(alloc);
+    push_metrics(&mut text, &names(rt, alloc), numbers).expect(rt, "memory");
+    text
+}
+
+#[test]
+fn requests_are_counted_by_server_and_status(rt: HostRuntime) {
+    let (mut numbers, follower) = counted(&rt, rt.alloc(), &[]);
+    for (server, status) in [
+        (Some(0), Some(200)),
+        (Some(0), Some(200)),
+        (Some(1), Some(404)),
+        (None, None),
+    ] {
+        let mut account = Account::new(None, moment(&rt, 5));
+        account.server = server;
+        account.status = status;
+        numbers.end(&follower, &account);
+    }
+    let text = metrics(&rt, rt.alloc(), &numbers);
+    for line in [
+        "dueproxy_requests_total{server=\"a\\\"1\",status=\"200\"} 2\n",
+        "dueproxy_requests_total{server=\"b\",status=\"404\"} 1\n",
+        "dueproxy_requests_total{server=\"<NOSRV>\",status=\"none\"} 1\n",
+    ] {
+        assert!(rt; text.as_str().contains(line), "{}", line);
+    }
+}
+
+#[test]
+fn who_waits_and_how_late_slots_are_is_counted(rt: HostRuntime) {
+    let entries = [
+        arrive(&rt, 1, 0, (0, 0)),
+        Entry::Direct(1, 0),
+        arrive(&rt, 2, 0, (3, 1_500)),
+        Entry::Joined(2, BACKEND),
+        arrive(&rt, 3, 1, (5, 9)),
+        Entry::Joined(3, BACKEND),
+        Entry::Done(moment(&rt, 266), 1),
+        Entry::Freed(1, 0),
+        Entry::Ended(1),
+        Entry::Granted(3, BACKEND, 0),
+    ];
+    let (numbers, _) = counted(&rt, rt.alloc(), &entries);
+    let text = metrics(&rt, rt.alloc(), &numbers);
+    for line in [
+        "dueproxy_slots_total{server=\"a\\\"1\",way=\"direct\"} 1\n",
+        "dueproxy_slots_total{server=\"a\\\"1\",way=\"granted\"} 1\n",
+        "dueproxy_queue_waiting{queue=\"*\",class=\"0\"} 1\n",
+        "dueproxy_queue_waiting{queue=\"*\",class=\"1\"} 0\n",
+        "dueproxy_lateness_seconds_sum{class=\"1\"} 0.257\n",
+        "dueproxy_lateness_seconds_count{class=\"1\"} 1\n",
+    ] {
+        assert!(rt; text.as_str().contains(line), "{}", line);
+    }
+}
+
+#[test]
+fn who_was_aborted_since_its_time_was_over_timed_out(rt: HostRuntime) {
+    let entries = [
+        arrive(&rt, 1, 0, (0, 0)),
+        Entry::Joined(1, BACKEND),
+        arrive(&rt, 2, 0, (0, 0)),
+        Entry::Joined(2, BACKEND),
+        Entry::Abort(moment(&rt, 9), 1),
+        Entry::Left(1, Cause::Aborted),
+        Entry::Abort(moment(&rt, 9), 2),
+        Entry::Left(2, Cause::Aborted),
+    ];
+    let (mut numbers, follower) = counted(&rt, rt.alloc(), &entries);
+    for (ticket, by) in [(1, By::Client), (2, By::ServerTime)] {
+        let mut account = Account::new(None, moment(&rt, 0));
+        account.ticket = Some(ticket);
+        account.end_by(by, During::Queue);
+        numbers.end(&follower, &account);
+    }
+    numbers.note_outside(3);
+    let text = metrics(&rt, rt.alloc(), &numbers);
+    for line in [
+        "dueproxy_refusals_total{cause=\"aborted\"} 1\n",
+        "dueproxy_refusals_total{cause=\"timeout\"} 1\n",
+        "dueproxy_outside_waiting 3\n",
+    ] {
+        assert!(rt; text.as_str().contains(line), "{}", line);
+    }
+}

@@ -1,0 +1,79 @@
+use run_admin::{Answers, Health, Method, Pages, Question, Status, Told};
+use std::alloc::{AllocError, Global};
+use std::cell::Cell;
+
+#[derive(Drop)]
+struct Fake {
+    alloc: Global,
+    now: Cell<u64>,
+    health: Health,
+}
+
+impl Told for Fake {
+    fn now(&self) -> u64 {
+        let now = self.now.get();
+        self.now.set(now.saturating_add(60));
+        now
+    }
+
+    fn health(&self) -> Health {
+        self.health
+    }
+
+    fn metrics(&self) -> Result<String, AllocError> {
+        let now = self.now.get();
+        format!(in self.alloc; "made before {now}\n")
+    }
+
+    fn state(&self) -> Result<String, AllocError> {
+        String::from_str(self.alloc, "{}")
+    }
+}
+
+fn asked(path: &[u8]) -> Question<'_> {
+    Question {
+        method: Method::Get,
+        path,
+    }
+}
+
+#[test]
+fn each_path_has_its_answer(rt: HostRuntime) {
+    let fake = Fake {
+        alloc: rt.alloc(),
+        now: Cell::new(0),
+        health: Health::Stops,
+    };
+    let mut pages = Pages::new(rt.alloc(), fake);
+    let health = pages
+        .answer(&asked(b"/health".as_slice()))
+        .expect(&rt, "memory");
+    assert_eq!(rt;
+        (health.status, health.body.as_str()),
+        (Status::Unavailable, "stopping\n")
+    );
+    let page = pages.answer(&asked(b"/".as_slice())).expect(&rt, "memory");
+    assert!(rt; page.body.as_str().starts_with("<!doctype html>"));
+    let none = pages.answer(&asked(b"/x".as_slice())).expect(&rt, "memory");
+    assert_eq!(rt; none.status, Status::NotFound);
+    let state = pages
+        .answer(&asked(b"/state.json".as_slice()))
+        .expect(&rt, "memory");
+    assert_eq!(rt; state.body.as_str(), "{}");
+}
+
+#[test]
+fn a_text_is_made_anew_seldom(rt: HostRuntime) {
+    let fake = Fake {
+        alloc: rt.alloc(),
+        now: Cell::new(0),
+        health: Health::Serves,
+    };
+    let mut pages = Pages::new(rt.alloc(), fake);
+    for wanted in ["made before 60\n", "made before 60\n", "made before 180\n"] {
+        let page = pages
+            .answer(&asked(b"/metrics".as_slice()))
+            .expect(&rt, "memory");
+        assert_eq!(rt; page.body.as_str(), wanted);
+    }
+}

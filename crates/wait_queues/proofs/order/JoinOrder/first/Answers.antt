@@ -1,5 +1,0 @@
-use Rattle.wait_queues.proofs.Cells.{is_order}
-use Rattle.wait_queues.proofs.order.JoinOrder.first.Goals as goal
-
-pub returns-else-at-self-clause-order : goal.returns-else-at-self-clause-order
-returns-else-at-self-clause-order c = is_order _ _ _ _ c.self.view_is c.self.invariant

@@ -1,9 +1,0 @@
-use Rattle.std.proofs.Common.{arith}
-use Rattle.std.proofs.lemmas.Grind.{common_steps, elements}
-use Rattle.wait_queues.proofs.queues.Queues.heads.Goals as goal
-
-pub index-requires : goal.index-requires
-index-requires g c = grind (arith, common_steps)
-
-pub returns-clause-own : goal.returns-clause-own
-returns-clause-own g c = grind (arith, elements)

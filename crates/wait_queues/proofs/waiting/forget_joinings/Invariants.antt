@@ -1,8 +1,0 @@
-use Rattle.std.proofs.Common.{◌≡◌}
-use Rattle.list_facts.proofs.Front.{mapped_front}
-use Rattle.wait_queues.specs.Waitlists.{since_before}
-use Rattle.wait_queues.proofs.waiting.forget_joinings.Given as goal
-
--- those at the places so far joined before
-abbrev pub invariant-loop-place : goal.invariant-loop-place
-invariant-loop-place l = l.waiters.items ≡ mapped_front since_before l.place l.initial.waiters.items

@@ -1,9 +1,0 @@
-use Rattle.std.proofs.Common.{ap, sym}
-use Rattle.wait_queues.specs.Waitlists.{since_before}
-use Rattle.wait_queues.proofs.waiting.joined_before.Goals as goal
-
-pub returns-in-None : goal.returns-in-None
-returns-in-None c = ap since_before (sym c.in-None.is)
-
-pub returns-in-Some : goal.returns-in-Some
-returns-in-Some c = ap since_before (sym c.in-Some.is)

@@ -1,5 +1,0 @@
-use Rattle.grant_desk.specs.Seats.{IsSameSeat}
-use Rattle.worker_crew.proofs.working.worker.Given as goal
-
-abbrev pub invariant-loop : goal.invariant-loop
-invariant-loop g l = IsSameSeat l.initial.idle.seat l.idle.seat

@@ -1,7 +1,7 @@
 use crate::assertions::{holds, same};
 use due_key::{Class, Due, Key, Moment, Offset};
 use pend_queue::ListQueue;
-use queue_outside::{OutsideOrder, Cause, remaining};
+use queue_outside::{Cause, OutsideOrder, remaining};
 use std::alloc::Global;
 
 type Room = OutsideOrder<ListQueue<Key, usize>>;

@@ -1,6 +1,6 @@
 #!/usr/bin/env bash
 # bench/edits.sh [NAME..]: tries the edits bench/edits/NAME/*.edit, each of which the prover must refuse as it refuses those of
-# crates/NAME/must-fail; without names all. The gate leaves these out: their crates' proofs take so long that each would cost it
+# crates/NAME/must-fail; without names all. `rt ci` leaves these out: their crates' proofs take so long that each would cost it
 # more than a minute. Prints a line for each; the status is 1 where one wasn't refused. Takes about two hours on one
 # processor, and the libraries below are built first where they aren't there.
 set -u
@@ -24,7 +24,7 @@ for name in "${names[@]}"; do
     mkdir -p "crates/$name/must-fail"
     for edit in "bench/edits/$name"/*.edit; do
         copy="crates/$name/must-fail/$(basename "$edit")"
-        [ ! -e "$copy" ] || { echo "$copy stands in the gate already"; exit 2; }
+        [ ! -e "$copy" ] || { echo "$copy stands there already"; exit 2; }
         cp "$edit" "$copy"
         made+=("$copy")
     done

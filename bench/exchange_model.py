@@ -94,7 +94,7 @@ class Model:
         """What came of it, where nothing more happens."""
         it = copy.copy(self)
         it.sents, it.floors, it.passes = list(self.sents), list(self.floors), list(self.passes)
-        if it.stage in ("dialing", "passing"):
+        if it.stage in ("dialing", "forwarding"):
             it.passes.append("done")
         it.drop_server()
         return it
@@ -111,7 +111,7 @@ class Model:
         self.drop_server()
 
     def over(self):
-        if self.stage in ("dialing", "passing"):
+        if self.stage in ("dialing", "forwarding"):
             self.post("done")
         if self.told_floor is None and self.told_before is not None:
             self.told_floor = self.told_before
@@ -214,7 +214,7 @@ class Model:
             self.on_unserved(None)
         elif self.stage == "dialing":
             self.fails_to_connect()
-        elif self.stage == "passing" and not self.out and (self.server.waits or self.request.body.whole):
+        elif self.stage == "forwarding" and not self.out and (self.server.waits or self.request.body.whole):
             self.breaks_off(502)
         else:
             self.over()
@@ -224,7 +224,7 @@ class Model:
     def connects(self, fresh):
         if self.stage != "dialing":
             return
-        self.stage = "passing"
+        self.stage = "forwarding"
         request = self.request
         if self.is_moved():
             self.server = Server(fresh, self.moved)
@@ -301,7 +301,7 @@ class Model:
         """Whether a piece of the client, or its end, is read."""
         if self.stage == "asking":
             return True
-        body = self.request.body if self.stage == "passing" else None
+        body = self.request.body if self.stage == "forwarding" else None
         return body is not None and not self.server.cut and not body.whole and not body.bad
 
     def hear_client(self, piece):
@@ -431,7 +431,7 @@ class Model:
 
     def has_asked(self):
         return self.stage in ("waiting", "dialing") and not (self.is_moved() and not self.request.body.whole) or (
-            self.stage == "passing" and self.request.body.whole
+            self.stage == "forwarding" and self.request.body.whole
         )
 
     def write_client(self):
@@ -447,7 +447,7 @@ class Model:
 
     def write_server(self):
         server = self.server
-        if self.stage != "passing" or not server.waits or server.cut:
+        if self.stage != "forwarding" or not server.waits or server.cut:
             return False
         if server.deaf:
             server.cut = True
@@ -463,7 +463,7 @@ class Model:
 
     def read_server(self):
         server = self.server
-        if self.stage != "passing" or not server.unread:
+        if self.stage != "forwarding" or not server.unread:
             return False
         what = server.unread.pop(0)
         if isinstance(what, str):

@@ -102,7 +102,7 @@ class Maker:
         if first[0].startswith("connected") and self.model.stage == "dialing" and not self.calm and self.chance.randrange(4) == 0:
             return [first, self.chance.choice([("server-takes", 0), ("server-takes", 0), ("server-takes", 9), ("server-deaf", None)])]
         streams = ("client", "server", "server-end", "server-reset")
-        if self.piece is None and self.model.stage == "passing" and first[0] in streams and self.chance.randrange(6) == 0:
+        if self.piece is None and self.model.stage == "forwarding" and first[0] in streams and self.chance.randrange(6) == 0:
             for _ in range(self.chance.choice([1, 1, 2])):
                 move = self.move()
                 if move[0] not in streams:
@@ -119,11 +119,11 @@ class Maker:
             return self.draw([(12, ("grant", None)), (1, ("unserved", None)), (1, ("late", None)), (3, "client")])
         if stage == "dialing":
             return self.draw([(12, ("connected", None)), (2, ("connected-again", None)), (2, ("unreachable", None)), (1, ("late", None)), (3, "client")])
-        if stage == "passing":
-            return self.passing_move()
+        if stage == "forwarding":
+            return self.forwarding_move()
         return self.draw([(30, "client"), (1, ("client-flows", None)), (1, ("late", None)), (1, ("client-end", None))])
 
-    def passing_move(self):
+    def forwarding_move(self):
         model = self.model
         if self.connection is not model.server:
             self.connection = model.server

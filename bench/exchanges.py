@@ -10,7 +10,7 @@ status is 1 and the first such script is shown, made as small as it gets by leav
     python3 bench/exchanges.py crates/bench_exchanges/out/bench_exchanges 100000 1
     python3 bench/exchanges.py --stored crates/bench_exchanges
 
-The second form writes the run that the gate compares: what the crate's program reads, and what the model says that it has to print."""
+The second form writes the run that `rt ci` compares: what the crate's program reads, and what the model says that it has to print."""
 import copy
 import itertools
 import pathlib

@@ -55,7 +55,7 @@ gate() {
     cd "$work/copy" && TMPDIR=$work/tmp exec rt ci
 }
 
-# Hands the gate's own lines on, and keeps all that it says.
+# Hands the own lines of rt ci on, and keeps all that it says.
 tell_progress() {
     ended=0
     while IFS= read -r line; do

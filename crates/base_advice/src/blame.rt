@@ -8,14 +8,14 @@ use std::str;
 
 /// The cause of a line's fault.
 #[derive(Clone, Copy, Debug)]
-pub(crate) enum Cause {
+pub(crate) enum LineFault {
     /// No line begins so.
     NoLine,
     /// No event has this name.
     NoEvent,
     /// An event's name stands in the place of its moment.
     NoMoment,
-    /// What the word's place demands, and the form of the line.
+    /// What the word has to be, and the form of the line.
     Wanted(&'static str, &'static str),
     /// The line ends too early, or goes on for too long; and the form of the line.
     Length(&'static str),
@@ -27,19 +27,19 @@ pub(crate) enum Cause {
     Many,
 }
 
-/// A line's fault: the place of the word that can't stand there, where it is one, and the cause.
+/// A line's fault: the index of the word that can't stand there, where it is one, and the cause.
 #[derive(Clone, Copy, Debug)]
 pub(crate) struct Blame {
-    pub(crate) place: Option<usize>,
-    pub(crate) cause: Cause,
+    pub(crate) word_index: Option<usize>,
+    pub(crate) cause: LineFault,
     /// The known word that may have been meant.
     pub(crate) meant: Option<&'static str>,
 }
 
 impl Blame {
-    fn new(place: Option<usize>, cause: Cause) -> Blame {
+    fn new(word_index: Option<usize>, cause: LineFault) -> Blame {
         Blame {
-            place,
+            word_index,
             cause,
             meant: None,
         }
@@ -58,11 +58,11 @@ pub(crate) fn blame_of(alloc: Global, script: &[u8], number: usize) -> Result<Bl
         return blame_of_event(alloc, line);
     }
     if form_of(&EVENTS, first).is_some() {
-        return Ok(Blame::new(Some(0), Cause::NoMoment));
+        return Ok(Blame::new(Some(0), LineFault::NoMoment));
     }
     Ok(Blame {
-        place: Some(0),
-        cause: Cause::NoLine,
+        word_index: Some(0),
+        cause: LineFault::NoLine,
         meant: near(alloc, first, &STARTS)?,
     })
 }
@@ -85,11 +85,11 @@ fn blame_of_event(alloc: Global, line: &[u8]) -> Result<Blame, AllocError> {
     let name = word_at(line, 1);
     if let Some(form) = form_of(&EVENTS, name) {
         let shape = misfit(form, line, 2);
-        return Ok(shape.unwrap_or(Blame::new(None, Cause::Length(form.looks))));
+        return Ok(shape.unwrap_or(Blame::new(None, LineFault::Length(form.looks))));
     }
     Ok(Blame {
-        place: Some(1),
-        cause: Cause::NoEvent,
+        word_index: Some(1),
+        cause: LineFault::NoEvent,
         meant: near(alloc, name, &NAMES)?,
     })
 }
@@ -108,39 +108,39 @@ fn near(
 // Returns the first word after the keyword that can't stand there; `None` where each can.
 fn misfit(form: &Form, line: &[u8], start: usize) -> Option<Blame> {
     let mut words = Words::new(line).skip(start);
-    for (at, place) in form.places.iter().enumerate() {
+    for (at, kind) in form.word_kinds.iter().enumerate() {
         let Some(word) = words.next() else {
-            let ends = at == form.least || at == form.places.len();
+            let ends = at == form.least || at == form.word_kinds.len();
             return if ends {
                 None
             } else {
-                Some(Blame::new(None, Cause::Length(form.looks)))
+                Some(Blame::new(None, LineFault::Length(form.looks)))
             };
         };
-        if !place.takes(word) {
+        if !kind.takes(word) {
             return Some(Blame::new(
                 Some(start.saturating_add(at)),
-                Cause::Wanted(place.wants(), form.looks),
+                LineFault::Wanted(kind.wants(), form.looks),
             ));
         }
     }
     words.next()?;
-    let behind = start.saturating_add(form.places.len());
-    Some(Blame::new(Some(behind), Cause::Length(form.looks)))
+    let behind = start.saturating_add(form.word_kinds.len());
+    Some(Blame::new(Some(behind), LineFault::Length(form.looks)))
 }
 
 // Returns the fault of a header line whose words are right.
 fn blame_of_header(script: &[u8], number: usize, name: &[u8]) -> Blame {
     if Lines::new(script).take(number).any(is_event) {
-        return Blame::new(Some(0), Cause::Behind);
+        return Blame::new(Some(0), LineFault::Behind);
     }
     let again = Lines::new(script).take(number.saturating_sub(1)).any(|line| word_at(line, 0)
         == b"server".as_slice()
         && word_at(line, 1) == name);
     if again {
-        Blame::new(Some(1), Cause::Again)
+        Blame::new(Some(1), LineFault::Again)
     } else {
-        Blame::new(Some(0), Cause::Many)
+        Blame::new(Some(0), LineFault::Many)
     }
 }
 
@@ -157,6 +157,6 @@ pub(crate) fn line_at(script: &[u8], number: usize) -> &[u8] {
         .unwrap_or(b"".as_slice())
 }
 
-fn word_at(line: &[u8], place: usize) -> &[u8] {
-    Words::new(line).nth(place).unwrap_or(b"".as_slice())
+fn word_at(line: &[u8], word_index: usize) -> &[u8] {
+    Words::new(line).nth(word_index).unwrap_or(b"".as_slice())
 }

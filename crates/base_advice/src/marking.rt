@@ -11,8 +11,8 @@ pub struct Span {
     pub end: usize,
 }
 
-/// Returns where the word at this place of a line stands, counted from 0; `None` where the line has no such word.
-pub fn span_of(line: &[u8], place: usize) -> Option<Span>
+/// Returns where the word with this index in a line stands, counted from 0; `None` where the line has no such word.
+pub fn span_of(line: &[u8], word_index: usize) -> Option<Span>
     ensures { IfSome result (λ span. (span.start < span.end) × (span.end ≤ length line.now)) }
 {
     let mut seen = 0usize;
@@ -20,7 +20,7 @@ pub fn span_of(line: &[u8], place: usize) -> Option<Span>
     for (i, byte) in line.iter().enumerate() {
         let blank = *byte == b' ' || *byte == b'\t';
         match start {
-            Some(start) if blank && seen == place => return Some(Span { start, end: i }),
+            Some(start) if blank && seen == word_index => return Some(Span { start, end: i }),
             Some(_) if blank => {
                 seen = seen.saturating_add(1);
                 start = None;
@@ -30,7 +30,7 @@ pub fn span_of(line: &[u8], place: usize) -> Option<Span>
         }
     }
     let start = start?;
-    if seen == place {
+    if seen == word_index {
         Some(Span {
             start,
             end: line.len(),

@@ -1,6 +1,6 @@
 //! The fault of a line in words.
 
-use crate::blame::{Blame, Cause, blame_of, line_at};
+use crate::blame::{Blame, LineFault, blame_of, line_at};
 use crate::marking::{push_marked_line, span_of};
 use std::alloc::{AllocError, Global};
 
@@ -19,7 +19,7 @@ pub fn explain_script_line(
     }
     let line = line_at(script, number);
     let blame = blame_of(alloc, script, number)?;
-    let span = blame.place.and_then(|place| span_of(line, place));
+    let span = blame.word_index.and_then(|index| span_of(line, index));
     push_marked_line(&mut text, number, line, span)?;
     push_cause(&mut text, &blame)?;
     Ok(text)
@@ -41,14 +41,18 @@ pub fn explain_trace_line(
 
 fn push_cause(text: &mut String, blame: &Blame) -> Result<(), AllocError> {
     match blame.cause {
-        Cause::NoLine => text.push_str("  No line begins so: an event begins with its moment.\n")?,
-        Cause::NoEvent => text.push_str("  No event has this name.\n")?,
-        Cause::NoMoment => text.push_str("  An event begins with its moment, in milliseconds.\n")?,
-        Cause::Wanted(wanted, looks) => write!(text, "  {wanted} The line is {looks}.\n")?,
-        Cause::Length(looks) => write!(text, "  The line is {looks}.\n")?,
-        Cause::Behind => text.push_str("  Header lines stand before the first event.\n")?,
-        Cause::Again => text.push_str("  A server of this name stands in an earlier line.\n")?,
-        Cause::Many => text.push_str("  There are at most 64 servers.\n")?,
+        LineFault::NoLine => text.push_str(
+            "  No line begins so: an event begins with its moment.\n",
+        )?,
+        LineFault::NoEvent => text.push_str("  No event has this name.\n")?,
+        LineFault::NoMoment => text.push_str(
+            "  An event begins with its moment, in milliseconds.\n",
+        )?,
+        LineFault::Wanted(wanted, looks) => write!(text, "  {wanted} The line is {looks}.\n")?,
+        LineFault::Length(looks) => write!(text, "  The line is {looks}.\n")?,
+        LineFault::Behind => text.push_str("  Header lines stand before the first event.\n")?,
+        LineFault::Again => text.push_str("  A server of this name stands in an earlier line.\n")?,
+        LineFault::Many => text.push_str("  There are at most 64 servers.\n")?,
     }
     match blame.meant {
         Some(meant) => write!(text, "  Did you mean {meant}?\n"),

@@ -17,13 +17,14 @@ use anyhow::{Context, Result, bail};
 use base_places::PlaceSet;
 use base_verdict::Ending;
 use dispatch_core::Core;
+use dispatch_reports::EndedWindow;
 use dispatch_state::Ticketed;
 use due_key::{Class, Moment, Offset};
-use grant_board::{Board, BoardName, KeeperSeat, RelaySeat, Taking};
+use grant_board::{Board, KeeperSeat, RelaySeat, Taking};
 use late_cert::Running;
-use locked_book::Wanted;
+use locked_book::{DeskName, Wanted};
 use log_entries::{Refusal, ServerSet, Servers, Setup};
-use shared_desk::{Desk, Queues};
+use shared_desk::{Desk, DeskQueue};
 use std::alloc::Global;
 use std::collections::VecDeque;
 use std::env;
@@ -49,7 +50,7 @@ struct Asked {
 /// A fresh dispatcher and the board for its places and limits.
 #[derive(Drop)]
 struct Opened {
-    core: Core<Queues>,
+    core: Core<DeskQueue>,
     board: Board,
     seat: KeeperSeat,
     relay: RelaySeat,
@@ -137,9 +138,10 @@ fn setup_of(alloc: Global, places: usize, limit: u32) -> Result<Setup>
     })
 }
 
-fn start<N: BoardName>(opened: Opened) -> (Desk<N>, RelaySeat)
+fn start<N: DeskName>(opened: Opened) -> (Desk<N>, RelaySeat)
     requires named { opened.board ≡ N.board }
     requires terms { N.terms ≡ terms_for opened.core.setup }
+    requires setup { N.setup ≡ opened.core.setup }
     ensures board { result.1.board ≡ N.board }
     ensures view { result.1.view ≡ new_relay N.terms true }
 {
@@ -154,16 +156,17 @@ fn start<N: BoardName>(opened: Opened) -> (Desk<N>, RelaySeat)
 }
 
 // Serves the requests with one thread, and returns how many were served.
-fn one<N: BoardName, R: Wait>(rt: &R, alloc: Global, opened: Opened, share: Share) -> u64
+fn one<N: DeskName, R: Wait>(rt: &R, alloc: Global, opened: Opened, share: Share) -> u64
     requires named { opened.board ≡ N.board }
     requires terms { N.terms ≡ terms_for opened.core.setup }
+    requires setup { N.setup ≡ opened.core.setup }
 {
     let (desk, relay) = start::<N>(opened);
     serve(rt, alloc, &desk, relay, share)
 }
 
 // Serves the requests with four threads, a quarter each.
-fn four<N: BoardName + Send + Sync, R: Threads + Wait + Sync>(
+fn four<N: DeskName + Send + Sync, R: Threads + Wait + Sync>(
     rt: &R,
     alloc: Global,
     opened: Opened,
@@ -171,6 +174,7 @@ fn four<N: BoardName + Send + Sync, R: Threads + Wait + Sync>(
 ) -> u64
     requires named { opened.board ≡ N.board }
     requires terms { N.terms ≡ terms_for opened.core.setup }
+    requires setup { N.setup ≡ opened.core.setup }
 {
     let (desk, first) = start::<N>(opened);
     let seats = split(desk.board(), first);
@@ -197,7 +201,7 @@ fn split(board: &Board, first: RelaySeat) -> ((RelaySeat, RelaySeat), (RelaySeat
     ((first, second), (third, fourth))
 }
 
-fn pairs<N: BoardName + Send + Sync, R: Threads + Wait + Sync>(
+fn pairs<N: DeskName + Send + Sync, R: Threads + Wait + Sync>(
     rt: &R,
     alloc: Global,
     desk: &Desk<N>,
@@ -222,7 +226,7 @@ fn pairs<N: BoardName + Send + Sync, R: Threads + Wait + Sync>(
     some.saturating_add(others)
 }
 
-fn two<N: BoardName + Send + Sync, R: Threads + Wait + Sync>(
+fn two<N: DeskName + Send + Sync, R: Threads + Wait + Sync>(
     rt: &R,
     alloc: Global,
     desk: &Desk<N>,
@@ -246,7 +250,7 @@ fn two<N: BoardName + Send + Sync, R: Threads + Wait + Sync>(
 }
 
 // Serves a thread's share: the oldest request is served, and another one arrives in its place.
-fn serve<N: BoardName, R: Wait>(
+fn serve<N: DeskName, R: Wait>(
     rt: &R,
     alloc: Global,
     desk: &Desk<N>,
@@ -289,14 +293,14 @@ fn serve<N: BoardName, R: Wait>(
 
 /// A place of the board and its request's ticket.
 #[derive(Drop)]
-struct Stands<N: BoardName> {
+struct Stands<N: DeskName> {
     it: Ticketed,
     of: PhantomData<N>,
     ghost in_range: { it.place < N.terms.places },
 }
 
 // Lets a request arrive. Where the log is full, a new window begins first.
-fn arrive<N: BoardName, R: Wait>(
+fn arrive<N: DeskName, R: Wait>(
     rt: &R,
     alloc: Global,
     desk: &Desk<N>,
@@ -305,14 +309,14 @@ fn arrive<N: BoardName, R: Wait>(
     let moment = Moment::new(moment)?;
     match admit(rt, alloc, desk, moment) {
         Err(Refusal::LogFull) => {
-            let _ = desk.roll(rt, alloc);
+            begin_window(rt, alloc, desk);
             admit(rt, alloc, desk, moment).ok()
         }
         admitted => admitted.ok(),
     }
 }
 
-fn admit<N: BoardName, R: Wait>(
+fn admit<N: DeskName, R: Wait>(
     rt: &R,
     alloc: Global,
     desk: &Desk<N>,
@@ -332,7 +336,7 @@ fn admit<N: BoardName, R: Wait>(
 }
 
 // Takes and posts the request's pass where it is offered. Says whether it was.
-fn take<N: BoardName>(desk: &Desk<N>, relay: &mut RelaySeat, stands: &Stands<N>) -> bool
+fn take<N: DeskName>(desk: &Desk<N>, relay: &mut RelaySeat, stands: &Stands<N>) -> bool
     requires named { relay.old.board ≡ N.board }
     requires terms { relay.old.view.terms ≡ N.terms }
     ensures { (relay.new.board ≡ N.board) × (relay.new.view.terms ≡ N.terms) }
@@ -346,11 +350,24 @@ fn take<N: BoardName>(desk: &Desk<N>, relay: &mut RelaySeat, stands: &Stands<N>)
     }
 }
 
-fn turn<N: BoardName, R: Wait>(rt: &R, alloc: Global, desk: &Desk<N>, moment: u64) {
+// Begins the next window; what is told of the one that ended isn't used.
+fn begin_window<N: DeskName, R: Wait>(rt: &R, alloc: Global, desk: &Desk<N>) {
+    match desk.roll(rt, alloc) {
+        Ok(
+            EndedWindow {
+                reports: _,
+                servers: _,
+            },
+        ) => {}
+        Err(_) => {}
+    }
+}
+
+fn turn<N: DeskName, R: Wait>(rt: &R, alloc: Global, desk: &Desk<N>, moment: u64) {
     let mut woken = PlaceSet::new();
     let moment = Moment::new(moment).unwrap_or(Moment::zero());
     if desk.turn(rt, moment, &mut woken).is_err() {
-        let _ = desk.roll(rt, alloc);
+        begin_window(rt, alloc, desk);
         let _ = desk.turn(rt, moment, &mut woken);
     }
 }

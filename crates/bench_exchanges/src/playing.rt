@@ -6,9 +6,9 @@ use crate::script::Script;
 use crate::sides::{Past, Side, Sink, Source, Told};
 use crate::site::Site;
 use exchange_driver::{Duplex, Line, Moved, Rest, Settings};
-use exchange_events::{Clock, Rules};
+use exchange_events::{Rules, TimeoutKind};
 use exchange_machine::Terms;
-use exchange_seated::{Given, Notice, Posting, Queued, Seated, Served, Stage};
+use exchange_seated::{Given, Notice, Posting, Seated, Served, Stage, WaitingExchange};
 use grant_board::BoardName;
 use relay_http::{Additions, Persistence};
 use std::alloc::{AllocError, Global};
@@ -50,7 +50,7 @@ pub(crate) enum Then<N: BoardName + Ledger> {
     /// There is nothing to do until something happens.
     Rests(Seated<N>),
     /// The exchange waits for a pass.
-    Waits(Queued),
+    Waits(WaitingExchange),
     Over,
 }
 
@@ -183,7 +183,7 @@ fn act<N: BoardName + Ledger>(
         return tell(play, site, seated, Notice::ClientEnd);
     }
     match seated.stage() {
-        Stage::Asking | Stage::Passing => serve(play, site, seated),
+        Stage::Asking | Stage::Forwarding => serve(play, site, seated),
         Stage::Waiting => match seated.into_queued() {
             Ok(queued) => Then::Waits(queued),
             Err(seated) => Then::Rests(seated),
@@ -387,7 +387,7 @@ pub(crate) fn name_of(stage: Stage) -> &'static str {
         Stage::Asking => "asking",
         Stage::Waiting => "waiting",
         Stage::Dialing => "dialing",
-        Stage::Passing => "passing",
+        Stage::Forwarding => "forwarding",
         Stage::Telling => "telling",
         Stage::Over => "over",
     }

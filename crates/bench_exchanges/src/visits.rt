@@ -7,7 +7,7 @@ use crate::script::Script;
 use crate::sides::Told;
 use crate::site::Site;
 use base_verdict::Verdict;
-use exchange_seated::{Notice, Queued, Seated};
+use exchange_seated::{Notice, Seated, WaitingExchange};
 use grant_board::{Board, BoardName, RelaySeat};
 use std::alloc::{AllocError, Global};
 use std::marker::Brand;
@@ -19,9 +19,9 @@ enum Entry {
     /// A client connects.
     Comes,
     /// The exchange that waited gets its pass.
-    Granted(Queued),
+    Granted(WaitingExchange),
     /// The exchange that waited is refused.
-    Refused(Queued),
+    Refused(WaitingExchange),
 }
 
 /// Plays a script, and returns the record of the client's connection.
@@ -42,7 +42,7 @@ pub(crate) fn played(alloc: Global, script: Script) -> Result<Record, AllocError
 }
 
 // Returns how the exchange that waits goes on; `None` where its client leaves, or the script ends.
-fn verdict_of(play: &mut Play, queued: Queued) -> Option<Entry> {
+fn verdict_of(play: &mut Play, queued: WaitingExchange) -> Option<Entry> {
     for _ in 0..u32::MAX {
         if play.ended && play.settings.rules.aborts {
             return None;
@@ -63,7 +63,11 @@ fn verdict_of(play: &mut Play, queued: Queued) -> Option<Entry> {
 }
 
 // Drives an exchange until it waits for a pass or is over.
-fn visit(alloc: Global, play: &mut Play, entry: Entry) -> Result<Option<Queued>, AllocError> {
+fn visit(
+    alloc: Global,
+    play: &mut Play,
+    entry: Entry,
+) -> Result<Option<WaitingExchange>, AllocError> {
     let (board, keeper, relay) = Board::open(alloc, 1, &[1])?;
     let mut keeper = keeper;
     if let Entry::Granted(_) = &entry {
@@ -84,7 +88,7 @@ fn enter<N: BoardName + Ledger>(
     alloc: Global,
     opened: (&Board, RelaySeat, Blank),
     entry: Entry,
-) -> Result<Option<Queued>, AllocError>
+) -> Result<Option<WaitingExchange>, AllocError>
     requires named { (opened.0.now ≡ N.board) × (opened.1.board ≡ N.board) × (opened.1.view.terms ≡ N.terms) }
     requires idle { opened.1.view.passes ≡ [] }
     requires place { 0 < N.terms.places }
@@ -112,7 +116,7 @@ fn attend<N: BoardName + Ledger>(
     play: &mut Play,
     site: &mut Site<'_, N>,
     then: Then<N>,
-) -> Option<Queued> {
+) -> Option<WaitingExchange> {
     let mut then = then;
     for _ in 0..u32::MAX {
         match then {
@@ -149,7 +153,7 @@ fn stop<N: BoardName + Ledger>(
     play: &mut Play,
     site: &mut Site<'_, N>,
     then: Then<N>,
-) -> Option<Queued> {
+) -> Option<WaitingExchange> {
     match then {
         Then::Waits(queued) => Some(queued),
         Then::Over => None,

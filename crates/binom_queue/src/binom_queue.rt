@@ -82,15 +82,15 @@ impl<K: Ord + Drop, V: Drop> PendQueue<K, V> for BinomQueue<K, V> {
     ghost links_of_merge = { λ held more. count_ones held + count_ones more - count_ones (held + more) };
 
     /// Allocates nothing, and never fails.
-    fn with_room(alloc: Global, places: usize) -> Result<Self, AllocError>
+    fn with_room(alloc: Global, most: usize) -> Result<Self, AllocError>
         ensures empty { IfOk result (λ queue. queue.pairs ≡ []) }
-        ensures room { IfOk result (λ queue. queue.room ≡ places) }
+        ensures room { IfOk result (λ queue. queue.room ≡ most) }
         ensures made { IsOk result }
     {
         Ok(BinomQueue {
             roots: Forest::Empty,
             len: 0,
-            room: places,
+            room: most,
             links: Links::of_new_queue(alloc),
         })
     }

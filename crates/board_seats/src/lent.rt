@@ -1,9 +1,10 @@
-ghost use Rattle.std.specs.Prelude.{◌≡◌, ◌<◌, [], ◌∷◌, IfOk};
+ghost use Rattle.std.specs.Prelude.{◌≡◌, ◌<◌, [], ◌∷◌, IfOk, IfErr};
 ghost use Rattle.grant_board.specs.BoardWords.{MayEnd};
-ghost use Rattle.grant_board.specs.RelayCalls.{post_after};
+ghost use Rattle.grant_board.specs.RelayCalls.{Answers, post_after};
+ghost use Rattle.grant_board.specs.declared.pass.Taking.TheVariants as taking;
 
 use crate::asking::TakeResult;
-use crate::counted::Out;
+use crate::counted::LentThing;
 use crate::held::Held;
 use crate::idle::Idle;
 use base_verdict::{Ending, Verdict};
@@ -13,23 +14,23 @@ use std::sync::ledger::Ledger;
 /// A seat that is lent, without a pass. It has no `Drop`: it has to be given back.
 pub struct Lent<N: BoardName + Ledger> {
     idle: Idle<N>,
-    out: Out<N>,
+    out: LentThing<N>,
 }
 
 /// A seat that is lent, with its pass. It has no `Drop`: its pass has to be posted, and the seat given back.
 pub struct Taken<N: BoardName + Ledger> {
     held: Held<N>,
-    out: Out<N>,
+    out: LentThing<N>,
 }
 
 impl<N: BoardName + Ledger> Lent<N> {
-    pub(crate) fn of(idle: Idle<N>, out: Out<N>) -> Lent<N>
+    pub(crate) fn of(idle: Idle<N>, out: LentThing<N>) -> Lent<N>
         ensures { result.idle ≡ idle }
     {
         Lent { idle, out }
     }
 
-    pub(crate) fn into_parts(self) -> (Idle<N>, Out<N>)
+    pub(crate) fn into_parts(self) -> (Idle<N>, LentThing<N>)
         ensures { result.0 ≡ self.idle }
     {
         let Lent { idle, out } = self;
@@ -40,7 +41,9 @@ impl<N: BoardName + Ledger> Lent<N> {
     pub fn take(self, board: &Board, place: usize, ticket: u64) -> Result<Taken<N>, Lent<N>>
         requires same_board { board.now ≡ N.board }
         requires in_range { place < N.terms.places }
-        ensures { IfOk result (λ taken. (taken.held.pass.place ≡ place) × (taken.held.pass.ticket ≡ ticket)) }
+        ensures taken { IfOk result (λ got. Answers self.idle.seat.view got.held.seat.view place ticket (taking.Taken got.held.pass)) }
+        ensures pass { IfOk result (λ got. (got.held.pass.place ≡ place) × (got.held.pass.ticket ≡ ticket)) }
+        ensures back { IfErr result (λ lent. Answers self.idle.seat.view lent.idle.seat.view place ticket taking.NotYet) }
     {
         let Lent { idle, out } = self;
         match idle.take(board, place, ticket) {
@@ -52,7 +55,7 @@ impl<N: BoardName + Ledger> Lent<N> {
 
 impl<N: BoardName + Ledger> Taken<N> {
     /// Joins a lent seat and its pass.
-    pub fn new(seat: RelaySeat, pass: Pass, out: Out<N>) -> Taken<N>
+    pub fn new(seat: RelaySeat, pass: Pass, out: LentThing<N>) -> Taken<N>
         requires named { seat.board ≡ N.board }
         requires terms { seat.view.terms ≡ N.terms }
         requires held { seat.view.passes ≡ pass ∷ [] }
@@ -91,7 +94,7 @@ impl<N: BoardName + Ledger> Taken<N> {
     }
 
     /// Separates the seat, its pass, and the token that the seat is lent.
-    pub fn into_parts(self) -> (RelaySeat, Pass, Out<N>)
+    pub fn into_parts(self) -> (RelaySeat, Pass, LentThing<N>)
         ensures seat { result.0 ≡ self.held.seat }
         ensures pass { result.1 ≡ self.held.pass }
         ensures named { result.0.board ≡ N.board }

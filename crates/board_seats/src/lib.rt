@@ -14,7 +14,7 @@ mod lent;
 mod seats;
 
 pub use asking::TakeResult;
-pub use counted::{Counted, Out};
+pub use counted::{LentThing, LentThings};
 pub use held::Held;
 pub use idle::Idle;
 pub use lent::{Lent, Taken};

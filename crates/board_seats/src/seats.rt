@@ -1,6 +1,6 @@
 ghost use Rattle.std.specs.Prelude.{◌≡◌, ◌+◌, ◌≤◌, MatchOption, vec_len, vec_capacity};
 
-use crate::counted::Counted;
+use crate::counted::LentThings;
 use crate::idle::Idle;
 use crate::lent::Lent;
 use grant_board::BoardName;
@@ -10,7 +10,7 @@ use std::sync::ledger::{Blank, Ledger};
 #[derive(Drop)]
 pub struct Seats<N: BoardName + Ledger> {
     idle: Vec<Idle<N>>,
-    held: Counted<N>,
+    held: LentThings<N>,
     ghost together: { vec_len idle + held.out ≡ held.most },
     ghost room: { held.most ≤ vec_capacity idle },
 }
@@ -28,7 +28,7 @@ impl<N: BoardName + Ledger> Seats<N> {
         let most = idle.len();
         Seats {
             idle,
-            held: Counted::open(blank, most),
+            held: LentThings::open(blank, most),
         }
     }
 

@@ -55,11 +55,11 @@ impl Health {
         ensures health { (rise fall : ℕ) (results : List Bool) → IsHealthOf rise fall results self.old → IsHealthOf rise fall (results ++ ok ∷ []) self.new }
         ensures change { (rise fall : ℕ) (results : List Bool) → IsHealthOf rise fall results self.old → result ≡ change_between (is_up_after rise fall results) (is_up_after rise fall (results ++ ok ∷ [])) }
     {
-        let limit = self.limit();
+        let needed = self.results_to_turn();
         if ok == self.up {
             self.against = 0;
             Change::Stay
-        } else if self.against + 1 < limit {
+        } else if self.against + 1 < needed {
             self.against += 1;
             Change::Stay
         } else {
@@ -70,7 +70,7 @@ impl Health {
     }
 
     // Returns the number of results in a row that reverse the standing.
-    fn limit(&self) -> u32
+    fn results_to_turn(&self) -> u32
         ensures { result ≡ results_to_turn self.now }
     {
         if self.up { self.fall } else { self.rise }

@@ -134,7 +134,7 @@ fn line_end(line: &[u8]) -> &'static [u8] {
 }
 
 /// Returns the line number of a fault.
-fn place_of(fault: ConfigFault) -> usize {
+fn line_index(fault: ConfigFault) -> usize {
     (fault.line as usize).saturating_sub(1)
 }
 
@@ -145,7 +145,7 @@ fn set_right(
     fault: ConfigFault,
     word: Option<usize>,
 ) -> Result<(), AllocError> {
-    let at = place_of(fault);
+    let at = line_index(fault);
     let kept = if fault.cause == FaultCause::Section {
         merge(alloc, lines, at)?
     } else {
@@ -180,7 +180,7 @@ fn merge(alloc: Global, lines: &mut Vec<Vec<u8>>, at: usize) -> Result<Vec<u8>, 
     Ok(Vec::new(alloc))
 }
 
-/// Returns the place where the next section begins.
+/// Returns the index of the line where the next section begins.
 fn next_section(lines: &[Vec<u8>], at: usize) -> usize {
     for (i, line) in lines.iter().enumerate() {
         if at < i && is_section(first_word(line)) {
@@ -190,8 +190,8 @@ fn next_section(lines: &[Vec<u8>], at: usize) -> usize {
     lines.len()
 }
 
-/// Returns the place where another section has ended the `listen` before this line; this line's own
-/// place where none has.
+/// Returns the index of the line where another section has ended the `listen` before this line; this line's own
+/// index where none has.
 fn left_at(lines: &[Vec<u8>], at: usize) -> usize {
     let mut inside = false;
     for (i, line) in lines.iter().enumerate() {
@@ -221,16 +221,16 @@ fn front_instead(
     alloc: Global,
     lines: &[Vec<u8>],
     at: usize,
-    place: usize,
+    word_index: usize,
 ) -> Result<Vec<u8>, AllocError> {
     let Some(line) = lines.get(at) else {
         return Ok(Vec::new(alloc));
     };
     let word = first_word(line);
-    if place > 0 && is_one_of(&FRONTS, word) {
-        let front = front_of(line, place).unwrap_or(b"".as_slice());
+    if word_index > 0 && is_one_of(&FRONTS, word) {
+        let front = front_of(line, word_index).unwrap_or(b"".as_slice());
         let left = fault_of_front(alloc, lines, at, front)?;
-        if left.is_none_or(|fault| place_of(fault) != at) {
+        if left.is_none_or(|fault| line_index(fault) != at) {
             return Vec::from_slice(alloc, front);
         }
     }
@@ -245,9 +245,9 @@ fn first_word(line: &[u8]) -> &[u8] {
     word_at(line, 0)
 }
 
-fn word_at(line: &[u8], place: usize) -> &[u8] {
+fn word_at(line: &[u8], word_index: usize) -> &[u8] {
     let mut words = Words::new(without_comment(line));
-    for _ in 0..place {
+    for _ in 0..word_index {
         if words.next().is_none() {
             break;
         }
@@ -264,17 +264,17 @@ fn describe(
     fault: ConfigFault,
     word: Option<usize>,
 ) -> Result<(), AllocError> {
-    let Some(line) = lines.get(place_of(fault)) else {
+    let Some(line) = lines.get(line_index(fault)) else {
         return Ok(());
     };
-    let span = word.and_then(|place| span_of(without_comment(line), place));
+    let span = word.and_then(|index| span_of(without_comment(line), index));
     push_marked_line(text, fault.line as usize, line, span)?;
     let cause = fault.cause;
     let first = first_word(line);
     let said = sentence(cause, first);
     writeln!(text, "  {cause}: {said}")?;
     push_meant(alloc, text, line, cause, word)?;
-    let at_fault = word.map_or(b"".as_slice(), |place| word_at(line, place));
+    let at_fault = word.map_or(b"".as_slice(), |index| word_at(line, index));
     if let Some(advice) = advice(cause, first, word_at(line, 1), at_fault) {
         writeln!(text, "  instead: {advice}")?;
     }
@@ -289,20 +289,20 @@ fn push_meant(
     cause: FaultCause,
     word: Option<usize>,
 ) -> Result<(), AllocError> {
-    let (FaultCause::Keyword, Some(place)) = (cause, word) else {
+    let (FaultCause::Keyword, Some(index)) = (cause, word) else {
         return Ok(());
     };
     let first = first_word(line);
     if has_own_advice(first, word_at(line, 1)) {
         return Ok(());
     }
-    match meant(alloc, first, place, word_at(line, place))? {
+    match meant(alloc, first, index, word_at(line, index))? {
         Some(meant) => writeln!(text, "  Did you mean {meant}?"),
         None => Ok(()),
     }
 }
 
-/// Returns the place of the word at fault among a line's words; `None` where the line ends too early.
+/// Returns the index of the word at fault among a line's words; `None` where the line ends too early.
 ///
 /// Words are read from the left. So the word is the last one of the shortest beginning of the line
 /// that has the fault; where the line has too many words, it is the first one after the longest
@@ -312,7 +312,7 @@ fn word_at_fault(
     lines: &[Vec<u8>],
     fault: ConfigFault,
 ) -> Result<Option<usize>, AllocError> {
-    let at = place_of(fault);
+    let at = line_index(fault);
     let Some(line) = lines.get(at) else {
         return Ok(None);
     };

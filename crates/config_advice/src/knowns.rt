@@ -1,4 +1,4 @@
-//! The words that may stand at a place, and the one that may have been meant by an unknown word.
+//! The words that may stand at an index of a line, and the one that may have been meant by an unknown word.
 
 use base_advice::nearest;
 use std::alloc::{AllocError, Global};
@@ -33,15 +33,15 @@ const SETTINGS: [&str; 7] = [
 
 const ACTIONS: [&str; 2] = ["set-priority-class", "set-priority-offset"];
 
-/// Returns the known word that may have been meant at this place of a line; `None` where none is near.
+/// Returns the known word that may have been meant at this index of a line; `None` where none is near.
 pub(crate) fn meant(
     alloc: Global,
     first: &[u8],
-    place: usize,
+    word_index: usize,
     word: &[u8],
 ) -> Result<Option<&'static str>, AllocError> {
     match str::from_utf8(word) {
-        Ok(word) if place == 0 => nearest(alloc, word, &LINES),
+        Ok(word) if word_index == 0 => nearest(alloc, word, &LINES),
         Ok(word) => nearest(alloc, word, known_behind(first)),
         Err(_) => Ok(None),
     }

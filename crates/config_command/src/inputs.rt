@@ -3,7 +3,7 @@
 use clap::{Arg, ArgAction, ArgMatches};
 use std::alloc::{AllocError, Global};
 
-/// The place that a script or a trace is read from.
+/// The source of a script or a trace.
 #[derive(Debug, PartialEq, Eq, Drop)]
 pub enum Input {
     /// Standard input, since there is no argument.

@@ -3,7 +3,7 @@
 use clap::{Arg, ArgAction, ArgMatches, Command};
 use std::alloc::{AllocError, Global};
 
-/// The logs to write and their places: `-` is standard output for exchanges, and standard error for events.
+/// The logs to write and their files: `-` is standard output for exchanges, and standard error for events.
 #[derive(Debug, PartialEq, Eq, Drop)]
 pub struct LogWords {
     /// The file with a line for each exchange.

@@ -10,7 +10,7 @@ use std::alloc::{AllocError, Global};
 
 /// The sizes of a proxy, as the options give them; they aren't checked yet.
 #[derive(Clone, Copy, Debug, PartialEq, Eq)]
-pub struct Numbers {
+pub struct RunNumbers {
     pub workers: Option<u32>,
     pub loops: Option<u32>,
     pub waiting: Option<u32>,
@@ -28,7 +28,7 @@ pub struct Numbers {
 }
 
 /// The longest pause of a client between two requests where no option says it, in milliseconds.
-const STAY: &str = "10000";
+const KEEP_ALIVE_TIMEOUT: &str = "10000";
 
 /// The number of unused connections of a server where no option says it.
 const IDLE: &str = "32";
@@ -38,7 +38,7 @@ const MOST_IDLE: u32 = 4096;
 
 /// The message for a number that can't be read or is out of its range.
 pub const RANGES: &str =
-    "a number is out of its range: 1 to 256 workers, 1 to 64 loops, 1 to 65536 waiting, 1 to 4096 places or idle connections, 0 to 999999999 requests, 1 to 999999999 ms, and 100 ms at least of --window";
+    "a number is out of its range: 1 to 256 workers, 1 to 64 loops, 1 to 65536 waiting, 1 to 4096 places or unused connections, 0 to 999999999 requests, 1 to 999999999 ms, and 100 ms at least of --window";
 
 const HELP: &str = "\
 Listens where the configuration says, and hands each request to a server, or lets it
@@ -71,16 +71,16 @@ const PLACES: &str = "Requests that are served or wait, 1 to 4096";
 const WAITING: &str =
     "While so many requests wait beyond the places, no client is accepted, 1 to 65536 [default: 65536]";
 
-const KEEP: &str = "Lets a client stay for further requests on its connection";
+const KEEP: &str = "Lets a client keep_alive for further requests on its connection";
 
-const STAY_HELP: &str =
+const KEEP_ALIVE_HELP: &str =
     "A client that stays and asks for nothing is closed after so many ms, from 1 on";
 
 const REUSE: &str =
     "Uses connections of servers for further requests: idempotent ones without a body";
 
 const IDLE_HELP: &str =
-    "So many unused connections of a server stay open at most, 1 to 4096, with --reuse";
+    "So many unused connections of a server keep_alive open at most, 1 to 4096, with --reuse";
 
 const WINDOW: &str =
     "Ends a window of the log after so many ms, too, and prints its reports with the time, from 100 on";
@@ -120,10 +120,15 @@ fn with_bounds<'a>(alloc: Global, command: Command<'a>) -> Result<Command<'a>, A
 
 fn with_keeping<'a>(alloc: Global, command: Command<'a>) -> Result<Command<'a>, AllocError> {
     let keep = flag(alloc, "keep-alive", KEEP);
-    let stay = bound(alloc, "keep-alive-timeout", STAY, STAY_HELP);
+    let keep_alive = bound(
+        alloc,
+        "keep-alive-timeout",
+        KEEP_ALIVE_TIMEOUT,
+        KEEP_ALIVE_HELP,
+    );
     let reuse = flag(alloc, "reuse", REUSE);
     let idle = bound(alloc, "reuse-idle", IDLE, IDLE_HELP);
-    command.arg(keep)?.arg(stay)?.arg(reuse)?.arg(idle)
+    command.arg(keep)?.arg(keep_alive)?.arg(reuse)?.arg(idle)
 }
 
 fn flag<'a>(alloc: Global, name: &'a str, help: &'a str) -> Arg<'a> {
@@ -145,29 +150,29 @@ fn size<'a>(alloc: Global, name: &'a str) -> Arg<'a> {
 }
 
 /// Returns the numbers of the options; `None` where one of them isn't a number.
-pub(crate) fn numbers_of(words: &ArgMatches) -> Option<Numbers> {
+pub(crate) fn numbers_of(words: &ArgMatches) -> Option<RunNumbers> {
     let workers = given(words, "workers").ok()?;
     let loops = given(words, "loops").ok()?;
     let waiting = given(words, "waiting").ok()?;
     let places = given(words, "places").ok()??;
     let requests = given(words, "requests").ok()??;
-    let stay = given(words, "keep-alive-timeout").ok()??;
+    let keep_alive = given(words, "keep-alive-timeout").ok()??;
     let idle = given(words, "reuse-idle").ok()??;
     let window = given(words, "window").ok()?;
-    if stay == 0
+    if keep_alive == 0
         || idle == 0
         || MOST_IDLE < idle
         || window.map_or(false, |window| window < SHORTEST_WINDOW)
     {
         return None;
     }
-    Some(Numbers {
+    Some(RunNumbers {
         workers,
         loops,
         waiting,
         places,
         requests,
-        keeping: asked_for(words, "keep-alive", stay),
+        keeping: asked_for(words, "keep-alive", keep_alive),
         reusing: asked_for(words, "reuse", idle),
         window,
         forwarded_for: words.get_flag("forwarded-for"),

@@ -15,7 +15,7 @@ pub struct ControlWords {
 
 /// The command that a proxy is sent on its control socket.
 #[derive(Debug, PartialEq, Eq, Drop)]
-pub struct Order {
+pub struct SentCommand {
     pub path: String,
     pub words: Vec<String>,
 }
@@ -93,11 +93,11 @@ pub(crate) fn controls_of(alloc: Global, words: &ArgMatches) -> Result<ControlWo
 }
 
 /// Returns what the arguments of `ctl` say.
-pub(crate) fn order_of(alloc: Global, words: &ArgMatches) -> Result<Order, AllocError> {
+pub(crate) fn order_of(alloc: Global, words: &ArgMatches) -> Result<SentCommand, AllocError> {
     let path = String::from_str(alloc, words.get_str("PATH").unwrap_or_default())?;
     let mut all = Vec::new(alloc);
     for word in words.get_strs("COMMAND").unwrap_or_default() {
         all.push(String::from_str(alloc, word)?)?;
     }
-    Ok(Order { path, words: all })
+    Ok(SentCommand { path, words: all })
 }

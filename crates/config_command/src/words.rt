@@ -2,8 +2,8 @@ use crate::commands::commands;
 use crate::converting::{Sections, sections_of};
 use crate::inputs::{Input, input_of};
 use crate::logging::{LogWords, logs_of};
-use crate::running::{Numbers, RANGES, numbers_of};
-use crate::steering::{ControlWords, Order, controls_of, order_of};
+use crate::running::{RANGES, RunNumbers, numbers_of};
+use crate::steering::{ControlWords, SentCommand, controls_of, order_of};
 use crate::watching::{AdminWords, admin_of};
 use clap::error::ErrorKind;
 use clap::{ArgMatches, Command, Error};
@@ -13,14 +13,14 @@ use std::alloc::{AllocError, Global};
 
 /// The name of the queue and the class to which a picture is limited.
 #[derive(Debug, PartialEq, Eq, Drop)]
-pub struct Only {
+pub struct DrawnQueue {
     pub queue: String,
     pub class: Class,
 }
 
 /// The parts of a proxy beside its clients and servers.
 #[derive(Debug, PartialEq, Eq, Drop)]
-pub struct Beside {
+pub struct ServiceWords {
     pub controls: ControlWords,
     pub logs: LogWords,
     pub admin: AdminWords,
@@ -30,7 +30,7 @@ pub struct Beside {
 #[derive(Debug, PartialEq, Eq, Drop)]
 pub enum Subcommand {
     /// Serve as the configuration in the file with this name says, with these sizes.
-    Run(String, Numbers, Beside),
+    Run(String, RunNumbers, ServiceWords),
     /// Run a script.
     Replay(Input),
     /// Show the proxy at work; the flag says whether it goes on afterwards.
@@ -40,13 +40,13 @@ pub enum Subcommand {
     /// Check it, and explain every faulty line and its replacement.
     Explain(String),
     /// Draw a script or a trace: all of it, or one queue and class.
-    Draw(Input, Option<Only>),
+    Draw(Input, Option<DrawnQueue>),
     /// Tell the story of this ticket.
     Tell(Input, u64),
     /// Convert a configuration of HAProxy to one of this proxy.
     Convert(Sections),
     /// Send a command to a running proxy.
-    Control(Order),
+    Control(SentCommand),
     /// Nothing more: help or an error was printed, and this is the exit status.
     Nothing(u8),
 }
@@ -99,7 +99,7 @@ fn run_of(rt: &(impl Eprint + AllocGlobal), words: &ArgMatches) -> Subcommand {
         let _ = rt.eprintln(RANGES);
         return Subcommand::Nothing(2);
     };
-    let Ok(beside) = beside_of(rt.alloc(), words) else {
+    let Ok(beside) = service_words_of(rt.alloc(), words) else {
         return no_memory(rt);
     };
     match String::from_str(rt.alloc(), words.get_str("FILE").unwrap_or_default()) {
@@ -108,8 +108,8 @@ fn run_of(rt: &(impl Eprint + AllocGlobal), words: &ArgMatches) -> Subcommand {
     }
 }
 
-fn beside_of(alloc: Global, words: &ArgMatches) -> Result<Beside, AllocError> {
-    Ok(Beside {
+fn service_words_of(alloc: Global, words: &ArgMatches) -> Result<ServiceWords, AllocError> {
+    Ok(ServiceWords {
         controls: controls_of(alloc, words)?,
         logs: logs_of(alloc, words)?,
         admin: admin_of(alloc, words)?,
@@ -162,7 +162,7 @@ fn draw_of(rt: &(impl Eprint + AllocGlobal), words: &ArgMatches) -> Subcommand {
         return no_memory(rt);
     };
     let class = Class::clamp(class);
-    Subcommand::Draw(input, Some(Only { queue, class }))
+    Subcommand::Draw(input, Some(DrawnQueue { queue, class }))
 }
 
 fn tell_of(rt: &(impl Eprint + AllocGlobal), words: &ArgMatches) -> Subcommand {

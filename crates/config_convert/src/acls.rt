@@ -67,7 +67,7 @@ pub(crate) struct Acls {
 }
 
 impl Acls {
-    /// Collects a section's ACLs, with names that are free here.
+    /// Gathers a section's ACLs, with names that are free here.
     pub(crate) fn new(
         alloc: Global,
         section: &Section,

@@ -6,14 +6,17 @@ use std::alloc::{AllocError, Global};
 
 /// An address of a `bind` line.
 #[derive(Debug, Drop)]
-pub(crate) struct Place {
+pub(crate) struct BindAddress {
     /// The address in the profile's form.
     pub(crate) text: Vec<u8>,
     pub(crate) port: u32,
 }
 
 /// Returns the first address of a `bind` line that the profile allows; `None` where it allows none.
-pub(crate) fn place_of(alloc: Global, line: &Line) -> Result<Option<Place>, AllocError> {
+pub(crate) fn bind_address_of(
+    alloc: Global,
+    line: &Line,
+) -> Result<Option<BindAddress>, AllocError> {
     if line.is_odd {
         return Ok(None);
     }
@@ -22,8 +25,8 @@ pub(crate) fn place_of(alloc: Global, line: &Line) -> Result<Option<Place>, Allo
         .iter()
         .any(|word| word.as_slice() == b"v4v6".as_slice());
     for address in line.word(1).split(|byte| *byte == b',') {
-        if let Some(place) = place_at(alloc, address, families)? {
-            return Ok(Some(place));
+        if let Some(address) = bind_address_at(alloc, address, families)? {
+            return Ok(Some(address));
         }
     }
     Ok(None)
@@ -43,7 +46,11 @@ fn is_wrapping(word: &[u8]) -> bool {
     matches!(word, b"ssl" | b"accept-proxy" | b"accept-netscaler-cip")
 }
 
-fn place_at(alloc: Global, address: &[u8], families: bool) -> Result<Option<Place>, AllocError> {
+fn bind_address_at(
+    alloc: Global,
+    address: &[u8],
+    families: bool,
+) -> Result<Option<BindAddress>, AllocError> {
     let address = address.strip_prefix(b"ipv4@".as_slice()).unwrap_or(address);
     let Some(colon) = address.iter().rposition(|byte| *byte == b':') else {
         return Ok(None);
@@ -58,7 +65,7 @@ fn place_at(alloc: Global, address: &[u8], families: bool) -> Result<Option<Plac
     let mut text = Vec::from_slice(alloc, host)?;
     text.push(b':')?;
     text.extend_from_slice(digits)?;
-    Ok(Some(Place { text, port }))
+    Ok(Some(BindAddress { text, port }))
 }
 
 // Returns an IPv4 address, or one that stands for all addresses.

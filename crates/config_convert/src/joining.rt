@@ -1,7 +1,7 @@
 //! The joining of a frontend, its backend and their defaults to one `listen`.
 
 use crate::acls::{Acls, Names};
-use crate::binds::{Place, is_list, is_wrapped, place_of};
+use crate::binds::{BindAddress, bind_address_of, is_list, is_wrapped};
 use crate::choosing::Choice;
 use crate::lines::{Line, copied, words_of};
 use crate::notes::{Weight, add_note};
@@ -105,19 +105,19 @@ fn bind_of(
     alloc: Global,
     sections: &[Section],
     front: usize,
-) -> Result<Option<(usize, Place)>, AllocError> {
+) -> Result<Option<(usize, BindAddress)>, AllocError> {
     let mut found = None;
     let Some(section) = sections.get(front) else {
         return Ok(None);
     };
     for line in section.lines.iter() {
         if line.word(0) == b"bind".as_slice() {
-            if let Some(place) = place_of(alloc, line)? {
+            if let Some(address) = bind_address_of(alloc, line)? {
                 if !is_wrapped(line) {
-                    return Ok(Some((line.number, place)));
+                    return Ok(Some((line.number, address)));
                 }
                 if found.is_none() {
-                    found = Some((line.number, place));
+                    found = Some((line.number, address));
                 }
             }
         }
@@ -129,7 +129,7 @@ fn servers_of(
     alloc: Global,
     sections: &[Section],
     back: usize,
-    bind: &Option<(usize, Place)>,
+    bind: &Option<(usize, BindAddress)>,
 ) -> Result<Servers, AllocError> {
     let Some(section) = sections.get(back) else {
         return Ok(Servers {
@@ -143,7 +143,7 @@ fn servers_of(
     };
     let around = Around {
         port: match bind {
-            Some((_, place)) => Some(place.port),
+            Some((_, address)) => Some(address.port),
             None => None,
         },
         defaults,
@@ -270,10 +270,10 @@ fn take_bind(output: &mut Output, joint: &Joint, line: &Line) -> Result<(), Allo
     if line.number != joint.bind {
         return output.lose(line, 2, Some(Weight::Grave), NOT_LISTENED);
     }
-    if let Some(place) = place_of(output.alloc, line)? {
+    if let Some(address) = bind_address_of(output.alloc, line)? {
         output.add(
             line.number,
-            &[b"    bind ".as_slice(), place.text.as_slice()],
+            &[b"    bind ".as_slice(), address.text.as_slice()],
         )?;
     }
     if is_wrapped(line) {

@@ -50,20 +50,20 @@ impl Line {
         })
     }
 
-    /// Returns the word at this place; an empty one where there is none.
-    pub(crate) fn word(&self, place: usize) -> &[u8] {
-        word_of(self.words.as_slice(), place)
+    /// Returns the word with this index; an empty one where there is none.
+    pub(crate) fn word(&self, index: usize) -> &[u8] {
+        word_of(self.words.as_slice(), index)
     }
 
-    /// Returns the words from this place on.
-    pub(crate) fn behind(&self, place: usize) -> &[Vec<u8>] {
-        self.words.get(place..).unwrap_or(&[])
+    /// Returns the words from this index on.
+    pub(crate) fn behind(&self, index: usize) -> &[Vec<u8>] {
+        self.words.get(index..).unwrap_or(&[])
     }
 }
 
-/// Returns the word at a place; an empty one where there is none.
-pub(crate) fn word_of(words: &[Vec<u8>], place: usize) -> &[u8] {
-    match words.get(place) {
+/// Returns the word with an index; an empty one where there is none.
+pub(crate) fn word_of(words: &[Vec<u8>], index: usize) -> &[u8] {
+    match words.get(index) {
         Some(word) => word.as_slice(),
         None => b"".as_slice(),
     }

@@ -31,14 +31,14 @@ impl Section {
 
     // Returns the name of the `defaults` that the section inherits from.
     fn base(&self) -> Option<&[u8]> {
-        let place = self
+        let index = self
             .head
             .words
             .iter()
             .position(|word| word.as_slice() == b"from".as_slice())?;
         self.head
             .words
-            .get(place.saturating_add(1))
+            .get(index.saturating_add(1))
             .map(|word| word.as_slice())
     }
 

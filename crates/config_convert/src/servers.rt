@@ -219,12 +219,12 @@ impl Settings {
             lost: None,
             changes: Vec::new(alloc),
         };
-        let mut passed = 0usize;
+        let mut skipped = 0usize;
         for (at, word) in words.iter().enumerate() {
-            if passed > 0 {
-                passed -= 1;
+            if skipped > 0 {
+                skipped -= 1;
             } else {
-                passed = settings.take(alloc, word.as_slice(), at)?;
+                skipped = settings.take(alloc, word.as_slice(), at)?;
             }
         }
         if settings.disabled {

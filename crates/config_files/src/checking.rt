@@ -26,7 +26,7 @@ pub enum Checked {
 
 /// What is written to standard error beside the result.
 #[derive(Clone, Copy, Debug, PartialEq, Eq)]
-pub enum Beside {
+pub enum CheckOutput {
     Nothing,
     /// Every faulty line and its replacement, and the lines without effect.
     Advice,
@@ -34,13 +34,17 @@ pub enum Beside {
 
 /// Checks the configuration in a file, prints the result, and returns the exit status: 0, 3 where
 /// the configuration is faulty, 1 where anything else went wrong.
-pub fn check<R: Files + Print + Eprint + AllocGlobal>(rt: &R, file: &str, beside: Beside) -> u8 {
+pub fn check<R: Files + Print + Eprint + AllocGlobal>(
+    rt: &R,
+    file: &str,
+    beside: CheckOutput,
+) -> u8 {
     let bytes = match read_file(rt, file) {
         Ok(bytes) => bytes,
         Err(error) => return say_unread(rt, file, error),
     };
     let status = print(rt, check_bytes(rt.alloc(), &bytes));
-    if beside == Beside::Advice {
+    if beside == CheckOutput::Advice {
         say_faults(rt, &bytes);
         warn(rt, &bytes);
     }

@@ -8,5 +8,5 @@ mod checking;
 mod files;
 
 pub use addresses::{address_remedy, say_address_reason};
-pub use checking::{Beside, Checked, check, check_in_full, read_file, say_faults, status_of};
+pub use checking::{CheckOutput, Checked, check, check_in_full, read_file, say_faults, status_of};
 pub use files::{remedy, say_reason};

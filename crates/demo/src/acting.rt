@@ -9,7 +9,7 @@ use demo_words::{Looks, Server, VISITS};
 use late_cert::Reports;
 use proxy_config::read;
 use run_parts::RunLimits;
-use run_service::{Record, ServeFault, serve_recorded};
+use run_service::{LogCopy, ServeFault, serve_recorded};
 use std::net::{Net, SocketAddr, TcpListener, TcpStream};
 use std::rt::Files;
 use std::sync::Wait;
@@ -131,8 +131,8 @@ fn serve_visits<
         "Three servers, a, b and c: each takes one request at a time, and needs some 300 ms for it.\nBefore them the proxy, at {address}. {VISITS} requests come:\n"
     ).or(Err(DemoFault::Write))?;
     let alloc = rt.alloc();
-    let record = Record::new(alloc);
-    let shared = &record;
+    let copy = LogCopy::new(alloc);
+    let shared = &copy;
     let config = front.config.as_str();
     let (seen, served) = thread::scope(thread::scope_env(), rt, move |scope| {
         let conducting = scope
@@ -180,13 +180,13 @@ pub(crate) fn serve<
     config: &str,
     listener: TcpListener,
     clients: u32,
-    record: &Record,
+    copy: &LogCopy,
 ) -> Result<Reports, ServeFault> {
     match (
         read(rt.alloc(), config.as_bytes()),
         RunLimits::new(None, None, None, PLACES, clients),
     ) {
-        (Ok(config), Some(sizes)) => serve_recorded(rt, config, listener, sizes, record),
+        (Ok(config), Some(sizes)) => serve_recorded(rt, config, listener, sizes, copy),
         // The program's own configuration is sound, and so are the sizes: only memory can be short.
         _ => Err(ServeFault::NoMemory),
     }

@@ -4,7 +4,7 @@ use crate::fault::DemoFault;
 use crate::watcher::Watcher;
 use demo_words::{GAP, Looks, PLAN, VISITS, request_of};
 use log_entries::Entry;
-use run_service::Record;
+use run_service::LogCopy;
 use std::alloc::Global;
 use std::io::{Read, Write};
 use std::net::TcpStream;
@@ -41,7 +41,7 @@ enum Awaited {
     /// This number of requests are over.
     Ended(usize),
     /// This number of milliseconds have passed.
-    Passed(u64),
+    Elapsed(u64),
 }
 
 /// The conductor of the clients, with what it has seen since the beginning.
@@ -58,7 +58,7 @@ struct Conductor<'a, R> {
 pub(crate) fn conduct<R: Clock + Print + Wait>(
     rt: &R,
     alloc: Global,
-    record: &Record,
+    copy: &LogCopy,
     clients: Vec<TcpStream>,
     looks: Looks,
 ) -> Result<Seen, DemoFault> {
@@ -69,7 +69,7 @@ pub(crate) fn conduct<R: Clock + Print + Wait>(
     };
     let mut conductor = Conductor {
         rt,
-        watcher: Watcher::new(rt, alloc, record, looks)?,
+        watcher: Watcher::new(rt, alloc, copy, looks)?,
         start,
         entries: Vec::new(alloc),
     };
@@ -99,8 +99,8 @@ impl<R: Clock + Print + Wait> Conductor<'_, R> {
         // Where it can't be written, it doesn't come, and isn't answered.
         let _ = client.write_all(request.as_bytes());
         self.wait_for(Awaited::Came(count))?;
-        let until = self.passed().saturating_add(GAP);
-        self.wait_for(Awaited::Passed(until))
+        let until = self.elapsed().saturating_add(GAP);
+        self.wait_for(Awaited::Elapsed(until))
     }
 
     // Tells what comes into the log until the awaited event, until the proxy has ended, or until
@@ -110,7 +110,7 @@ impl<R: Clock + Print + Wait> Conductor<'_, R> {
             let is_over = self.watcher.is_over();
             let later = self.watcher.look()?;
             self.entries.extend_from_slice(later.as_slice())?;
-            if is_over || self.is_there(awaited) || MOST <= self.passed() {
+            if is_over || self.is_there(awaited) || MOST <= self.elapsed() {
                 return Ok(());
             }
             thread::sleep(self.rt, Duration::from_millis(PAUSE));
@@ -124,11 +124,11 @@ impl<R: Clock + Print + Wait> Conductor<'_, R> {
                 <= self.entries.iter().filter(|entry| comes(entry)).count(),
             Awaited::Ended(count) => count
                 <= self.entries.iter().filter(|entry| ends(entry)).count(),
-            Awaited::Passed(millis) => millis <= self.passed(),
+            Awaited::Elapsed(millis) => millis <= self.elapsed(),
         }
     }
 
-    fn passed(&self) -> u64 {
+    fn elapsed(&self) -> u64 {
         match self.start.elapsed(self.rt) {
             Ok(passed) => u64::try_from(passed.as_millis()).unwrap_or(MOST),
             Err(_) => MOST,
@@ -157,8 +157,8 @@ fn answers_of(clients: &mut [TcpStream]) -> usize {
 
 fn is_answered(client: &mut TcpStream) -> bool {
     let mut front = [0u8; SERVED.len()];
-    let limit = Some(Duration::from_millis(PATIENCE));
-    client.set_read_timeout(limit).is_ok()
+    let patience = Some(Duration::from_millis(PATIENCE));
+    client.set_read_timeout(patience).is_ok()
         && client.read_exact(&mut front).is_ok()
         && &front[..] == SERVED
 }

@@ -4,7 +4,7 @@ use crate::acting::{Front, serve};
 use crate::fault::DemoFault;
 use crate::watcher::Watcher;
 use demo_words::Looks;
-use run_service::Record;
+use run_service::LogCopy;
 use std::alloc::Global;
 use std::net::{Net, SocketAddr, TcpListener, TcpStream};
 use std::sync::Wait;
@@ -36,8 +36,8 @@ pub(crate) fn keep_on<
     } = front;
     invite(rt, address)?;
     let alloc = rt.alloc();
-    let record = Record::new(alloc);
-    let shared = &record;
+    let copy = LogCopy::new(alloc);
+    let shared = &copy;
     let config = config.as_str();
     thread::scope(thread::scope_env(), rt, move |scope| {
         let telling = scope.spawn(move || tell_all(rt, alloc, shared, looks)).ok();
@@ -72,10 +72,10 @@ fn invite(rt: &(impl Print + AllocGlobal), address: SocketAddr) -> Result<(), De
 fn tell_all<R: Clock + Print + Wait>(
     rt: &R,
     alloc: Global,
-    record: &Record,
+    copy: &LogCopy,
     looks: Looks,
 ) -> Result<(), DemoFault> {
-    let mut watcher = Watcher::new(rt, alloc, record, looks)?;
+    let mut watcher = Watcher::new(rt, alloc, copy, looks)?;
     for _ in rt.forever() {
         let is_over = watcher.is_over();
         watcher.look()?;

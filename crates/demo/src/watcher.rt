@@ -1,7 +1,7 @@
 use crate::fault::DemoFault;
 use demo_words::{Looks, Teller, names_of};
 use log_entries::Entry;
-use run_service::Record;
+use run_service::LogCopy;
 use std::alloc::Global;
 use std::sync::Wait;
 
@@ -10,7 +10,7 @@ use std::sync::Wait;
 pub(crate) struct Watcher<'a, R> {
     rt: &'a R,
     alloc: Global,
-    record: &'a Record,
+    copy: &'a LogCopy,
     teller: Teller,
 }
 
@@ -18,25 +18,25 @@ impl<'a, R: Print + Wait> Watcher<'a, R> {
     pub(crate) fn new(
         rt: &'a R,
         alloc: Global,
-        record: &'a Record,
+        copy: &'a LogCopy,
         looks: Looks,
     ) -> Result<Watcher<'a, R>, DemoFault> {
         Ok(Watcher {
             rt,
             alloc,
-            record,
+            copy,
             teller: Teller::new(alloc, names_of(alloc)?, looks),
         })
     }
 
     /// Says whether no more entries will come.
     pub(crate) fn is_over(&self) -> bool {
-        self.record.is_over()
+        self.copy.is_over()
     }
 
     /// Prints the entries since the last look, and returns them.
     pub(crate) fn look(&mut self) -> Result<Vec<Entry>, DemoFault> {
-        let later = self.record.take(self.rt);
+        let later = self.copy.take(self.rt);
         let mut text = String::new(self.alloc);
         for entry in later.as_slice() {
             self.teller.push_line(&mut text, *entry)?;

@@ -37,9 +37,12 @@ fn push_service(text: &mut String, names: &Names, service: &Served) -> Result<()
     text.push_str("    ")?;
     push_due(text, service.due)?;
     text.push_str("  ")?;
-    push_moment(text, service.slot.get().saturating_sub(service.came.get()))?;
+    push_moment(
+        text,
+        service.slot_moment.get().saturating_sub(service.came.get()),
+    )?;
     write!(text, "  {}, ", names.of(service.server))?;
-    push_lateness(text, service.due.lateness(service.slot))?;
+    push_lateness(text, service.due.lateness(service.slot_moment))?;
     text.push_str("\n")
 }
 

@@ -24,7 +24,7 @@ use Rattle.log_entries.proofs.Consistency.{IsConsistent}
 use Rattle.log_entries.proofs.Dispatched.{dispatched, base_consistent}
 use Rattle.log_entries.proofs.Runs.{first_legal, adds_legally}
 use Rattle.log_entries.proofs.Judged.{after_all-push, stage_after-push, over_none, consistent_all, places_all}
-use Rattle.dispatch_core.specs.Steps.{IsReturn, Places, Leaves, Settles}
+use Rattle.dispatch_core.specs.Steps.{IsReturn, PlacesRequest, Leaves, Settles}
 use Rattle.dispatch_state.specs.Histories.{with_entry, stage_of, scene_of, waiting_of, HasPlaces, MayComeNext, MayPut, IsFound}
 use Rattle.dispatch_state.proofs.Placing.{entry_of, placed_stage}
 use Rattle.dispatch_core.proofs.Going.{goes_entry, goes_more, room_left, begun_room, adds}
@@ -140,7 +140,7 @@ no_event t Nowhere = refl
 
 -- a request is placed by that entry
 pub places : (h next : History) (pin avoid : Option ℕ) (t : ℕ) (given p : Placement) → MayPut h pin avoid t
-    → IsPlacement (scene_of h) (state_of h).cursor pin avoid given → given ≡ p → next ≡ with_entry h (entry_of t p) → Places h next
+    → IsPlacement (scene_of h) (state_of h).cursor pin avoid given → given ≡ p → next ≡ with_entry h (entry_of t p) → PlacesRequest h next
 places h next pin avoid t given p may placed is goes = record {
   placement = entry_of t p;
   placed = goes;

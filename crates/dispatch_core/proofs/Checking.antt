@@ -1,4 +1,4 @@
--- Checks on a trace, and what they change.
+-- Checks on a state, and what they change.
 use Rattle.std.proofs.Common.{◌≡◌, ℕ, ◌<◌, nat_le, not, Bool, false, List, [], ◌∷◌, ◌++◌, Option, None, Some, is_some, slice_get}
 use Rattle.std.proofs.Common.{slice_index_or, All, length, replicate, refl, ap, sym, ◌∙◌, subst, arith}
 use Rattle.std.specs.Option.{option_map_or}
@@ -27,7 +27,7 @@ use Rattle.log_entries.proofs.Judged.{after_all-push, stage_after-push}
 use Rattle.pend_queue.specs.Held.{Held}
 use Rattle.dispatch_core.specs.Checks.{AreHealths, IsHealthBy, IsCore, IsSpare}
 use Rattle.dispatch_core.specs.Steps.{HasEventRoom}
-use Rattle.dispatch_state.specs.Traces.{is_up_at}
+use Rattle.dispatch_state.specs.LoggedStates.{is_up_at}
 use Rattle.dispatch_state.specs.Histories.{with_entry, stage_of, scene_of}
 use Rattle.dispatch_core.proofs.Calls.{new_legal, legal_places}
 use Rattle.dispatch_core.proofs.Going.{begun_room}

@@ -11,7 +11,7 @@ use Rattle.log_entries.specs.Judgement.{granting}
 use Rattle.log_entries.proofs.Runs.{adds_piece}
 use Rattle.dispatch_state.specs.Histories.{with_entry, stage_of, waiting_of, HasPlaces, IsOverNext, HasEntryRoom}
 use Rattle.dispatch_state.proofs.Placing.{same_setup, same_base, longer, places_on, places_next, few_wait, over_granting, may_granting}
-use Rattle.dispatch_core.specs.Steps.{GoesOn, Places, Settles, CarriesOn, HasEventRoom}
+use Rattle.dispatch_core.specs.Steps.{GoesOn, PlacesRequest, Settles, CarriesOn, HasEventRoom}
 
 -- an entry that begins no event
 abbrev IsInside : Entry → Type 0
@@ -43,7 +43,7 @@ goes_then a b c first second = record {
 abbrev pub goes_more : (a b c : History) (e : Entry) → GoesOn a b → c ≡ with_entry b e → begins_event e ≡ false → GoesOn a c
 goes_more a b c e goes more inside = goes_then a b c goes (goes_entry b c e more inside)
 
-abbrev pub goes_places : (a b : History) → Places a b → GoesOn a b
+abbrev pub goes_places : (a b : History) → PlacesRequest a b → GoesOn a b
 goes_places a b is = goes_entry a b is.placement is.placed is.one_event
 
 -- how long it is then

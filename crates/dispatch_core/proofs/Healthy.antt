@@ -12,7 +12,7 @@ use Rattle.log_entries.specs.Health.{is_up_by, results_of, with_result}
 use Rattle.base_lists.proofs.Places.{same_or_other}
 use Rattle.base_lists.proofs.Replicated.{index-replicate}
 use Rattle.dispatch_core.specs.Checks.{IsHealthBy, AreHealths}
-use Rattle.dispatch_state.specs.Traces.{is_up_at}
+use Rattle.dispatch_state.specs.LoggedStates.{is_up_at}
 
 -- one health more
 pub one_more : (servers : List ServerSet) (healths more : List (Option Standing)) (health : Option Standing) (n : ℕ) (it : ServerSet) → length healths ≡ n

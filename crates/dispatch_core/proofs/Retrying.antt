@@ -23,7 +23,7 @@ use Rattle.log_entries.proofs.Accepted.{Accepted, row_of_accepted}
 use Rattle.log_entries.proofs.Judged.{after_all-push, stage_after-push}
 use Rattle.base_lists.proofs.Places.{get-set_same, get-set_cases}
 use Rattle.log_entries.proofs.RowLemmas.{HaveOwnTickets, changed_at, row_of_at}
-use Rattle.dispatch_core.specs.Steps.{GoesOn, CarriesOn, Places, Settles, HasEventRoom}
+use Rattle.dispatch_core.specs.Steps.{GoesOn, CarriesOn, PlacesRequest, Settles, HasEventRoom}
 use Rattle.dispatch_state.specs.Histories.{scene_of, with_entry, stage_of, waiting_of, MayComeNext, MayGrantNext, MayPut, IsFound}
 use Rattle.dispatch_core.proofs.Calls.{legal_consistent, legal_places}
 use Rattle.dispatch_core.proofs.Dismissals.{ticket_room}
@@ -123,7 +123,7 @@ module _ (one two : History) (t server : ℕ) (stage : stage_of one ≡ failing 
         let most : three.setup.log ≡ one.setup.log = ap (λ (s : Setup). s.log) settled_goes.setup in
         omega arith
 
-    pub carries_redispatch : (four : History) → Places three four → HasEventRoom one → CarriesOn one four
+    pub carries_redispatch : (four : History) → PlacesRequest three four → HasEventRoom one → CarriesOn one four
     carries_redispatch four placed room =
         let few = settled_few room in
         let long : length (settled_goes.entries ++ placed.placement ∷ []) ≡ length settled_goes.entries + 1 =

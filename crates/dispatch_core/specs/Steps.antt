@@ -51,7 +51,7 @@ pub record Leaves (old new : History) : Type 0 where
   pub over : stage_of new ≡ granting
 
 -- a history goes on by the entry that ends a request's placement
-pub record Places (old new : History) : Type 0 where
+pub record PlacesRequest (old new : History) : Type 0 where
   pub placement : Entry
   pub placed : new ≡ with_entry old placement
   pub over : stage_of new ≡ granting

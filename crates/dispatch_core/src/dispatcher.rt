@@ -39,9 +39,9 @@ impl<Q: PendQueue<Key, usize>> Model for Core<Q> {
 
     ghost Value = { History };
 
-    ghost view = { λ core. core.events.trace };
+    ghost view = { λ core. core.events.state };
 
-    ghost invariant = { λ core. IsCore core.events.trace core.healths core.expiring core.spare };
+    ghost invariant = { λ core. IsCore core.events.state core.healths core.expiring core.spare };
 }
 
 impl<Q: PendQueue<Key, usize>> Core<Q> {
@@ -56,7 +56,7 @@ impl<Q: PendQueue<Key, usize>> Core<Q> {
         let spare = Base::opening(alloc, &setup)?;
         Ok(Core {
             events: Events {
-                trace: DispatchState::new(alloc, setup)?,
+                state: DispatchState::new(alloc, setup)?,
             },
             healths,
             expiring,
@@ -81,10 +81,10 @@ impl<Q: PendQueue<Key, usize>> Core<Q> {
         ensures unchanged { OnErr result (self.new ≡ self.old) }
         ensures dispatched { IsDispatched self.new }
     {
-        if let Some(refusal) = self.events.trace.refuses_arrival(pin) {
+        if let Some(refusal) = self.events.state.refuses_arrival(pin) {
             return Err(refusal);
         }
-        let Ok(it) = self.events.trace.arrive(alloc, moment, class, offset, pin) else {
+        let Ok(it) = self.events.state.arrive(alloc, moment, class, offset, pin) else {
             return Err(Refusal::NoMemory);
         };
         self.events.place(it, pin, None);
@@ -98,7 +98,7 @@ impl<Q: PendQueue<Key, usize>> Core<Q> {
         ensures ok { OnOk result (refuses_arrival self.now pin ≡ None) }
         ensures err { IfErr result (λ refusal. refuses_arrival self.now pin ≡ Some refusal) }
     {
-        match self.events.trace.refuses_arrival(pin) {
+        match self.events.state.refuses_arrival(pin) {
             Some(refusal) => Err(refusal),
             None => Ok(()),
         }
@@ -115,12 +115,12 @@ impl<Q: PendQueue<Key, usize>> Core<Q> {
         ensures unchanged { OnErr result (self.new ≡ self.old) }
         ensures dispatched { IsDispatched self.new }
     {
-        let it = match self.events.trace.accept_done(ticket) {
+        let it = match self.events.state.accept_done(ticket) {
             Ok(it) => it,
             Err(refusal) => return Err(refusal),
         };
-        let server = self.events.trace.phase(it).server();
-        self.events.trace.done(moment, it);
+        let server = self.events.state.phase(it).server();
+        self.events.state.done(moment, it);
         self.events.leave(it, server);
         self.events.settle();
         Ok(())
@@ -139,14 +139,14 @@ impl<Q: PendQueue<Key, usize>> Core<Q> {
         ensures unchanged { OnErr result (self.new ≡ self.old) }
         ensures dispatched { IsDispatched self.new }
     {
-        let it = match self.events.trace.accept_failure(ticket) {
+        let it = match self.events.state.accept_failure(ticket) {
             Ok(it) => it,
             Err(refusal) => return Err(refusal),
         };
-        let Some(server) = self.events.trace.phase(it).server() else {
+        let Some(server) = self.events.state.phase(it).server() else {
             unreachable!()
         };
-        let failures = self.events.trace.fail(moment, it);
+        let failures = self.events.state.fail(moment, it);
         self.events.carry_on(it, server, failures);
         self.events.settle();
         Ok(())
@@ -163,12 +163,12 @@ impl<Q: PendQueue<Key, usize>> Core<Q> {
         ensures unchanged { OnErr result (self.new ≡ self.old) }
         ensures dispatched { IsDispatched self.new }
     {
-        let it = match self.events.trace.accept_abort(ticket) {
+        let it = match self.events.state.accept_abort(ticket) {
             Ok(it) => it,
             Err(refusal) => return Err(refusal),
         };
-        self.events.trace.abort(moment, it);
-        self.events.trace.dismiss(it, Cause::Aborted);
+        self.events.state.abort(moment, it);
+        self.events.state.dismiss(it, Cause::Aborted);
         self.events.settle();
         Ok(())
     }
@@ -184,11 +184,11 @@ impl<Q: PendQueue<Key, usize>> Core<Q> {
         ensures unchanged { OnErr result (self.new ≡ self.old) }
         ensures dispatched { IsDispatched self.new }
     {
-        if !self.events.trace.has_room() {
+        if !self.events.state.has_room() {
             return Err(Refusal::LogFull);
         }
-        self.events.trace.tick(moment);
-        if !self.events.trace.expired(moment) {
+        self.events.state.tick(moment);
+        if !self.events.state.expired(moment) {
             return Ok(());
         }
         self.events.time_out(&mut self.expiring);
@@ -208,12 +208,12 @@ impl<Q: PendQueue<Key, usize>> Core<Q> {
         ensures unchanged { OnErr result (self.new ≡ self.old) }
         ensures dispatched { IsDispatched self.new }
     {
-        if let Some(refusal) = self.events.trace.refuses_check(server) {
+        if let Some(refusal) = self.events.state.refuses_check(server) {
             return Err(refusal);
         }
         let change = self.healths.result(server, ok);
         let up = self.healths.up(server);
-        self.events.trace.check(moment, server, ok, up);
+        self.events.state.check(moment, server, ok, up);
         self.events.follow(server, change);
         self.events.settle();
         Ok(())
@@ -233,10 +233,10 @@ impl<Q: PendQueue<Key, usize>> Core<Q> {
         ensures unchanged { OnErr result (self.new ≡ self.old) }
         ensures dispatched { IsDispatched self.new }
     {
-        if let Some(refusal) = self.events.trace.refuses_limit(server) {
+        if let Some(refusal) = self.events.state.refuses_limit(server) {
             return Err(refusal);
         }
-        self.events.trace.limit(moment, server, limit);
+        self.events.state.limit(moment, server, limit);
         self.events.follow_limit(server, limit);
         self.events.settle();
         Ok(())
@@ -275,21 +275,21 @@ impl<Q: PendQueue<Key, usize>> Core<Q> {
         ensures window { self.new ≡ next_window self.old }
         ensures dispatched { IsDispatched self.new }
     {
-        self.events.trace.roll(self.healths.all(), &mut self.spare);
+        self.events.state.roll(self.healths.all(), &mut self.spare);
     }
 
     /// Says whether a tick at this moment would tell a timeout. `O(1)`.
     pub fn expired(&self, moment: Moment) -> bool
         ensures { IsTrue result ↔ SomeExpires self.now moment }
     {
-        self.events.trace.expired(moment)
+        self.events.state.expired(moment)
     }
 
     /// Returns the moment of an event that comes at `moment`: no earlier than the last event's. `O(1)`.
     pub fn moment_at(&self, moment: Moment) -> Moment
         ensures { result ≡ effective self.now moment }
     {
-        self.events.trace.moment_at(moment)
+        self.events.state.moment_at(moment)
     }
 
     /// Returns the log: the base, and the decisions since.
@@ -299,16 +299,16 @@ impl<Q: PendQueue<Key, usize>> Core<Q> {
         ensures legal { IsLegal self.now }
         ensures dispatched { IsDispatched self.now }
     {
-        self.events.trace.log()
+        self.events.state.log()
     }
 
     /// Returns the phase of the request with this ticket; `None` where no live request has it.
     pub fn phase(&self, ticket: u64) -> Option<Phase>
         ensures { result ≡ option_map (λ row. row.phase) (row_of ticket (state_of self.now).rows) }
     {
-        match self.events.trace.find(ticket) {
+        match self.events.state.find(ticket) {
             None => None,
-            Some(it) => Some(self.events.trace.phase(it)),
+            Some(it) => Some(self.events.state.phase(it)),
         }
     }
 
@@ -317,7 +317,7 @@ impl<Q: PendQueue<Key, usize>> Core<Q> {
     pub fn place(&self, ticket: u64) -> Option<usize>
         ensures { MatchOption result (row_of ticket (state_of self.now).rows ≡ None) (λ place. IsTicketAt (state_of self.now).rows (record { place = place; ticket = ticket })) }
     {
-        match self.events.trace.find(ticket) {
+        match self.events.state.find(ticket) {
             None => None,
             Some(it) => Some(it.place),
         }
@@ -328,41 +328,41 @@ impl<Q: PendQueue<Key, usize>> Core<Q> {
         ensures places { result ≡ self.now.setup.places }
         ensures few { result ≤ 4096 }
     {
-        self.events.trace.setup().places
+        self.events.state.setup().places
     }
 
     /// Returns the number of servers.
     pub fn servers(&self) -> usize
         ensures { result ≡ length self.now.setup.servers }
     {
-        self.events.trace.setup().servers.len()
+        self.events.state.setup().servers.len()
     }
 
     /// Says whether a server is up, by the results of its checks. False for a number that no server has. `O(1)`.
     pub fn up(&self, server: usize) -> bool
         ensures { result ≡ is_up (scene_of self.now) server }
     {
-        self.events.trace.up(server)
+        self.events.state.up(server)
     }
 
     /// Returns the number of requests that a server serves. `O(1)`.
     pub fn served(&self, server: usize) -> usize
         ensures { result ≡ served server (state_of self.now).rows }
     {
-        self.events.trace.served(server)
+        self.events.state.served(server)
     }
 
     /// Returns the number of requests that wait in a queue. `O(1)`.
     pub fn queued(&self, queue: Queue) -> usize
         ensures { result ≡ queued queue (state_of self.now).rows }
     {
-        self.events.trace.queued(queue)
+        self.events.state.queued(queue)
     }
 
     /// Says whether the log has room for an event; no call is refused for a full log then.
     pub fn has_room(&self) -> bool
         ensures { IsTrue result ↔ HasEntryRoom self.now }
     {
-        self.events.trace.has_room()
+        self.events.state.has_room()
     }
 }

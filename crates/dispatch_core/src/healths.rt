@@ -4,7 +4,7 @@ ghost use Rattle.log_entries.specs.declared.setup.ServerSet.{ServerSet};
 ghost use Rattle.log_entries.specs.Health.{with_result};
 ghost use Rattle.log_entries.specs.Setups.{is_within};
 ghost use Rattle.dispatch_core.specs.Checks.{AreHealths, IsHealthBy};
-ghost use Rattle.dispatch_state.specs.Traces.{is_up_at};
+ghost use Rattle.dispatch_state.specs.LoggedStates.{is_up_at};
 
 use check_state::{Change, Health};
 use log_entries::ServerSet;

@@ -9,4 +9,4 @@ mod reporting;
 
 pub use dispatcher::ReportingCore;
 pub use lines::ServerLine;
-pub use reporting::Window;
+pub use reporting::EndedWindow;

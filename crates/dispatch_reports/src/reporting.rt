@@ -11,9 +11,9 @@ use late_cert::{Reports, certify};
 use pend_queue::PendQueue;
 use std::alloc::{AllocError, Global};
 
-/// What is told of a window that ended: its reports, and a line for each server in file order.
-#[derive(Drop)]
-pub struct Window {
+/// What is told of a window that ended: its reports, and a line for each server in file order. It has
+/// no `Drop`: whoever ends a window hands this on, or takes it apart.
+pub struct EndedWindow {
     pub reports: Reports,
     pub servers: Vec<ServerLine>,
 }
@@ -41,7 +41,7 @@ impl<Q: PendQueue<Key, usize>> ReportingCore<Q> {
 
     /// Begins the next window where the log has no room for an event, and returns what is told of
     /// the one that ended; `None` where it has room. Where memory is refused nothing changes.
-    pub fn make_room(&mut self, alloc: Global) -> Result<Option<Window>, AllocError>
+    pub fn make_room(&mut self, alloc: Global) -> Result<Option<EndedWindow>, AllocError>
         ensures none { IfOk result (λ found. IfNone found (HasEntryRoom self.old × (self.new ≡ self.old))) }
         ensures some { IfOk result (λ found. IfSome found (λ window. (HasEntryRoom self.old → ⊥) × IsCertified self.old window.reports × AreLines self.old window.servers.items × (self.new ≡ next_window self.old))) }
         ensures err { OnErr result (self.new ≡ self.old) }
@@ -52,6 +52,6 @@ impl<Q: PendQueue<Key, usize>> ReportingCore<Q> {
         let reports = self.report(alloc)?;
         let servers = self.servers(alloc)?;
         self.roll();
-        Ok(Some(Window { reports, servers }))
+        Ok(Some(EndedWindow { reports, servers }))
     }
 }

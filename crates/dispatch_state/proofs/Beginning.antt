@@ -1,4 +1,4 @@
--- How events begin on a trace, and the entries that change nothing that it holds.
+-- How events begin on a logged state, and the entries that change nothing that it holds.
 use Rattle.std.proofs.Common.{◌≡◌, ℕ, zero, suc, ◌+◌, ◌-◌, ◌^◌, ◌≤◌, ◌<◌, max, Bool, true, false, List, [], ◌∷◌, ◌++◌}
 use Rattle.std.proofs.Common.{Option, None, Some, is_some, option_map, slice_get, count_by, length, replicate, ℤ, pos, ◌+ℤ◌, refl, ap, sym, ◌∙◌}
 use Rattle.std.proofs.Common.{subst, arith}
@@ -34,8 +34,8 @@ use Rattle.log_entries.proofs.RowLemmas.{row_of_at, row_of_none}
 use Rattle.base_lists.proofs.Members.{Contains-nil}
 use Rattle.log_reading.specs.Grants.{joining_in}
 use Rattle.slot_ledger.specs.declared.places.Cell.{Cell}
-use Rattle.slot_ledger.specs.Ledgers.{Kept, with_slots}
-use Rattle.slot_ledger.specs.Slots.{rows_in, StandsIn, HasTicketAt, HasNoTicket}
+use Rattle.slot_ledger.specs.Ledgers.{Kept, with_cells}
+use Rattle.slot_ledger.specs.Cells.{rows_in, StandsIn, HasTicketAt, HasNoTicket}
 use Rattle.slot_ledger.proofs.Counting.{row_in}
 use Rattle.server_pick.specs.declared.placement.Placement.{Placement}
 use Rattle.server_pick.specs.Picked.{IsPlacement, cursor_placed}
@@ -43,23 +43,23 @@ use Rattle.queue_waits.specs.Waitlists.{Waiters}
 use Rattle.dispatch_state.specs.declared.position.Position.{Position}
 use Rattle.dispatch_state.specs.declared.position.Ticketed.{Ticketed}
 use Rattle.dispatch_state.specs.Histories.{scene_of, IsTicketAt, IsFound, MayComeNext, MayBeginNext, HasEntryRoom}
-use Rattle.dispatch_state.specs.Traces.{Traced, history_of, noted, HasItsNode, IsTrace, position_of, waiter_of, waiters_of}
+use Rattle.dispatch_state.specs.LoggedStates.{LoggedState, history_of, noted, HasItsNode, IsLoggedState, position_of, waiter_of, waiters_of}
 use Rattle.dispatch_state.specs.Turns.{WaitsSince, AreInTurn}
 use Rattle.dispatch_state.proofs.Entries.{moment_moved}
 use Rattle.dispatch_state.proofs.Healthy.{opening_ups}
 use Rattle.dispatch_state.proofs.Resting.{none_rests, rests}
-use Rattle.dispatch_state.proofs.Stepping.{stands_row, stands_slot, nodes_set, trace_consistent, trace_places, stepped, row_less}
+use Rattle.dispatch_state.proofs.Stepping.{stands_row, stands_cell, nodes_set, state_consistent, state_places, stepped, row_less}
 use Rattle.dispatch_state.proofs.Turns.{rows_rest}
 use Rattle.log_entries.proofs.Accepted.{arrival_tests}
 use Rattle.dispatch_state.proofs.Waits.{waiter_at, waiters_same, none_join}
 
 module _ {N : Type 0} (pair_of : N → Key × ℕ) where
   -- an event that changes no row begins
-  pub begun_kept : (t : Traced N) (event : ℕ → Entry) (moment now : ℕ) → IsTrace pair_of t → joining_in (event now) ≡ None
+  pub begun_kept : (t : LoggedState N) (event : ℕ → Entry) (moment now : ℕ) → IsLoggedState pair_of t → joining_in (event now) ≡ None
       → now ≡ max t.position.last moment
       → MayComeNext (history_of t) (event (effective (history_of t) moment))
       → after t.kept.setup (state_of (history_of t)) (event now) ≡ record (state_of (history_of t)) { moment = now }
-      → IsTrace pair_of
+      → IsLoggedState pair_of
       (record {
         kept = t.kept;
         log = noted t.log (event now);
@@ -85,10 +85,10 @@ module _ {N : Type 0} (pair_of : N → Key × ℕ) where
       (is.holds.limits ∙ ap (λ (x : State). x.limits) (sym leaves))
       (far ∙ ap position_of (sym leaves))
 
-  -- an entry that changes nothing that a trace holds
-  pub still_kept : (t : Traced N) (e : Entry) → IsTrace pair_of t → joining_in e ≡ None → MayComeNext (history_of t) e
+  -- an entry that changes nothing that a logged state holds
+  pub still_kept : (t : LoggedState N) (e : Entry) → IsLoggedState pair_of t → joining_in e ≡ None → MayComeNext (history_of t) e
       → after t.kept.setup (state_of (history_of t)) e ≡ state_of (history_of t)
-      → IsTrace pair_of (record { kept = t.kept; log = noted t.log e; waits = t.waits; position = t.position })
+      → IsLoggedState pair_of (record { kept = t.kept; log = noted t.log e; waits = t.waits; position = t.position })
   still_kept t e is none may leaves =
       let s = state_of (history_of t) in
       row_less pair_of t e t.kept.ups t.kept.limits t.position is may none (ap (λ (x : State). x.rows) leaves)
@@ -98,31 +98,31 @@ module _ {N : Type 0} (pair_of : N → Key × ℕ) where
       (is.holds.position ∙ ap position_of (sym leaves))
 
   -- what a look-up of a ticket tells
-  pub found_is : (t : Traced N) (ticket place : ℕ) → IsTrace pair_of t → HasTicketAt ticket t.kept.slots place
+  pub found_is : (t : LoggedState N) (ticket place : ℕ) → IsLoggedState pair_of t → HasTicketAt ticket t.kept.cells place
       → IsFound (state_of (history_of t)).rows ticket (record { place = place; ticket = ticket })
   found_is t ticket place is has =
-      record { named = refl; at = (has.0.row, stands_row t.kept.slots (state_of (history_of t)).rows place has.0 is.holds.rows has.1, has.2) }
+      record { named = refl; at = (has.0.row, stands_row t.kept.cells (state_of (history_of t)).rows place has.0 is.holds.rows has.1, has.2) }
 
-  pub missed_is : (t : Traced N) (ticket : ℕ) → IsTrace pair_of t → HasNoTicket ticket t.kept.slots
+  pub missed_is : (t : LoggedState N) (ticket : ℕ) → IsLoggedState pair_of t → HasNoTicket ticket t.kept.cells
       → row_of ticket (state_of (history_of t)).rows ≡ None
   missed_is t ticket is missed =
       row_of_none (state_of (history_of t)).rows ticket (λ p r stands named.
-      let s = stands_slot t.kept.slots (state_of (history_of t)).rows p r is.holds.rows stands in
+      let s = stands_cell t.kept.cells (state_of (history_of t)).rows p r is.holds.rows stands in
       missed p s.0 s.1 (ap (λ (x : Row). x.key.ticket) s.2 ∙ named))
 
-  pub phase_is : (t : Traced N) (it : Ticketed) (row : Row) → IsTrace pair_of t → (at : IsTicketAt (state_of (history_of t)).rows it)
-      → (s : Cell N) × StandsIn t.kept.slots it.place s × (s.row ≡ row)
+  pub phase_is : (t : LoggedState N) (it : Ticketed) (row : Row) → IsLoggedState pair_of t → (at : IsTicketAt (state_of (history_of t)).rows it)
+      → (s : Cell N) × StandsIn t.kept.cells it.place s × (s.row ≡ row)
       → option_map (λ (r : Row). r.phase) (row_of it.ticket (state_of (history_of t)).rows) ≡ Some row.phase
   phase_is t it row is at read =
       let rows = (state_of (history_of t)).rows in
-      let there = stands_row t.kept.slots rows it.place read.0 is.holds.rows read.1 in
+      let there = stands_row t.kept.cells rows it.place read.0 is.holds.rows read.1 in
       let same : at.0 ≡ read.0.row = same_Some at.0 read.0.row (same_Some (Some at.0) (Some read.0.row) (sym at.1 ∙ there)) in
-      ap (option_map (λ (r : Row). r.phase)) (row_of_at rows it.ticket it.place at.0 (trace_consistent pair_of t is).tickets at.1 at.2)
+      ap (option_map (λ (r : Row). r.phase)) (row_of_at rows it.ticket it.place at.0 (state_consistent pair_of t is).tickets at.1 at.2)
       ∙ ap (λ (r : Row). Some r.phase) (same ∙ read.2)
 
-  -- a trace's scene is its history's
-  pub scene_is : (t : Traced N) → IsTrace pair_of t
-      → record { servers = t.kept.setup.servers; limits = t.kept.limits; ups = t.kept.ups; rows = rows_in t.kept.slots } ≡ scene_of
+  -- a logged state's scene is its history's
+  pub scene_is : (t : LoggedState N) → IsLoggedState pair_of t
+      → record { servers = t.kept.setup.servers; limits = t.kept.limits; ups = t.kept.ups; rows = rows_in t.kept.cells } ≡ scene_of
       (history_of t)
   scene_is t is =
       ap (λ (r : Rows). record { servers = t.kept.setup.servers; limits = t.kept.limits; ups = t.kept.ups; rows = r }) is.holds.rows
@@ -134,27 +134,27 @@ module _ {N : Type 0} (pair_of : N → Key × ℕ) where
         rows = (state_of (history_of t)).rows;
       }) is.holds.limits
 
-  pub cursor_is : (t : Traced N) → IsTrace pair_of t → t.position.cursor ≡ (state_of (history_of t)).cursor
+  pub cursor_is : (t : LoggedState N) → IsLoggedState pair_of t → t.position.cursor ≡ (state_of (history_of t)).cursor
   cursor_is t is = ap (λ (p : Position). p.cursor) is.holds.position
 
-  pub moment_is : (t : Traced N) → IsTrace pair_of t → t.position.last ≡ (state_of (history_of t)).moment
+  pub moment_is : (t : LoggedState N) → IsLoggedState pair_of t → t.position.last ≡ (state_of (history_of t)).moment
   moment_is t is = ap (λ (p : Position). p.last) is.holds.position
 
-  pub ticket_is : (t : Traced N) → IsTrace pair_of t → t.position.ticket ≡ (state_of (history_of t)).ticket
+  pub ticket_is : (t : LoggedState N) → IsLoggedState pair_of t → t.position.ticket ≡ (state_of (history_of t)).ticket
   ticket_is t is = ap (λ (p : Position). p.ticket) is.holds.position
 
--- a row more is a slot more
-count_rows : {N : Type 0} (slots : List (Option (Cell N))) → count_by is_some (rows_in slots) ≡ count_by is_some slots
+-- a row more is a cell more
+count_rows : {N : Type 0} (cells : List (Option (Cell N))) → count_by is_some (rows_in cells) ≡ count_by is_some cells
 count_rows [] = refl
-count_rows {N} (None ∷ slots) =
-    let rest : count_by is_some (rows_in slots) ≡ count_by is_some slots = count_rows slots in
-    let a = sum_by-cons (λ (x : Option Row). tally (is_some x)) None (rows_in slots) in
-    let b = sum_by-cons (λ (x : Option (Cell N)). tally (is_some x)) None slots in
+count_rows {N} (None ∷ cells) =
+    let rest : count_by is_some (rows_in cells) ≡ count_by is_some cells = count_rows cells in
+    let a = sum_by-cons (λ (x : Option Row). tally (is_some x)) None (rows_in cells) in
+    let b = sum_by-cons (λ (x : Option (Cell N)). tally (is_some x)) None cells in
     omega arith
-count_rows {N} (Some s ∷ slots) =
-    let rest : count_by is_some (rows_in slots) ≡ count_by is_some slots = count_rows slots in
-    let a = sum_by-cons (λ (x : Option Row). tally (is_some x)) (Some s.row) (rows_in slots) in
-    let b = sum_by-cons (λ (x : Option (Cell N)). tally (is_some x)) (Some s) slots in
+count_rows {N} (Some s ∷ cells) =
+    let rest : count_by is_some (rows_in cells) ≡ count_by is_some cells = count_rows cells in
+    let a = sum_by-cons (λ (x : Option Row). tally (is_some x)) (Some s.row) (rows_in cells) in
+    let b = sum_by-cons (λ (x : Option (Cell N)). tally (is_some x)) (Some s) cells in
     omega arith
 
 -- a server that there is has a small number
@@ -179,50 +179,50 @@ none_waits (suc n) = ap (λ (l : Waiters). None ∷ l) (none_waits n)
 
 module _ {N : Type 0} (pair_of : N → Key × ℕ) where
   -- an accepted arrival finds a free place
-  pub arrival_fits : (t : Traced N) (pin : Option ℕ) → IsTrace pair_of t → refuses_arrival (history_of t) pin ≡ None
-      → count_by is_some t.kept.slots < length t.kept.slots
+  pub arrival_fits : (t : LoggedState N) (pin : Option ℕ) → IsLoggedState pair_of t → refuses_arrival (history_of t) pin ≡ None
+      → count_by is_some t.kept.cells < length t.kept.cells
   arrival_fits t pin is accepted =
       let h = history_of t in
       let full : is_full h.setup (state_of h).rows ≡ false = (arrival_tests _ _ _ _ accepted).3 in
       let fewer : count_by is_some (state_of h).rows < h.setup.places = grind (arith, nat_tests) in
-      let counted = count_rows t.kept.slots in
-      let rows : count_by is_some (rows_in t.kept.slots) ≡ count_by is_some (state_of h).rows = ap (count_by is_some) is.holds.rows in
-      let places = trace_places pair_of t is in
-      let long : length (rows_in t.kept.slots) ≡ length (state_of h).rows = ap length is.holds.rows in
-      let same : length (rows_in t.kept.slots) ≡ length t.kept.slots = length-map t.kept.slots row_in in
+      let counted = count_rows t.kept.cells in
+      let rows : count_by is_some (rows_in t.kept.cells) ≡ count_by is_some (state_of h).rows = ap (count_by is_some) is.holds.rows in
+      let places = state_places pair_of t is in
+      let long : length (rows_in t.kept.cells) ≡ length (state_of h).rows = ap length is.holds.rows in
+      let same : length (rows_in t.kept.cells) ≡ length t.kept.cells = length-map t.kept.cells row_in in
       omega arith
 
   -- a free place and a server that there is have small numbers
-  pub place_is_small : (t : Traced N) (place : ℕ) → IsTrace pair_of t → slice_get t.kept.slots place ≡ Some None → place < 2 ^ 16
+  pub place_is_small : (t : LoggedState N) (place : ℕ) → IsLoggedState pair_of t → slice_get t.kept.cells place ≡ Some None → place < 2 ^ 16
   place_is_small t place is vacant =
-      let within = slice_get_within t.kept.slots place None vacant in
-      let places = trace_places pair_of t is in
-      let long : length (rows_in t.kept.slots) ≡ length (state_of (history_of t)).rows = ap length is.holds.rows in
-      let same : length (rows_in t.kept.slots) ≡ length t.kept.slots = length-map t.kept.slots row_in in
+      let within = slice_get_within t.kept.cells place None vacant in
+      let places = state_places pair_of t is in
+      let long : length (rows_in t.kept.cells) ≡ length (state_of (history_of t)).rows = ap length is.holds.rows in
+      let same : length (rows_in t.kept.cells) ≡ length t.kept.cells = length-map t.kept.cells row_in in
       let few = is.sound.places in
       omega arith
 
-  pub pin_is_small : (t : Traced N) (pin : Option ℕ) → IsTrace pair_of t → refuses_arrival (history_of t) pin ≡ None
+  pub pin_is_small : (t : LoggedState N) (pin : Option ℕ) → IsLoggedState pair_of t → refuses_arrival (history_of t) pin ≡ None
       → IfSome pin (λ server. server < 2 ^ 8)
   pin_is_small t pin is accepted = pin_below t.kept.setup pin is.sound (arrival_tests _ _ _ _ accepted).1
 
   -- the next ticket is above all others
-  pub next_is_highest : (t : Traced N) → IsTrace pair_of t → (p : ℕ) (s : Cell N) → StandsIn t.kept.slots p s
+  pub next_is_highest : (t : LoggedState N) → IsLoggedState pair_of t → (p : ℕ) (s : Cell N) → StandsIn t.kept.cells p s
       → s.row.key.ticket < t.position.ticket + 1
   next_is_highest t is p s stands =
-      let below = (trace_consistent pair_of t is).below p s.row (stands_row t.kept.slots (state_of (history_of t)).rows p s is.holds.rows stands) in
+      let below = (state_consistent pair_of t is).below p s.row (stands_row t.kept.cells (state_of (history_of t)).rows p s is.holds.rows stands) in
       let now = ticket_is pair_of t is in
       omega arith
 
   -- an arrival
-  pub arrive_kept : (t : Traced N) (moment now place : ℕ) (offset : ℤ) (a : Arrival) (node : N) → IsTrace pair_of t
+  pub arrive_kept : (t : LoggedState N) (moment now place : ℕ) (offset : ℤ) (a : Arrival) (node : N) → IsLoggedState pair_of t
       → MayBeginNext (history_of t) moment (refuses_arrival (history_of t) a.pin)
       → now ≡ max t.position.last moment → a.ticket ≡ t.position.ticket + 1 → a.place ≡ place → a.due ≡ (pos now +ℤ offset)
       → IsBetween LOWEST_OFFSET HIGHEST_OFFSET offset → IsBetween LOWEST_CLASS HIGHEST_CLASS a.class
-      → slice_get t.kept.slots place ≡ Some None → pair_of node ≡ ((arrived a).key, place)
-      → IsTrace pair_of
+      → slice_get t.kept.cells place ≡ Some None → pair_of node ≡ ((arrived a).key, place)
+      → IsLoggedState pair_of
       (record {
-        kept = with_slots t.kept (set t.kept.slots place (Some (record { row = arrived a; node = Some node })));
+        kept = with_cells t.kept (set t.kept.cells place (Some (record { row = arrived a; node = Some node })));
         log = noted t.log (Arrive now a);
         waits = t.waits;
         position = record { cursor = t.position.cursor; last = now; ticket = a.ticket };
@@ -231,7 +231,7 @@ module _ {N : Type 0} (pair_of : N → Key × ℕ) where
       let h = history_of t in
       let s = state_of h in
       let when : now ≡ effective h moment = later ∙ ap (λ (p : Position). max p.last moment) is.holds.position in
-      let free : slice_get s.rows place ≡ Some None = ap (λ (l : Rows). slice_get l place) (sym is.holds.rows) ∙ slice_get-map row_in t.kept.slots place
+      let free : slice_get s.rows place ≡ Some None = ap (λ (l : Rows). slice_get l place) (sym is.holds.rows) ∙ slice_get-map row_in t.kept.cells place
       ∙ ap (option_map row_in) vacant in
       let cell : Cell N = record { row = arrived a; node = Some node } in
       let newcomer : IsNewcomer s now a = record {
@@ -241,17 +241,17 @@ module _ {N : Type 0} (pair_of : N → Key × ℕ) where
         due = (offset, within, due);
       } in
       let may : MayComeNext h (Arrive now a) = subst (λ n. MayComeNext h (Arrive n a)) (sym when) (begins, subst (λ n. IsNewcomer s n a) when newcomer) in
-      stepped pair_of t (Arrive now a) t.kept.ups t.kept.limits (set t.kept.slots place (Some cell)) t.waits (record {
+      stepped pair_of t (Arrive now a) t.kept.ups t.kept.limits (set t.kept.cells place (Some cell)) t.waits (record {
         cursor =
             t.position.cursor;
         last = now;
         ticket = a.ticket;
       }) is may refl (record {
         rows =
-            map-set row_in t.kept.slots place (Some cell) ∙ ap (λ (l : Rows). set l place (Some (arrived a))) is.holds.rows
+            map-set row_in t.kept.cells place (Some cell) ∙ ap (λ (l : Rows). set l place (Some (arrived a))) is.holds.rows
             ∙ ap (λ n. set s.rows n (Some (arrived a))) (sym at);
         nodes =
-            nodes_set pair_of t.kept.slots place None (Some cell) is.holds.nodes vacant
+            nodes_set pair_of t.kept.cells place None (Some cell) is.holds.nodes vacant
             (λ x same. subst (λ (y : Cell N). HasItsNode pair_of place y.row.phase y) (same_Some cell x same) (node, refl, its));
         ups = is.holds.ups;
         limits = is.holds.limits;
@@ -268,33 +268,33 @@ module _ {N : Type 0} (pair_of : N → Key × ℕ) where
       })
 
   -- the row that arrived is the ticket's
-  pub newcomer_at : (kept : Kept N) (next : Traced N) (place : ℕ) (s : Cell N) → IsTrace pair_of next
-      → next.kept ≡ with_slots kept (set kept.slots place (Some s)) → slice_get kept.slots place ≡ Some None
+  pub newcomer_at : (kept : Kept N) (next : LoggedState N) (place : ℕ) (s : Cell N) → IsLoggedState pair_of next
+      → next.kept ≡ with_cells kept (set kept.cells place (Some s)) → slice_get kept.cells place ≡ Some None
       → IsTicketAt (state_of (history_of next)).rows (record { place = place; ticket = s.row.key.ticket })
       × (pin_of s.row.key.ticket (state_of (history_of next)).rows ≡ s.row.pin)
   newcomer_at kept next place s is written vacant =
       let rows = (state_of (history_of next)).rows in
-      let stands : StandsIn next.kept.slots place s = ap (λ (k : Kept N). slice_get k.slots place) written
-      ∙ get-set_same kept.slots place None (Some s) vacant in
-      let there = stands_row next.kept.slots rows place s is.holds.rows stands in (
+      let stands : StandsIn next.kept.cells place s = ap (λ (k : Kept N). slice_get k.cells place) written
+      ∙ get-set_same kept.cells place None (Some s) vacant in
+      let there = stands_row next.kept.cells rows place s is.holds.rows stands in (
         (s.row, there, refl),
         ap (option_and_then (λ (r : Row). r.pin))
-            (row_of_at rows s.row.key.ticket place s.row (trace_consistent pair_of next is).tickets there refl),
+            (row_of_at rows s.row.key.ticket place s.row (state_consistent pair_of next is).tickets there refl),
       )
 
-  -- a new trace
-  pub new_is : (setup : Setup) (t : Traced N) (servers : ℕ) → IsSound setup → servers ≡ length setup.servers
+  -- a new logged state
+  pub new_is : (setup : Setup) (t : LoggedState N) (servers : ℕ) → IsSound setup → servers ≡ length setup.servers
       → t.kept ≡ record {
         setup = setup;
         ups = replicate (length setup.servers) true;
         limits = opening_limits setup.servers;
-        slots = replicate setup.places None;
+        cells = replicate setup.places None;
       }
       → t.log ≡ record { base = opening_state setup; entries = []; room = setup.log }
       → t.waits ≡ record { waiters = replicate setup.places None; order = []; servers = servers }
-      → t.position ≡ record { cursor = servers - 1; last = 0; ticket = 0 } → IsTrace pair_of t
+      → t.position ≡ record { cursor = servers - 1; last = 0; ticket = 0 } → IsLoggedState pair_of t
   new_is setup t servers sound many kept log waits far =
-      subst (IsTrace pair_of)
+      subst (IsLoggedState pair_of)
       (ap (λ (k : Kept N). record {
         kept = k;
         log = record { base = opening_state setup; entries = []; room = setup.log };
@@ -337,21 +337,21 @@ module _ {N : Type 0} (pair_of : N → Key × ℕ) where
       })
 
   -- nothing refuses an arrival
-  pub none_refuses : (t : Traced N) (pin : Option ℕ) → IsTrace pair_of t → HasEntryRoom (history_of t) → pins_to_none t.kept.setup pin ≡ false
-      → t.position.ticket + 1 < 2 ^ 40 → count_by is_some t.kept.slots < t.kept.setup.places → None ≡ refuses_arrival (history_of t) pin
+  pub none_refuses : (t : LoggedState N) (pin : Option ℕ) → IsLoggedState pair_of t → HasEntryRoom (history_of t) → pins_to_none t.kept.setup pin ≡ false
+      → t.position.ticket + 1 < 2 ^ 40 → count_by is_some t.kept.cells < t.kept.setup.places → None ≡ refuses_arrival (history_of t) pin
   none_refuses t pin is fits known few some =
       let now = ticket_is pair_of t is in
-      let counted = count_rows t.kept.slots in
-      let rows : count_by is_some (rows_in t.kept.slots) ≡ count_by is_some (state_of (history_of t)).rows = ap (count_by is_some) is.holds.rows in
+      let counted = count_rows t.kept.cells in
+      let rows : count_by is_some (rows_in t.kept.cells) ≡ count_by is_some (state_of (history_of t)).rows = ap (count_by is_some) is.holds.rows in
       sym (first_none _ _ _ _ (grind (arith, nat_tests)) known (grind (arith, nat_tests)) (grind (arith, nat_tests)))
 
   -- where a request goes
-  pub placed_here : (t : Traced N) (pin avoid : Option ℕ) (placement : Placement) (now : History) → IsTrace pair_of t → history_of t ≡ now
+  pub placed_here : (t : LoggedState N) (pin avoid : Option ℕ) (placement : Placement) (now : History) → IsLoggedState pair_of t → history_of t ≡ now
       → IsPlacement (record {
         servers = t.kept.setup.servers;
         limits = t.kept.limits;
         ups = t.kept.ups;
-        rows = rows_in t.kept.slots;
+        rows = rows_in t.kept.cells;
       }) t.position.cursor pin avoid placement
       → IsPlacement (scene_of now) (state_of now).cursor pin avoid placement
   placed_here t pin avoid placement now is same placed =
@@ -359,7 +359,7 @@ module _ {N : Type 0} (pair_of : N → Key × ℕ) where
       (subst (λ n. IsPlacement (scene_of (history_of t)) n pin avoid placement) (cursor_is pair_of t is)
       (subst (λ (s : Scene). IsPlacement s t.position.cursor pin avoid placement) (scene_is pair_of t is) placed))
 
-  pub cursor_here : (t : Traced N) (next : ℕ) (pin : Option ℕ) (placement : Placement) (now : History) → IsTrace pair_of t → history_of t ≡ now
+  pub cursor_here : (t : LoggedState N) (next : ℕ) (pin : Option ℕ) (placement : Placement) (now : History) → IsLoggedState pair_of t → history_of t ≡ now
       → next ≡ cursor_placed pin placement t.position.cursor → next ≡ cursor_placed pin placement (state_of now).cursor
   cursor_here t next pin placement now is same moved =
       subst (λ (h : History). next ≡ cursor_placed pin placement (state_of h).cursor) same

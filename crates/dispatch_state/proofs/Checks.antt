@@ -1,4 +1,4 @@
--- Checks and new limits of servers, on a trace.
+-- Checks and new limits of servers, on a logged state.
 use Rattle.std.proofs.Common.{◌≡◌, ℕ, ◌≤◌, max, Bool, List, refl, ap, sym, ◌∙◌, subst, arith}
 use Rattle.std.proofs.Math.ListN.{set}
 use Rattle.std.proofs.lemmas.Bool.Decides.{nat_tests}
@@ -10,19 +10,19 @@ use Rattle.log_entries.specs.declared.allowance.Allowance.{Allowance}
 use Rattle.log_entries.specs.declared.allowance.Intake.{Intake}
 use Rattle.log_entries.specs.Rows.{Rows, served}
 use Rattle.slot_ledger.specs.Ledgers.{with_up, ledger_with_limit}
-use Rattle.slot_ledger.specs.Slots.{rows_in}
+use Rattle.slot_ledger.specs.Cells.{rows_in}
 use Rattle.dispatch_state.specs.declared.position.Position.{Position}
 use Rattle.dispatch_state.specs.Histories.{MayComeNext, MayBeginNext}
-use Rattle.dispatch_state.specs.Traces.{Traced, history_of, noted, is_up_at, IsTrace}
+use Rattle.dispatch_state.specs.LoggedStates.{LoggedState, history_of, noted, is_up_at, IsLoggedState}
 use Rattle.dispatch_state.proofs.Entries.{moment_moved}
 use Rattle.dispatch_state.proofs.Healthy.{ups_set, many_results}
 use Rattle.dispatch_state.proofs.Stepping.{row_less}
 
 module _ {N : Type 0} (pair_of : N → Key × ℕ) where
-  pub check_kept : (t : Traced N) (server moment now : ℕ) (ok up : Bool) → IsTrace pair_of t
+  pub check_kept : (t : LoggedState N) (server moment now : ℕ) (ok up : Bool) → IsLoggedState pair_of t
       → MayBeginNext (history_of t) moment (refuses_check (history_of t) server) → now ≡ max t.position.last moment
       → up ≡ is_up_at t.kept.setup.servers (with_result server ok (state_of (history_of t)).results) server
-      → IsTrace pair_of
+      → IsLoggedState pair_of
       (record {
         kept = with_up t.kept server up;
         log = noted t.log (Check now server ok);
@@ -48,9 +48,9 @@ module _ {N : Type 0} (pair_of : N → Key × ℕ) where
       is.holds.limits
       (moment_moved t.position s now is.holds.position)
 
-  pub limit_kept : (t : Traced N) (server : ℕ) (limit : Intake) (moment now : ℕ) → IsTrace pair_of t
+  pub limit_kept : (t : LoggedState N) (server : ℕ) (limit : Intake) (moment now : ℕ) → IsLoggedState pair_of t
       → MayBeginNext (history_of t) moment (refuses_limit (history_of t) server) → now ≡ max t.position.last moment
-      → IsTrace pair_of
+      → IsLoggedState pair_of
       (record {
         kept = ledger_with_limit t.kept server limit;
         log = noted t.log (Limit now server limit);
@@ -69,6 +69,6 @@ module _ {N : Type 0} (pair_of : N → Key × ℕ) where
       }) is may refl refl
       (let grows : s.moment ≤ max s.moment moment = grind (arith, nat_tests) in let e = when in omega arith)
       is.holds.ups
-      (ap (λ (l : List Allowance). set l server (record { limit = limit; served = served server (rows_in t.kept.slots) })) is.holds.limits
+      (ap (λ (l : List Allowance). set l server (record { limit = limit; served = served server (rows_in t.kept.cells) })) is.holds.limits
       ∙ ap (λ (r : Rows). set s.limits server (record { limit = limit; served = served server r })) is.holds.rows)
       (moment_moved t.position s now is.holds.position)

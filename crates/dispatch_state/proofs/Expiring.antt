@@ -21,7 +21,7 @@ use Rattle.pend_queue.proofs.Inserted.{Contains-inserted, Contains-inserted_new,
 use Rattle.base_lists.proofs.Members.{Contains-nil, Contains-head, Contains-cases, each_at_member}
 use Rattle.base_lists.proofs.Never.{false_true}
 use Rattle.slot_ledger.specs.declared.places.Cell.{Cell}
-use Rattle.slot_ledger.specs.Slots.{StandsIn, HasRow}
+use Rattle.slot_ledger.specs.Cells.{StandsIn, HasRow}
 use Rattle.base_lists.specs.Once.{ComeOnce}
 use Rattle.queue_waits.specs.Order.{next_after}
 use Rattle.base_lists.proofs.Members.{Contains-middle}
@@ -31,8 +31,8 @@ use Rattle.std.proofs.lemmas.Option.{slice_get_within}
 use Rattle.dispatch_state.specs.declared.position.Position.{Position}
 use Rattle.dispatch_state.specs.Turns.{WaitsSince, NeverFall, AreInTurn}
 use Rattle.dispatch_state.specs.Timeouts.{HasRowAt, ExpiresAt, AreExpired}
-use Rattle.dispatch_state.specs.Traces.{Traced, history_of, IsTrace}
-use Rattle.dispatch_state.proofs.Stepping.{stands_row, stands_slot, trace_consistent, trace_places}
+use Rattle.dispatch_state.specs.LoggedStates.{LoggedState, history_of, IsLoggedState}
+use Rattle.dispatch_state.proofs.Stepping.{stands_row, stands_cell, state_consistent, state_places}
 
 -- a request that has waited as long as it may waits since a moment that far back
 pub record Since (setup : Setup) (now : ℕ) (phase : Phase) : Type 0 where
@@ -288,22 +288,22 @@ walk_ends h places now tickets are when walked ticket place = (
       ],
 )
 
--- what a trace's ledger tells of it
-module _ {N : Type 0} (pair_of : N → Key × ℕ) (t : Traced N) (is : IsTrace pair_of t) (h : History) (same : history_of t ≡ h) where
-  pub row_there : (at : ℕ) → HasRowAt h at → HasRow t.kept.slots at
+-- what a logged state's ledger tells of it
+module _ {N : Type 0} (pair_of : N → Key × ℕ) (t : LoggedState N) (is : IsLoggedState pair_of t) (h : History) (same : history_of t ≡ h) where
+  pub row_there : (at : ℕ) → HasRowAt h at → HasRow t.kept.cells at
   row_there at has =
       let stands = subst (λ (x : History). StandsAt (state_of x).rows at has.0) (sym same) has.1 in
-      let slot = stands_slot t.kept.slots (state_of (history_of t)).rows at has.0 is.holds.rows stands in
-      (slot.0, slot.1)
+      let cell = stands_cell t.kept.cells (state_of (history_of t)).rows at has.0 is.holds.rows stands in
+      (cell.0, cell.1)
 
-  pub row_read : (at : ℕ) (row : Row) → (s : Cell N) × StandsIn t.kept.slots at s × (s.row ≡ row) → StandsAt (state_of h).rows at row
+  pub row_read : (at : ℕ) (row : Row) → (s : Cell N) × StandsIn t.kept.cells at s × (s.row ≡ row) → StandsAt (state_of h).rows at row
   row_read at row read =
       subst (λ (x : History). StandsAt (state_of x).rows at row) same
       (subst (λ (r : Row). StandsAt (state_of (history_of t)).rows at r) read.2
-      (stands_row t.kept.slots (state_of (history_of t)).rows at read.0 is.holds.rows read.1))
+      (stands_row t.kept.cells (state_of (history_of t)).rows at read.0 is.holds.rows read.1))
 
   module _ (setup : Setup) (now at : ℕ) (row : Row) (made : setup ≡ t.kept.setup)
-      (read : (s : Cell N) × StandsIn t.kept.slots at s × (s.row ≡ row)) where
+      (read : (s : Cell N) × StandsIn t.kept.cells at s × (s.row ≡ row)) where
     setup_is : setup ≡ h.setup
     setup_is = made ∙ ap (λ (x : History). x.setup) same
 
@@ -316,13 +316,13 @@ module _ {N : Type 0} (pair_of : N → Key × ℕ) (t : Traced N) (is : IsTrace 
         waits (subst (λ (x : Setup). HasExpired x now row.phase) (sym setup_is) (subst (λ (r : Row). HasExpired h.setup now r.phase) one its.2))
 
   pub own_tickets : HaveOwnTickets (state_of h).rows
-  own_tickets = subst (λ (x : History). HaveOwnTickets (state_of x).rows) same (trace_consistent pair_of t is).tickets
+  own_tickets = subst (λ (x : History). HaveOwnTickets (state_of x).rows) same (state_consistent pair_of t is).tickets
 
   pub last_moment : t.position.last ≡ (state_of h).moment
   last_moment = ap (λ (p : Position). p.last) is.holds.position ∙ ap (λ (x : History). (state_of x).moment) same
 
   pub many_places : length (state_of h).rows ≡ h.setup.places
-  many_places = subst (λ (x : History). length (state_of x).rows ≡ x.setup.places) same (trace_places pair_of t is)
+  many_places = subst (λ (x : History). length (state_of x).rows ≡ x.setup.places) same (state_places pair_of t is)
 
   pub in_turn_there : AreInTurn (WaitsSince (state_of h).rows) (state_of h).moment t.waits.order
   in_turn_there = subst (λ (x : History). AreInTurn (WaitsSince (state_of x).rows) (state_of x).moment t.waits.order) same is.holds.in_turn

@@ -1,4 +1,4 @@
--- Grants and moves of a trace.
+-- Grants and moves of a logged state.
 use Rattle.std.proofs.Common.{◌≡◌, ◌≢◌, ℕ, ◌+◌, ◌<◌, ◌≤◌, List, [], ◌∷◌, Option, None, Some, IsTrue, length, refl, ap, sym, ◌∙◌, subst}
 use Rattle.std.proofs.Common.{arith, ◌==◌, Ordering, Less, Equal, Greater}
 use Rattle.std.proofs.lemmas.Bool.Decides.{Decides-eqb}
@@ -22,18 +22,18 @@ use Rattle.log_reading.specs.Grants.{joining_of, has_joined}
 use Rattle.log_reading.specs.Windows.{base_rows}
 use Rattle.log_reading.specs.Readable.{HasArrived}
 use Rattle.base_lists.proofs.Both.{and_second}
-use Rattle.slot_ledger.specs.Ledgers.{with_slots, scene_in as kept_scene}
-use Rattle.slot_ledger.specs.Slots.{rows_in, HasRow, with_phase, loosened}
+use Rattle.slot_ledger.specs.Ledgers.{with_cells, scene_in as kept_scene}
+use Rattle.slot_ledger.specs.Cells.{rows_in, HasRow, with_phase, loosened}
 use Rattle.server_pick.specs.declared.heads.Heads.{Heads}
 use Rattle.server_pick.specs.Heads.{AreHeads, IsHead, IsLawfulTake, IsLeastIn}
 use Rattle.queue_waits.specs.declared.waiters.Waiter.{Waiter}
 use Rattle.queue_waits.specs.Waitlists.{Waitlist, Waiters, NoneWaitsIn, WaitsFirstIn, IsFirstKey, IsHeadOf, AreFirst, without_waiter}
 use Rattle.dispatch_state.specs.Histories.{with_entry, scene_of, waiting_of, MayComeNext, MayGrantNext, IsGrant}
-use Rattle.dispatch_state.specs.Traces.{Traced, history_of, noted, IsTrace, position_of}
+use Rattle.dispatch_state.specs.LoggedStates.{LoggedState, history_of, noted, IsLoggedState, position_of}
 use Rattle.dispatch_state.proofs.Beginning.{scene_is, cursor_is}
 use Rattle.dispatch_state.proofs.Entries.{cursor_moved}
 use Rattle.dispatch_state.proofs.Resting.{waits_phase, phase_waits}
-use Rattle.dispatch_state.proofs.Stepping.{stands_slot, trace_consistent}
+use Rattle.dispatch_state.proofs.Stepping.{stands_cell, state_consistent}
 use Rattle.dispatch_state.proofs.Waiters.{ItsRow, waits_listed, listed, unqueued, one_fewer, row_arrived, row_joined}
 use Rattle.dispatch_state.proofs.Within.{take_within}
 
@@ -63,12 +63,12 @@ not_empty here list heads server cursor queue first take none =
 
 module _ {N : Type 0} (pair_of : N → Key × ℕ) where
   -- nobody listed in a queue, no row waits in it
-  pub none_wait : (t : Traced N) (queue : Queue) → IsTrace pair_of t → NoneWaitsIn queue t.waits.waiters
+  pub none_wait : (t : LoggedState N) (queue : Queue) → IsLoggedState pair_of t → NoneWaitsIn queue t.waits.waiters
       → IsEmptyQueue queue (state_of (history_of t)).rows
   none_wait t queue is none row live waits_so =
       let w = waits_phase queue row.phase waits_so in none live.0 _ (listed pair_of t live.0 row queue w.0 is live.1 w.1) refl
 
-  least_is : (t : Traced N) (queue : Queue) (key : Key) → IsTrace pair_of t → IsFirstKey queue t.waits.waiters key
+  least_is : (t : LoggedState N) (queue : Queue) (key : Key) → IsLoggedState pair_of t → IsFirstKey queue t.waits.waiters key
       → IsLeastIn queue (state_of (history_of t)).rows key
   least_is t queue key is first =
       let its = waits_listed pair_of t first.0 first.1 is first.2.waits in
@@ -83,8 +83,8 @@ module _ {N : Type 0} (pair_of : N → Key × ℕ) where
       }
 
   -- the heads of a server's queue and of the backend's are those of the rows
-  pub heads_are : (t : Traced N) (heads : Heads) (server : ℕ) → IsTrace pair_of t → AreFirst server heads t.waits
-      → AreHeads heads server (rows_in t.kept.slots)
+  pub heads_are : (t : LoggedState N) (heads : Heads) (server : ℕ) → IsLoggedState pair_of t → AreFirst server heads t.waits
+      → AreHeads heads server (rows_in t.kept.cells)
   heads_are t heads server is first =
       subst (λ (r : Rows). AreHeads heads server r) (sym is.holds.rows) (record {
         own = by_head heads.own (Server server) first.own;
@@ -96,15 +96,15 @@ module _ {N : Type 0} (pair_of : N → Key × ℕ) where
       by_head (Some key) queue its = least_is t queue key is its
 
   -- what a grant's calls found
-  pub record GrantCalls (t : Traced N) (heads : Heads) (server : ℕ) (queue : Queue) (place : ℕ) (waiter : Waiter) : Type 0 where
-    pub before : IsTrace pair_of t
+  pub record GrantCalls (t : LoggedState N) (heads : Heads) (server : ℕ) (queue : Queue) (place : ℕ) (waiter : Waiter) : Type 0 where
+    pub before : IsLoggedState pair_of t
     pub may_grant : MayGrantNext (history_of t)
     pub heads_first : AreFirst server heads t.waits
     pub take : IsLawfulTake (kept_scene t.kept) t.position.cursor heads server queue
     pub first : WaitsFirstIn queue t.waits.waiters place waiter
 
-  pub grant_calls : (t : Traced N) (now : History) (left : Waitlist) (heads : Heads) (server : ℕ) (queue : Queue) (place : ℕ) (waiter : Waiter)
-      → IsTrace pair_of t → history_of t ≡ now → MayGrantNext now → AreFirst server heads left → left ≡ t.waits
+  pub grant_calls : (t : LoggedState N) (now : History) (left : Waitlist) (heads : Heads) (server : ℕ) (queue : Queue) (place : ℕ) (waiter : Waiter)
+      → IsLoggedState pair_of t → history_of t ≡ now → MayGrantNext now → AreFirst server heads left → left ≡ t.waits
       → IsLawfulTake (kept_scene t.kept) t.position.cursor heads server queue → WaitsFirstIn queue left.waiters place waiter
       → GrantCalls t heads server queue place waiter
   grant_calls t now left heads server queue place waiter is same may_grant heads_first kept take first = record {
@@ -115,7 +115,7 @@ module _ {N : Type 0} (pair_of : N → Key × ℕ) where
     first = subst (λ (l : Waitlist). WaitsFirstIn queue l.waiters place waiter) kept first;
   }
 
-  module _ (t : Traced N) (heads : Heads) (server : ℕ) (queue : Queue) (place : ℕ) (waiter : Waiter)
+  module _ (t : LoggedState N) (heads : Heads) (server : ℕ) (queue : Queue) (place : ℕ) (waiter : Waiter)
       (calls : GrantCalls t heads server queue place waiter) where
     its : ItsRow t.log.entries (state_of (history_of t)).rows place waiter
     its = waits_listed pair_of t place waiter calls.before calls.first.waits
@@ -133,13 +133,13 @@ module _ {N : Type 0} (pair_of : N → Key × ℕ) where
               (subst (λ (s : Scene). IsLawfulGrant s t.position.cursor calls.take.0.ticket queue server) (scene_is pair_of t calls.before) calls.take.2)),
         )
 
-    pub grant_row : HasRow t.kept.slots place
-    grant_row = let s = stands_slot t.kept.slots (state_of (history_of t)).rows place its.row calls.before.holds.rows its.stands in (s.0, s.1)
+    pub grant_row : HasRow t.kept.cells place
+    grant_row = let s = stands_cell t.kept.cells (state_of (history_of t)).rows place its.row calls.before.holds.rows its.stands in (s.0, s.1)
 
     pub grant_kept : (node : N) (now : ℕ) → pair_of node ≡ (waiter.key, place) → now ≡ cursor_after_granting t.kept.setup server t.position.cursor
-        → IsTrace pair_of
+        → IsLoggedState pair_of
         (record {
-          kept = with_slots t.kept (with_phase (Serving server) (loosened node t.kept.slots place) place);
+          kept = with_cells t.kept (with_phase (Serving server) (loosened node t.kept.cells place) place);
           log =
               noted t.log (Granted waiter.key.ticket queue server);
           waits = without_waiter t.waits place;
@@ -161,7 +161,7 @@ module _ {N : Type 0} (pair_of : N → Key × ℕ) where
     grant_fewer =
         one_fewer (history_of t) (Granted waiter.key.ticket queue server) place its.row (record its.row { phase = Serving server }) its.stands
         (changed_at (state_of (history_of t)).rows waiter.key.ticket place its.row (in_phase (Serving server))
-        (trace_consistent pair_of t calls.before).tickets its.stands (ap (λ (k : Key). k.ticket) its.key))
+        (state_consistent pair_of t calls.before).tickets its.stands (ap (λ (k : Key). k.ticket) its.key))
         (ap is_waiting its.phase) refl
 
     pub is_grant : (now : History) → now ≡ with_entry (history_of t) (Granted waiter.key.ticket queue server) → IsGrant (history_of t) now

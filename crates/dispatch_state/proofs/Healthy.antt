@@ -9,7 +9,7 @@ use Rattle.log_entries.specs.Histories.{History, state_of}
 use Rattle.log_entries.specs.States.{opening_state}
 use Rattle.log_entries.specs.Legal.{IsBase}
 use Rattle.log_entries.proofs.Judged.{results_all}
-use Rattle.dispatch_state.specs.Traces.{is_up_at}
+use Rattle.dispatch_state.specs.LoggedStates.{is_up_at}
 
 -- a server without a result is up
 up_at_first : (it : Option (ℕ × ℕ)) → is_up_by it [] ≡ true

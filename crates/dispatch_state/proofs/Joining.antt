@@ -13,27 +13,27 @@ use Rattle.log_entries.specs.Rows.{in_phase}
 use Rattle.log_entries.proofs.Judged.{joined_row}
 use Rattle.log_entries.proofs.RowLemmas.{changed_at}
 use Rattle.slot_ledger.specs.declared.places.Cell.{Cell}
-use Rattle.slot_ledger.specs.Ledgers.{with_slots}
-use Rattle.slot_ledger.specs.Slots.{StandsIn, HasNode, with_phase, loosened, waiting}
+use Rattle.slot_ledger.specs.Ledgers.{with_cells}
+use Rattle.slot_ledger.specs.Cells.{StandsIn, HasNode, with_phase, loosened, waiting}
 use Rattle.base_verdict.specs.declared.cause.Cause.{Cause}
 use Rattle.queue_waits.specs.declared.waiters.Waiter.{Waiter}
 use Rattle.queue_waits.specs.Waitlists.{WaitsAt, HasNoKey, with_waiter, without_waiter}
 use Rattle.dispatch_state.specs.declared.position.Ticketed.{Ticketed}
 use Rattle.dispatch_state.specs.Histories.{with_entry, stage_of, cursor_after, waiting_of, IsTicketAt, MayComeNext}
-use Rattle.dispatch_state.specs.Traces.{Traced, history_of, noted, IsTrace}
+use Rattle.dispatch_state.specs.LoggedStates.{LoggedState, history_of, noted, IsLoggedState}
 use Rattle.dispatch_state.proofs.Entries.{cursor_moved}
 use Rattle.dispatch_state.proofs.Resting.{waits_somewhere}
-use Rattle.dispatch_state.proofs.Stepping.{here_at, here_may, stands_slot, at_row, node_of, trace_consistent}
+use Rattle.dispatch_state.proofs.Stepping.{here_at, here_may, stands_cell, at_row, node_of, state_consistent}
 use Rattle.dispatch_state.proofs.Waiters.{waits_listed, listed, not_listed, own_key, queued_up, unqueued, one_fewer}
 
 module _ {N : Type 0} (pair_of : N → Key × ℕ) where
   -- a request is to join a queue
-  pub record JoinCalls (t : Traced N) (it : Ticketed) (queue : Queue) : Type 0 where
-    pub before : IsTrace pair_of t
+  pub record JoinCalls (t : LoggedState N) (it : Ticketed) (queue : Queue) : Type 0 where
+    pub before : IsLoggedState pair_of t
     pub may : MayComeNext (history_of t) (Joined it.ticket queue)
     pub at : IsTicketAt (state_of (history_of t)).rows it
 
-  pub join_calls : (t : Traced N) (now : History) (it : Ticketed) (queue : Queue) → IsTrace pair_of t → history_of t ≡ now
+  pub join_calls : (t : LoggedState N) (now : History) (it : Ticketed) (queue : Queue) → IsLoggedState pair_of t → history_of t ≡ now
       → MayComeNext now (Joined it.ticket queue) → IsTicketAt (state_of now).rows it → JoinCalls t it queue
   join_calls t now it queue is same may at = record {
     before = is;
@@ -41,49 +41,49 @@ module _ {N : Type 0} (pair_of : N → Key × ℕ) where
     at = here_at (history_of t) now it same at;
   }
 
-  module _ (t : Traced N) (it : Ticketed) (queue : Queue) (calls : JoinCalls t it queue) where
+  module _ (t : LoggedState N) (it : Ticketed) (queue : Queue) (calls : JoinCalls t it queue) where
     join_idle : is_waiting calls.at.0.phase ≡ false
     join_idle =
         let h = history_of t in
-        let loose = joined_row (end_of h) (stage_of h) it.ticket queue (trace_consistent pair_of t calls.before) calls.may in
-        let there = at_row (state_of h).rows it loose.place loose.row (trace_consistent pair_of t calls.before).tickets calls.at loose.stands loose.named in
+        let loose = joined_row (end_of h) (stage_of h) it.ticket queue (state_consistent pair_of t calls.before) calls.may in
+        let there = at_row (state_of h).rows it loose.place loose.row (state_consistent pair_of t calls.before).tickets calls.at loose.stands loose.named in
         ap (λ (r : Row). is_waiting r.phase) (same_Some calls.at.0 loose.row (same_Some (Some calls.at.0) (Some loose.row) (sym calls.at.1 ∙ there)))
         ∙ ap is_waiting loose.loose
 
-    slot_there : (s : Cell N) × StandsIn t.kept.slots it.place s × (s.row ≡ calls.at.0)
-    slot_there = stands_slot t.kept.slots (state_of (history_of t)).rows it.place calls.at.0 calls.before.holds.rows calls.at.1
+    cell_there : (s : Cell N) × StandsIn t.kept.cells it.place s × (s.row ≡ calls.at.0)
+    cell_there = stands_cell t.kept.cells (state_of (history_of t)).rows it.place calls.at.0 calls.before.holds.rows calls.at.1
 
-    idle_slot : is_waiting slot_there.0.row.phase ≡ false
-    idle_slot = ap (λ (r : Row). is_waiting r.phase) slot_there.2 ∙ join_idle
+    idle_cell : is_waiting cell_there.0.row.phase ≡ false
+    idle_cell = ap (λ (r : Row). is_waiting r.phase) cell_there.2 ∙ join_idle
 
-    pub join_node : HasNode t.kept.slots it.place
+    pub join_node : HasNode t.kept.cells it.place
     join_node = let node =
-        node_of pair_of it.place slot_there.0 idle_slot (calls.before.holds.nodes it.place slot_there.0 slot_there.1) in
-        (slot_there.0, node.0, slot_there.1, node.1)
+        node_of pair_of it.place cell_there.0 idle_cell (calls.before.holds.nodes it.place cell_there.0 cell_there.1) in
+        (cell_there.0, node.0, cell_there.1, node.1)
 
     pub join_vacant : slice_get t.waits.waiters it.place ≡ Some None
     join_vacant = not_listed pair_of t it.place calls.at.0 calls.before calls.at.1 join_idle
 
-    module _ (row : Row) (read : (s : Cell N) × StandsIn t.kept.slots it.place s × (s.row ≡ row)) where
+    module _ (row : Row) (read : (s : Cell N) × StandsIn t.kept.cells it.place s × (s.row ≡ row)) where
       row_is : calls.at.0 ≡ row
       row_is =
-          let one : slot_there.0 ≡ read.0 = same_Some slot_there.0 read.0 (same_Some (Some slot_there.0) (Some read.0) (sym slot_there.1 ∙ read.1)) in
-          sym slot_there.2 ∙ ap (λ (s : Cell N). s.row) one ∙ read.2
+          let one : cell_there.0 ≡ read.0 = same_Some cell_there.0 read.0 (same_Some (Some cell_there.0) (Some read.0) (sym cell_there.1 ∙ read.1)) in
+          sym cell_there.2 ∙ ap (λ (s : Cell N). s.row) one ∙ read.2
 
       pub join_key : HasNoKey t.waits.waiters row.key
       join_key = subst (λ (r : Row). HasNoKey t.waits.waiters r.key) row_is (own_key pair_of t it.place calls.at.0 calls.before calls.at.1 join_idle)
 
-      pub join_pair : (node : N) → (s : Cell N) × StandsIn t.kept.slots it.place s × (s.node ≡ Some node) → pair_of node ≡ (row.key, it.place)
+      pub join_pair : (node : N) → (s : Cell N) × StandsIn t.kept.cells it.place s × (s.node ≡ Some node) → pair_of node ≡ (row.key, it.place)
       join_pair node has =
-          let one : slot_there.0 ≡ has.0 = same_Some slot_there.0 has.0 (same_Some (Some slot_there.0) (Some has.0) (sym slot_there.1 ∙ has.1)) in
-          let own = node_of pair_of it.place slot_there.0 idle_slot (calls.before.holds.nodes it.place slot_there.0 slot_there.1) in
+          let one : cell_there.0 ≡ has.0 = same_Some cell_there.0 has.0 (same_Some (Some cell_there.0) (Some has.0) (sym cell_there.1 ∙ has.1)) in
+          let own = node_of pair_of it.place cell_there.0 idle_cell (calls.before.holds.nodes it.place cell_there.0 cell_there.1) in
           let same : node ≡ own.0 = same_Some node own.0 (sym has.2 ∙ ap (λ (s : Cell N). s.node) (sym one) ∙ own.1) in
-          ap pair_of same ∙ own.2 ∙ ap (λ (r : Row). (r.key, it.place)) (slot_there.2 ∙ row_is)
+          ap pair_of same ∙ own.2 ∙ ap (λ (r : Row). (r.key, it.place)) (cell_there.2 ∙ row_is)
 
       pub join_kept : (joined now : ℕ) → joined ≡ length t.log.entries + 1 → now ≡ cursor_after (history_of t) (Joined it.ticket queue)
-          → IsTrace pair_of
+          → IsLoggedState pair_of
           (record {
-            kept = with_slots t.kept (waiting queue t.position.last t.kept.slots it.place);
+            kept = with_cells t.kept (waiting queue t.position.last t.kept.cells it.place);
             log = noted t.log (Joined it.ticket queue);
             waits =
                 with_waiter t.waits it.place (record { key = row.key; queue = queue; joined = joined });
@@ -102,13 +102,13 @@ module _ {N : Type 0} (pair_of : N → Key × ℕ) where
           ∙ ap (λ n. record { cursor = n; last = (state_of (history_of t)).moment; ticket = (state_of (history_of t)).ticket }) moved)
 
   -- a request that waits is to be dismissed
-  pub record LeaveCalls (t : Traced N) (it : Ticketed) (cause : Cause) : Type 0 where
-    pub before : IsTrace pair_of t
+  pub record LeaveCalls (t : LoggedState N) (it : Ticketed) (cause : Cause) : Type 0 where
+    pub before : IsLoggedState pair_of t
     pub may : MayComeNext (history_of t) (Left it.ticket cause)
     pub at : IsTicketAt (state_of (history_of t)).rows it
     pub waits : IsInPhase is_waiting (state_of (history_of t)).rows it.ticket
 
-  pub leave_calls : (t : Traced N) (now : History) (it : Ticketed) (cause : Cause) → IsTrace pair_of t → history_of t ≡ now
+  pub leave_calls : (t : LoggedState N) (now : History) (it : Ticketed) (cause : Cause) → IsLoggedState pair_of t → history_of t ≡ now
       → MayComeNext now (Left it.ticket cause) → IsTicketAt (state_of now).rows it
       → IsInPhase is_waiting (state_of now).rows it.ticket → LeaveCalls t it cause
   leave_calls t now it cause is same may at waits = record {
@@ -118,12 +118,12 @@ module _ {N : Type 0} (pair_of : N → Key × ℕ) where
     waits = subst (λ (h : History). IsInPhase is_waiting (state_of h).rows it.ticket) (sym same) waits;
   }
 
-  module _ (t : Traced N) (it : Ticketed) (cause : Cause) (calls : LeaveCalls t it cause) where
+  module _ (t : LoggedState N) (it : Ticketed) (cause : Cause) (calls : LeaveCalls t it cause) where
     waits_there : is_waiting calls.at.0.phase ≡ true
     waits_there =
         let h = history_of t in
         let there = at_row (state_of h).rows it calls.waits.live.0 calls.waits.row
-        (trace_consistent pair_of t calls.before).tickets calls.at calls.waits.live.1 calls.waits.named in
+        (state_consistent pair_of t calls.before).tickets calls.at calls.waits.live.1 calls.waits.named in
         ap (λ (r : Row). is_waiting r.phase)
         (same_Some calls.at.0 calls.waits.row (same_Some (Some calls.at.0) (Some calls.waits.row) (sym calls.at.1 ∙ there))) ∙ calls.waits.phase
 
@@ -131,9 +131,9 @@ module _ {N : Type 0} (pair_of : N → Key × ℕ) where
     its_waiter = let w = waits_somewhere calls.at.0.phase waits_there in (_, listed pair_of t it.place calls.at.0 w.queue w.since calls.before calls.at.1 w.is)
 
     pub leave_kept : (node : N) → (waiter : Waiter) × WaitsAt t.waits.waiters it.place waiter × (pair_of node ≡ (waiter.key, it.place))
-        → IsTrace pair_of
+        → IsLoggedState pair_of
         (record {
-          kept = with_slots t.kept (with_phase (Told cause) (loosened node t.kept.slots it.place) it.place);
+          kept = with_cells t.kept (with_phase (Told cause) (loosened node t.kept.cells it.place) it.place);
           log =
               noted t.log (Left it.ticket cause);
           waits = without_waiter t.waits it.place;
@@ -144,9 +144,9 @@ module _ {N : Type 0} (pair_of : N → Key × ℕ) where
         let own = waits_listed pair_of t it.place its.0 calls.before its.1 in
         let same : own.row ≡ calls.at.0 = same_Some own.row calls.at.0 (same_Some (Some own.row) (Some calls.at.0) (sym own.stands ∙ calls.at.1)) in
         let named : its.0.key.ticket ≡ it.ticket = ap (λ (k : Key). k.ticket) (sym own.key) ∙ ap (λ (r : Row). r.key.ticket) same ∙ calls.at.2 in
-        subst (λ n. IsTrace pair_of (record {
+        subst (λ n. IsLoggedState pair_of (record {
           kept =
-              with_slots t.kept (with_phase (Told cause) (loosened node t.kept.slots it.place) it.place);
+              with_cells t.kept (with_phase (Told cause) (loosened node t.kept.cells it.place) it.place);
           log = noted t.log (Left n cause);
           waits =
               without_waiter t.waits it.place;
@@ -159,4 +159,4 @@ module _ {N : Type 0} (pair_of : N → Key × ℕ) where
     leave_fewer =
         one_fewer (history_of t) (Left it.ticket cause) it.place calls.at.0 (record calls.at.0 { phase = Told cause }) calls.at.1
         (changed_at (state_of (history_of t)).rows it.ticket it.place calls.at.0 (in_phase (Told cause))
-        (trace_consistent pair_of t calls.before).tickets calls.at.1 calls.at.2) waits_there refl
+        (state_consistent pair_of t calls.before).tickets calls.at.1 calls.at.2) waits_there refl

@@ -17,30 +17,30 @@ use Rattle.log_entries.proofs.Judged.{after_all-push}
 use Rattle.base_lists.proofs.Places.{tally, count-set}
 use Rattle.log_entries.proofs.RowLemmas.{changed_at}
 use Rattle.slot_ledger.specs.declared.places.Cell.{Cell}
-use Rattle.slot_ledger.specs.Slots.{StandsIn, HasRow}
+use Rattle.slot_ledger.specs.Cells.{StandsIn, HasRow}
 use Rattle.queue_waits.specs.declared.waiters.Waiter.{Waiter}
 use Rattle.queue_waits.specs.Waitlists.{NoneWaitsIn}
 use Rattle.queue_waits.specs.Waitlists.{WaitsFirstIn as IsFirstListed}
 use Rattle.dispatch_state.specs.Histories.{with_entry, stage_of, MayComeNext, IsMove, IsEmptied}
-use Rattle.dispatch_state.specs.Traces.{Traced, history_of, IsTrace}
+use Rattle.dispatch_state.specs.LoggedStates.{LoggedState, history_of, IsLoggedState}
 use Rattle.dispatch_state.proofs.Grants.{none_wait}
 use Rattle.dispatch_state.proofs.Resting.{waits_phase, phase_waits}
-use Rattle.dispatch_state.proofs.Stepping.{stands_row, stands_slot, trace_consistent}
+use Rattle.dispatch_state.proofs.Stepping.{stands_row, stands_cell, state_consistent}
 use Rattle.dispatch_state.proofs.Waiters.{ItsRow, waits_listed, listed}
 
 module _ {N : Type 0} (pair_of : N → Key × ℕ) where
-  pub emptied : (t : Traced N) (server : ℕ) (now : History) → IsTrace pair_of t → history_of t ≡ now → NoneWaitsIn (Server server) t.waits.waiters
+  pub emptied : (t : LoggedState N) (server : ℕ) (now : History) → IsLoggedState pair_of t → history_of t ≡ now → NoneWaitsIn (Server server) t.waits.waiters
       → IsEmptied server now
   emptied t server now is same none = subst (IsEmptied server) same (none_wait pair_of t (Server server) is none)
 
   -- what a move's call found
-  pub record MoveCalls (t : Traced N) (server place : ℕ) (waiter : Waiter) : Type 0 where
-    pub before : IsTrace pair_of t
+  pub record MoveCalls (t : LoggedState N) (server place : ℕ) (waiter : Waiter) : Type 0 where
+    pub before : IsLoggedState pair_of t
     pub stage : stage_of (history_of t) ≡ emptying server
     pub redispatch : IsTrue t.kept.setup.redispatch
     pub first : IsFirstListed (Server server) t.waits.waiters place waiter
 
-  pub move_calls : (t : Traced N) (now : History) (server place : ℕ) (waiter : Waiter) → IsTrace pair_of t → history_of t ≡ now
+  pub move_calls : (t : LoggedState N) (now : History) (server place : ℕ) (waiter : Waiter) → IsLoggedState pair_of t → history_of t ≡ now
       → stage_of now ≡ emptying server → IsTrue now.setup.redispatch → IsFirstListed (Server server) t.waits.waiters place waiter
       → MoveCalls t server place waiter
   move_calls t now server place waiter is same stage redispatch first = record {
@@ -50,19 +50,19 @@ module _ {N : Type 0} (pair_of : N → Key × ℕ) where
     first = first;
   }
 
-  module _ (t : Traced N) (server place : ℕ) (waiter : Waiter) (calls : MoveCalls t server place waiter) where
+  module _ (t : LoggedState N) (server place : ℕ) (waiter : Waiter) (calls : MoveCalls t server place waiter) where
     its : ItsRow t.log.entries (state_of (history_of t)).rows place waiter
     its = waits_listed pair_of t place waiter calls.before calls.first.waits
 
     its_phase : its.row.phase ≡ Waiting (Server server) its.since
     its_phase = its.phase ∙ ap (λ (q : Queue). Waiting q its.since) calls.first.its
 
-    pub move_row : HasRow t.kept.slots place
-    move_row = let s = stands_slot t.kept.slots (state_of (history_of t)).rows place its.row calls.before.holds.rows its.stands in (s.0, s.1)
+    pub move_row : HasRow t.kept.cells place
+    move_row = let s = stands_cell t.kept.cells (state_of (history_of t)).rows place its.row calls.before.holds.rows its.stands in (s.0, s.1)
 
-    pub move_ticket : (row : Row) → (s : Cell N) × StandsIn t.kept.slots place s × (s.row ≡ row) → row.key.ticket ≡ waiter.key.ticket
+    pub move_ticket : (row : Row) → (s : Cell N) × StandsIn t.kept.cells place s × (s.row ≡ row) → row.key.ticket ≡ waiter.key.ticket
     move_ticket row read =
-        let there = stands_row t.kept.slots (state_of (history_of t)).rows place read.0 calls.before.holds.rows read.1 in
+        let there = stands_row t.kept.cells (state_of (history_of t)).rows place read.0 calls.before.holds.rows read.1 in
         let same : read.0.row ≡ its.row = same_Some read.0.row its.row (same_Some (Some read.0.row) (Some its.row) (sym there ∙ its.stands)) in
         ap (λ (r : Row). r.key.ticket) (sym read.2 ∙ same) ∙ ap (λ (k : Key). k.ticket) its.key
 
@@ -86,7 +86,7 @@ module _ {N : Type 0} (pair_of : N → Key × ℕ) where
     rows_after =
         ap (λ (s : State). s.rows) (after_all-push t.kept.setup t.log.base t.log.entries (Moved waiter.key.ticket server))
         ∙ changed_at (state_of (history_of t)).rows waiter.key.ticket place its.row (in_backend_since (state_of (history_of t)).moment)
-        (trace_consistent pair_of t calls.before).tickets its.stands (ap (λ (k : Key). k.ticket) its.key)
+        (state_consistent pair_of t calls.before).tickets its.stands (ap (λ (k : Key). k.ticket) its.key)
 
     pub move_fewer : queued (Server server) (state_of (with_entry (history_of t) (Moved waiter.key.ticket server))).rows + 1 ≡ queued (Server server)
         (state_of (history_of t)).rows

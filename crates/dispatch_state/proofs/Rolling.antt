@@ -1,4 +1,4 @@
--- The next window of a trace.
+-- The next window of a logged state.
 use Rattle.std.proofs.Common.{◌≡◌, ℕ, Bool, [], ◌∷◌, List, Option, None, Some, map, length, refl, ap, sym, subst, ◌∙◌}
 use Rattle.std.proofs.lemmas.List.{length-map}
 use Rattle.due_key.specs.declared.key.Key.{Key}
@@ -15,13 +15,13 @@ use Rattle.log_entries.specs.States.{State}
 use Rattle.log_entries.proofs.Judged.{places_all, limits_all}
 use Rattle.log_entries.proofs.Windows.{next_base, shortened_ups}
 use Rattle.slot_ledger.specs.declared.places.Cell.{Cell}
-use Rattle.slot_ledger.specs.Slots.{rows_in}
+use Rattle.slot_ledger.specs.Cells.{rows_in}
 use Rattle.queue_waits.specs.Waitlists.{Waitlist, since_before, in_next_window}
 use Rattle.dispatch_state.specs.declared.position.Position.{Position}
-use Rattle.dispatch_state.specs.Traces.{Traced, IsTrace, history_of, waiter_in, waiters_of}
+use Rattle.dispatch_state.specs.LoggedStates.{LoggedState, IsLoggedState, history_of, waiter_in, waiters_of}
 
-pub rows_long : {N : Type 0} (slots : List (Option (Cell N))) → length (rows_in slots) ≡ length slots
-rows_long {N} slots = length-map slots _
+pub rows_long : {N : Type 0} (cells : List (Option (Cell N))) → length (rows_in cells) ≡ length cells
+rows_long {N} cells = length-map cells _
 
 -- those that wait joined before
 before_phase : (log : List Entry) (key : Key) (phase : Phase) → since_before (waiter_in log key phase) ≡ waiter_in [] key phase
@@ -37,15 +37,15 @@ before_rows log (Some row ∷ rows) =
     ap (λ cell. cell ∷ map since_before (waiters_of log rows)) (before_phase log row.key row.phase)
     ∙ ap (λ l. waiter_in [] row.key row.phase ∷ l) (before_rows log rows)
 
-module _ {N : Type 0} (pair_of : N → Key × ℕ) (old : Traced N) (is : IsTrace pair_of old) (legal : IsLegal (history_of old)) where
+module _ {N : Type 0} (pair_of : N → Key × ℕ) (old : LoggedState N) (is : IsLoggedState pair_of old) (legal : IsLegal (history_of old)) where
   abbrev end : State
   end = state_of (history_of old)
 
-  -- the trace in the next window
-  abbrev window : Traced N
+  -- the logged state in the next window
+  abbrev window : LoggedState N
   window = record old { log = record { base = rolled old.kept.setup end; entries = []; room = old.log.room }; waits = in_next_window old.waits }
 
-  pub window_trace : IsTrace pair_of window
+  pub window_trace : IsLoggedState pair_of window
   window_trace = record {
     sound = is.sound;
     judged = record { begins = next_base (history_of old) is.sound legal; judged = tt };
@@ -63,8 +63,8 @@ module _ {N : Type 0} (pair_of : N → Key × ℕ) (old : Traced N) (is : IsTrac
   }
 
   -- it has its places, and limits for all servers
-  pub kept_places : length old.kept.slots ≡ old.kept.setup.places
-  kept_places = sym (rows_long old.kept.slots) ∙ ap length is.holds.rows ∙ places_all old.kept.setup old.log.base old.log.entries ∙ is.judged.begins.places
+  pub kept_places : length old.kept.cells ≡ old.kept.setup.places
+  kept_places = sym (rows_long old.kept.cells) ∙ ap length is.holds.rows ∙ places_all old.kept.setup old.log.base old.log.entries ∙ is.judged.begins.places
 
   pub kept_limits : length old.kept.limits ≡ length old.kept.setup.servers
   kept_limits = ap length is.holds.limits ∙ limits_all old.kept.setup old.log.base old.log.entries ∙ is.judged.begins.limited
@@ -82,7 +82,7 @@ module _ {N : Type 0} (pair_of : N → Key × ℕ) (old : Traced N) (is : IsTrac
 
   pub window_base : (base : State) (results : List (List Bool)) (limits : List Allowance) (cursor : ℕ)
       → base ≡ record {
-        rows = rows_in old.kept.slots;
+        rows = rows_in old.kept.cells;
         results = results;
         limits = limits;
         moment = old.position.last;
@@ -107,7 +107,7 @@ module _ {N : Type 0} (pair_of : N → Key × ℕ) (old : Traced N) (is : IsTrac
       ∙ ap (λ (p : Position). rolled_at end.limits p.last p.ticket p.cursor) is.holds.position
 
   pub window_is : (log : Recorded) (waits : Waitlist) → log ≡ window.log → waits ≡ in_next_window old.waits
-      → IsTrace pair_of (record old { log = log; waits = waits })
+      → IsLoggedState pair_of (record old { log = log; waits = waits })
   window_is log waits by_log by_waits =
-      subst (λ (w : Waitlist). IsTrace pair_of (record old { log = log; waits = w })) (sym by_waits)
-      (subst (λ (l : Recorded). IsTrace pair_of (record old { log = l; waits = in_next_window old.waits })) (sym by_log) window_trace)
+      subst (λ (w : Waitlist). IsLoggedState pair_of (record old { log = log; waits = w })) (sym by_waits)
+      (subst (λ (l : Recorded). IsLoggedState pair_of (record old { log = l; waits = in_next_window old.waits })) (sym by_log) window_trace)

@@ -1,4 +1,4 @@
--- What a trace holds, while one entry changes it.
+-- What a logged state holds, while one entry changes it.
 use Rattle.std.proofs.Common.{◌≡◌, ℕ, ◌+◌, ◌<◌, ◌≤◌, ◌^◌, max, Bool, false, List, [], ◌∷◌, ◌++◌, Option, None, Some, option_map, slice_get, length}
 use Rattle.std.proofs.Common.{refl, ap, sym, ◌∙◌, subst, arith, inl, inr}
 use Rattle.std.proofs.Math.ListN.{set}
@@ -30,20 +30,20 @@ use Rattle.log_reading.specs.Readable.{MayFollow}
 use Rattle.log_reading.specs.Windows.{base_rows}
 use Rattle.log_reading.proofs.Judged.{judged_follows}
 use Rattle.slot_ledger.specs.declared.places.Cell.{Cell}
-use Rattle.slot_ledger.specs.Ledgers.{Kept, with_slots}
-use Rattle.slot_ledger.specs.Slots.{rows_in, StandsIn, HasRow}
+use Rattle.slot_ledger.specs.Ledgers.{Kept, with_cells}
+use Rattle.slot_ledger.specs.Cells.{rows_in, StandsIn, HasRow}
 use Rattle.slot_ledger.proofs.Counting.{row_in}
 use Rattle.queue_waits.specs.Waitlists.{Waitlist}
 use Rattle.dispatch_state.specs.declared.position.Position.{Position}
 use Rattle.dispatch_state.specs.declared.position.Ticketed.{Ticketed}
 use Rattle.dispatch_state.specs.Histories.{stage_of, IsTicketAt, IsJudged, MayAccept, MayComeNext, MayBeginNext}
-use Rattle.dispatch_state.specs.Traces.{Traced, history_of, noted, HasItsNode, HaveNodes, Holds, IsTrace, position_of, waiter_of, waiters_of}
+use Rattle.dispatch_state.specs.LoggedStates.{LoggedState, history_of, noted, HasItsNode, HaveNodes, Holds, IsLoggedState, position_of, waiter_of, waiters_of}
 use Rattle.dispatch_state.specs.Turns.{WaitsSince, AreInTurn}
 use Rattle.dispatch_state.proofs.Resting.{rests}
 use Rattle.dispatch_state.proofs.Turns.{Rests, rows_rest}
 use Rattle.dispatch_state.proofs.Waits.{waiters_same, waiters_set, idle_waiter, waiter_at, none_join}
 
--- what is required of a trace's history is required of what its fields hold
+-- what is required of a logged state's history is required of what its fields hold
 pub here_at : (h now : History) (it : Ticketed) → h ≡ now → IsTicketAt (state_of now).rows it → IsTicketAt (state_of h).rows it
 here_at h now it same at = subst (λ (x : History). IsTicketAt (state_of x).rows it) (sym same) at
 
@@ -56,23 +56,23 @@ pub follows_on : (setup : Setup) (base : State) (log : List Entry) (e : Entry) �
 follows_on setup base log e is = judged_follows setup base log e is.begins is.judged
 
 module _ {N : Type 0} where
-  pub stands_row : (slots : List (Option (Cell N))) (rows : Rows) (p : ℕ) (s : Cell N) → rows_in slots ≡ rows → StandsIn slots p s
+  pub stands_row : (cells : List (Option (Cell N))) (rows : Rows) (p : ℕ) (s : Cell N) → rows_in cells ≡ rows → StandsIn cells p s
       → StandsAt rows p s.row
-  stands_row slots rows p s same stands = ap (λ (l : Rows). slice_get l p) (sym same) ∙ slice_get-map row_in slots p ∙ ap (option_map row_in) stands
+  stands_row cells rows p s same stands = ap (λ (l : Rows). slice_get l p) (sym same) ∙ slice_get-map row_in cells p ∙ ap (option_map row_in) stands
 
-  pub stands_slot : (slots : List (Option (Cell N))) (rows : Rows) (p : ℕ) (r : Row) → rows_in slots ≡ rows → StandsAt rows p r
-      → (s : Cell N) × StandsIn slots p s × (s.row ≡ r)
-  stands_slot slots rows p r same stands = by_cell (slice_get slots p) refl
+  pub stands_cell : (cells : List (Option (Cell N))) (rows : Rows) (p : ℕ) (r : Row) → rows_in cells ≡ rows → StandsAt rows p r
+      → (s : Cell N) × StandsIn cells p s × (s.row ≡ r)
+  stands_cell cells rows p r same stands = by_cell (slice_get cells p) refl
     where
-      by_cell : (cell : Option (Option (Cell N))) → slice_get slots p ≡ cell → (s : Cell N) × StandsIn slots p s × (s.row ≡ r)
+      by_cell : (cell : Option (Option (Cell N))) → slice_get cells p ≡ cell → (s : Cell N) × StandsIn cells p s × (s.row ≡ r)
       by_cell None e =
-          let h : None ≡ Some (Some r) = sym (slice_get-map row_in slots p ∙ ap (option_map row_in) e) ∙ ap (λ (l : Rows). slice_get l p) same
+          let h : None ≡ Some (Some r) = sym (slice_get-map row_in cells p ∙ ap (option_map row_in) e) ∙ ap (λ (l : Rows). slice_get l p) same
           ∙ stands in cc
       by_cell (Some None) e =
-          let h : Some None ≡ Some (Some r) = sym (slice_get-map row_in slots p ∙ ap (option_map row_in) e) ∙ ap (λ (l : Rows). slice_get l p) same
+          let h : Some None ≡ Some (Some r) = sym (slice_get-map row_in cells p ∙ ap (option_map row_in) e) ∙ ap (λ (l : Rows). slice_get l p) same
           ∙ stands in cc
       by_cell (Some (Some s)) e =
-          let h : Some (Some s.row) ≡ Some (Some r) = sym (slice_get-map row_in slots p ∙ ap (option_map row_in) e)
+          let h : Some (Some s.row) ≡ Some (Some r) = sym (slice_get-map row_in cells p ∙ ap (option_map row_in) e)
           ∙ ap (λ (l : Rows). slice_get l p) same ∙ stands in
           (s, e, same_Some s.row r (same_Some (Some s.row) (Some r) h))
 
@@ -84,9 +84,9 @@ at_row rows it p row own at stands named =
     subst (λ n. StandsAt rows n row) place stands
 
 module _ {N : Type 0} (pair_of : N → Key × ℕ) where
-  -- the node of a slot, for its key and place
+  -- the node of a cell, for its key and place
   abbrev pub NodeOf : ℕ → Cell N → Type 0
-  NodeOf place slot = (node : N) × (slot.node ≡ Some node) × (pair_of node ≡ (slot.row.key, place))
+  NodeOf place cell = (node : N) × (cell.node ≡ Some node) × (pair_of node ≡ (cell.row.key, place))
 
   -- a row that doesn't wait has its node
   pub node_of : (place : ℕ) (s : Cell N) → is_waiting s.row.phase ≡ false → HasItsNode pair_of place s.row.phase s → NodeOf place s
@@ -104,47 +104,47 @@ module _ {N : Type 0} (pair_of : N → Key × ℕ) where
   its_node place s (Told c) has = has
   its_node place s (Waiting q m) has = tt
 
-  -- the nodes once one slot is written
-  pub nodes_set : (slots : List (Option (Cell N))) (p : ℕ) (old cell : Option (Cell N)) → HaveNodes pair_of slots → slice_get slots p ≡ Some old
-      → ((x : Cell N) → cell ≡ Some x → HasItsNode pair_of p x.row.phase x) → HaveNodes pair_of (set slots p cell)
-  nodes_set slots p old cell nodes stood node = λ k x there.
-      elim (get-set_cases slots p k old cell (Some x) stood there) [
+  -- the nodes once one cell is written
+  pub nodes_set : (cells : List (Option (Cell N))) (p : ℕ) (old cell : Option (Cell N)) → HaveNodes pair_of cells → slice_get cells p ≡ Some old
+      → ((x : Cell N) → cell ≡ Some x → HasItsNode pair_of p x.row.phase x) → HaveNodes pair_of (set cells p cell)
+  nodes_set cells p old cell nodes stood node = λ k x there.
+      elim (get-set_cases cells p k old cell (Some x) stood there) [
         | inl e ↦ subst (λ n. HasItsNode pair_of n x.row.phase x) (sym e.0) (node x e.1)
         | inr e ↦ nodes k x e.1
       ]
 
-  -- the states of a trace's log are consistent
-  pub trace_consistent : (t : Traced N) → IsTrace pair_of t
+  -- the states of a logged state's log are consistent
+  pub state_consistent : (t : LoggedState N) → IsLoggedState pair_of t
       → IsConsistent (state_of (history_of t)).rows (state_of (history_of t)).ticket (stage_of (history_of t))
-  trace_consistent t is =
+  state_consistent t is =
       consistent_all (start_of (history_of t)) granting t.log.entries (base_consistent t.kept.setup t.log.base is.judged.begins) is.judged.judged
 
   -- there are as many places as the setup says
-  pub trace_places : (t : Traced N) → IsTrace pair_of t → length (state_of (history_of t)).rows ≡ t.kept.setup.places
-  trace_places t is = places_all t.kept.setup t.log.base t.log.entries ∙ is.judged.begins.places
+  pub state_places : (t : LoggedState N) → IsLoggedState pair_of t → length (state_of (history_of t)).rows ≡ t.kept.setup.places
+  state_places t is = places_all t.kept.setup t.log.base t.log.entries ∙ is.judged.begins.places
 
-  -- a live request has a slot at its place
-  pub has_row : (t : Traced N) (it : Ticketed) → IsTrace pair_of t → IsTicketAt (state_of (history_of t)).rows it → HasRow t.kept.slots it.place
-  has_row t it is at = let s = stands_slot t.kept.slots (state_of (history_of t)).rows it.place at.0 is.holds.rows at.1 in (s.0, s.1)
+  -- a live request has a cell at its place
+  pub has_row : (t : LoggedState N) (it : Ticketed) → IsLoggedState pair_of t → IsTicketAt (state_of (history_of t)).rows it → HasRow t.kept.cells it.place
+  has_row t it is at = let s = stands_cell t.kept.cells (state_of (history_of t)).rows it.place at.0 is.holds.rows at.1 in (s.0, s.1)
 
-  -- a trace with an entry more, which holds what that leaves
-  pub stepped : (t : Traced N) (e : Entry) (ups : List Bool) (limits : List Allowance) (slots : List (Option (Cell N))) (waits : Waitlist) (position : Position)
-      → IsTrace pair_of t
+  -- a logged state with an entry more, which holds what that leaves
+  pub stepped : (t : LoggedState N) (e : Entry) (ups : List Bool) (limits : List Allowance) (cells : List (Option (Cell N))) (waits : Waitlist) (position : Position)
+      → IsLoggedState pair_of t
       → MayComeNext (history_of t) e → waits.servers ≡ t.waits.servers
       → Holds pair_of (record {
-        kept = record { setup = t.kept.setup; ups = ups; limits = limits; slots = slots };
+        kept = record { setup = t.kept.setup; ups = ups; limits = limits; cells = cells };
         log = noted t.log e;
         waits = waits;
         position = position;
       })
       (t.log.entries ++ e ∷ []) (after t.kept.setup (state_of (history_of t)) e)
-      → IsTrace pair_of (record {
-        kept = record { setup = t.kept.setup; ups = ups; limits = limits; slots = slots };
+      → IsLoggedState pair_of (record {
+        kept = record { setup = t.kept.setup; ups = ups; limits = limits; cells = cells };
         log = noted t.log e;
         waits = waits;
         position = position;
       })
-  stepped t e ups limits slots waits position is may many holds = record {
+  stepped t e ups limits cells waits position is may many holds = record {
     sound = is.sound;
     judged = record {
       begins = is.judged.begins;
@@ -154,7 +154,7 @@ module _ {N : Type 0} (pair_of : N → Key × ℕ) where
     };
     holds = subst (Holds pair_of (record {
       kept =
-          record { setup = t.kept.setup; ups = ups; limits = limits; slots = slots };
+          record { setup = t.kept.setup; ups = ups; limits = limits; cells = cells };
       log = noted t.log e;
       waits = waits;
       position = position;
@@ -164,33 +164,33 @@ module _ {N : Type 0} (pair_of : N → Key × ℕ) where
     log_room = is.log_room;
   }
 
-  -- a trace whose parts are known by equations
+  -- a logged state whose parts are known by equations
   pub closed : (kept next : Kept N) (log now : Recorded) (waits left : Waitlist) (position : Position) → next ≡ kept → now ≡ log → left ≡ waits
-      → IsTrace pair_of (record { kept = kept; log = log; waits = waits; position = position })
-      → IsTrace pair_of (record { kept = next; log = now; waits = left; position = position })
+      → IsLoggedState pair_of (record { kept = kept; log = log; waits = waits; position = position })
+      → IsLoggedState pair_of (record { kept = next; log = now; waits = left; position = position })
   closed kept next log now waits left position same logged waiting is =
-      subst (λ (k : Kept N). IsTrace pair_of (record { kept = k; log = now; waits = left; position = position })) (sym same)
-      (subst (λ (r : Recorded). IsTrace pair_of (record { kept = kept; log = r; waits = left; position = position })) (sym logged)
-      (subst (λ (w : Waitlist). IsTrace pair_of (record { kept = kept; log = log; waits = w; position = position })) (sym waiting) is))
+      subst (λ (k : Kept N). IsLoggedState pair_of (record { kept = k; log = now; waits = left; position = position })) (sym same)
+      (subst (λ (r : Recorded). IsLoggedState pair_of (record { kept = kept; log = r; waits = left; position = position })) (sym logged)
+      (subst (λ (w : Waitlist). IsLoggedState pair_of (record { kept = kept; log = log; waits = w; position = position })) (sym waiting) is))
 
   -- an entry that changes no row
-  pub row_less : (t : Traced N) (e : Entry) (ups : List Bool) (limits : List Allowance) (position : Position) → IsTrace pair_of t → MayComeNext (history_of t) e
+  pub row_less : (t : LoggedState N) (e : Entry) (ups : List Bool) (limits : List Allowance) (position : Position) → IsLoggedState pair_of t → MayComeNext (history_of t) e
       → joining_in e ≡ None
       → (after t.kept.setup (state_of (history_of t)) e).rows ≡ (state_of (history_of t)).rows
       → (state_of (history_of t)).moment ≤ (after t.kept.setup (state_of (history_of t)) e).moment
       → ups ≡ ups_of t.kept.setup.servers (after t.kept.setup (state_of (history_of t)) e).results
       → limits ≡ (after t.kept.setup (state_of (history_of t)) e).limits
       → position ≡ position_of (after t.kept.setup (state_of (history_of t)) e)
-      → IsTrace pair_of
+      → IsLoggedState pair_of
       (record {
-        kept = record { setup = t.kept.setup; ups = ups; limits = limits; slots = t.kept.slots };
+        kept = record { setup = t.kept.setup; ups = ups; limits = limits; cells = t.kept.cells };
         log = noted t.log e;
         waits = t.waits;
         position = position;
       })
   row_less t e ups limits position is may none rows later up limited far =
       let s = state_of (history_of t) in
-      stepped t e ups limits t.kept.slots t.waits position is may refl (record {
+      stepped t e ups limits t.kept.cells t.waits position is may refl (record {
         rows = is.holds.rows ∙ sym rows;
         nodes = is.holds.nodes;
         ups = up;
@@ -208,25 +208,25 @@ module _ {N : Type 0} (pair_of : N → Key × ℕ) where
           Rattle.dispatch_state.proofs.Turns.turn_alike (WaitsSince rows) (WaitsSince rows) before now places are (λ k since w. w) (λ k since w. w) le
 
   -- what is known of a ticket's row where an entry changes it
-  pub record Changes (t : Traced N) (e : Entry) (p : ℕ) (s : Cell N) (cell : Option (Cell N)) : Type 0 where
-    pub stands : StandsIn t.kept.slots p s
+  pub record Changes (t : LoggedState N) (e : Entry) (p : ℕ) (s : Cell N) (cell : Option (Cell N)) : Type 0 where
+    pub stands : StandsIn t.kept.cells p s
     pub rows : (after t.kept.setup (state_of (history_of t)) e).rows ≡ set (state_of (history_of t)).rows p (row_in cell)
     pub results : (after t.kept.setup (state_of (history_of t)) e).results ≡ (state_of (history_of t)).results
     pub limits : (after t.kept.setup (state_of (history_of t)) e).limits ≡ (state_of (history_of t)).limits
     pub node : (x : Cell N) → cell ≡ Some x → HasItsNode pair_of p x.row.phase x
 
   -- an entry that changes a ticket's row, and with it who waits
-  pub row_changed : (t : Traced N) (e : Entry) (p : ℕ) (s : Cell N) (cell : Option (Cell N)) (waits : Waitlist) (position : Position) → IsTrace pair_of t
+  pub row_changed : (t : LoggedState N) (e : Entry) (p : ℕ) (s : Cell N) (cell : Option (Cell N)) (waits : Waitlist) (position : Position) → IsLoggedState pair_of t
       → MayComeNext (history_of t) e → Changes t e p s cell → waits.servers ≡ t.waits.servers
       → waits.waiters ≡ waiters_of (t.log.entries ++ e ∷ []) (set (state_of (history_of t)).rows p (row_in cell))
       → AreInTurn (WaitsSince (set (state_of (history_of t)).rows p (row_in cell))) (after t.kept.setup (state_of (history_of t)) e).moment waits.order
       → position ≡ position_of (after t.kept.setup (state_of (history_of t)) e)
-      → IsTrace pair_of (record { kept = with_slots t.kept (set t.kept.slots p cell); log = noted t.log e; waits = waits; position = position })
+      → IsLoggedState pair_of (record { kept = with_cells t.kept (set t.kept.cells p cell); log = noted t.log e; waits = waits; position = position })
   row_changed t e p s cell waits position is may change many waiters turn far =
       let state = state_of (history_of t) in
-      stepped t e t.kept.ups t.kept.limits (set t.kept.slots p cell) waits position is may many (record {
-        rows = map-set row_in t.kept.slots p cell ∙ ap (λ (l : Rows). set l p (row_in cell)) is.holds.rows ∙ sym change.rows;
-        nodes = nodes_set t.kept.slots p (Some s) cell is.holds.nodes change.stands change.node;
+      stepped t e t.kept.ups t.kept.limits (set t.kept.cells p cell) waits position is may many (record {
+        rows = map-set row_in t.kept.cells p cell ∙ ap (λ (l : Rows). set l p (row_in cell)) is.holds.rows ∙ sym change.rows;
+        nodes = nodes_set t.kept.cells p (Some s) cell is.holds.nodes change.stands change.node;
         ups = is.holds.ups ∙ ap (ups_of t.kept.setup.servers) (sym change.results);
         limits = is.holds.limits ∙ sym change.limits;
         waiters = waiters ∙ ap (waiters_of (t.log.entries ++ e ∷ [])) (sym change.rows);
@@ -235,16 +235,16 @@ module _ {N : Type 0} (pair_of : N → Key × ℕ) where
       })
 
   -- a row that doesn't wait becomes one that doesn't, or none
-  pub idle_changed : (t : Traced N) (e : Entry) (p : ℕ) (s : Cell N) (cell : Option (Cell N)) (position : Position) → IsTrace pair_of t
+  pub idle_changed : (t : LoggedState N) (e : Entry) (p : ℕ) (s : Cell N) (cell : Option (Cell N)) (position : Position) → IsLoggedState pair_of t
       → MayComeNext (history_of t) e → Changes t e p s cell → joining_in e ≡ None
       → is_waiting s.row.phase ≡ false → waiter_of (t.log.entries ++ e ∷ []) (row_in cell) ≡ None → Rests (row_in cell)
       → (state_of (history_of t)).moment ≤ (after t.kept.setup (state_of (history_of t)) e).moment
       → position ≡ position_of (after t.kept.setup (state_of (history_of t)) e)
-      → IsTrace pair_of (record { kept = with_slots t.kept (set t.kept.slots p cell); log = noted t.log e; waits = t.waits; position = position })
+      → IsLoggedState pair_of (record { kept = with_cells t.kept (set t.kept.cells p cell); log = noted t.log e; waits = t.waits; position = position })
   idle_changed t e p s cell position is may change none idle nobody resting later far =
       let state = state_of (history_of t) in
-      let there = stands_row t.kept.slots state.rows p s is.holds.rows change.stands in
-      let own = (trace_consistent t is).tickets in
+      let there = stands_row t.kept.cells state.rows p s is.holds.rows change.stands in
+      let own = (state_consistent t is).tickets in
       row_changed t e p s cell t.waits position is may change refl
       (is.holds.waiters
       ∙ sym (set_read (waiters_of t.log.entries state.rows) p None
@@ -255,8 +255,8 @@ module _ {N : Type 0} (pair_of : N → Key × ℕ) where
       (λ queue. rests queue s.row idle) resting later)
       far
 
-  -- an event that a trace may accept may begin
-  pub here_begins : (t : Traced N) (now : History) (moment last : ℕ) (refused : History → Option Refusal) → IsTrace pair_of t → history_of t ≡ now
+  -- an event that a logged state may accept may begin
+  pub here_begins : (t : LoggedState N) (now : History) (moment last : ℕ) (refused : History → Option Refusal) → IsLoggedState pair_of t → history_of t ≡ now
       → MayAccept now (refused now) → last ≡ max t.position.last moment → last < 2 ^ 62 → MayBeginNext (history_of t) moment (refused (history_of t))
   here_begins t now moment last refused is same may later within =
       let h = history_of t in

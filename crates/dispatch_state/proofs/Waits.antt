@@ -20,7 +20,7 @@ use Rattle.log_reading.specs.Grants.{joining_in, joins}
 use Rattle.log_reading.proofs.Joinings.{joining_of_other, nothing_joins}
 use Rattle.queue_waits.specs.declared.waiters.Waiter.{Waiter}
 use Rattle.queue_waits.specs.Waitlists.{Waiters}
-use Rattle.dispatch_state.specs.Traces.{waiter_in, waiter_of, waiters_of}
+use Rattle.dispatch_state.specs.LoggedStates.{waiter_in, waiter_of, waiters_of}
 
 -- an entry that doesn't put a ticket into a queue leaves how its row waits
 pub same_waiter : (log : List Entry) (e : Entry) (cell : Option Row)

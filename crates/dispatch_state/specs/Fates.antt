@@ -11,5 +11,5 @@ abbrev pub fate_of : Setup → ℕ → Fate
 fate_of setup failures = if are_spent setup failures then Spent else (if are_redispatched setup failures then Redispatched else Retried)
 
 -- its slot, with one more failure
-abbrev pub failed_slot : {H : Type 0} → Setup → Cell H → Cell H
-failed_slot setup slot = record { row = failed_row setup slot.row; node = slot.node }
+abbrev pub failed_cell : {H : Type 0} → Setup → Cell H → Cell H
+failed_cell setup cell = record { row = failed_row setup cell.row; node = cell.node }

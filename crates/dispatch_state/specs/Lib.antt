@@ -1,5 +1,5 @@
 pub mod Histories
 pub mod Turns
-pub mod Traces
+pub mod LoggedStates
 pub mod Fates
 pub mod Timeouts

@@ -1,13 +1,13 @@
 ghost use Rattle.std.specs.Prelude.{◌≡◌, ◌<◌, ◌^◌, length, None, Some, IfSome, count_by, is_some, slice_get, slice_set, IfOk, OnErr, pos, ◌+ℤ◌};
-ghost use Rattle.slot_ledger.specs.Ledgers.{with_slots};
-ghost use Rattle.slot_ledger.specs.Slots.{AreBelow};
+ghost use Rattle.slot_ledger.specs.Ledgers.{with_cells};
+ghost use Rattle.slot_ledger.specs.Cells.{AreBelow};
 ghost use Rattle.log_entries.specs.declared.entry.Entry.TheVariants.{Arrive};
 ghost use Rattle.log_entries.specs.Histories.{state_of, effective, refuses_arrival};
 ghost use Rattle.log_entries.specs.Rows.{pin_of};
 ghost use Rattle.dispatch_state.specs.Histories.{with_entry, IsTicketAt, MayAccept};
 
 use crate::position::Ticketed;
-use crate::trace::DispatchState;
+use crate::state::DispatchState;
 use due_key::{Class, Due, Key, Moment, Offset};
 use log_entries::{Arrival, Entry, Phase, Row};
 use pend_queue::PendQueue;
@@ -82,11 +82,11 @@ fn admit<Q: PendQueue<Key, usize>>(
     ledger: &mut Ledger<Q::Node>,
     row: Row,
 ) -> Result<usize, AllocError>
-    requires room { count_by is_some ledger.old.slots < length ledger.old.slots }
-    requires highest { AreBelow row.key.ticket ledger.old.slots }
+    requires room { count_by is_some ledger.old.cells < length ledger.old.cells }
+    requires highest { AreBelow row.key.ticket ledger.old.cells }
     requires loose { row.phase ≡ Phase.Loose }
-    ensures vacant { IfOk result (λ place. slice_get ledger.old.slots place ≡ Some None) }
-    ensures admitted { IfOk result (λ place. (node : Q.Node) × (Q.pair_of node ≡ (row.key, place)) × (ledger.new ≡ with_slots ledger.old (slice_set ledger.old.slots place (Some (record { row = row; node = Some node }))))) }
+    ensures vacant { IfOk result (λ place. slice_get ledger.old.cells place ≡ Some None) }
+    ensures admitted { IfOk result (λ place. (node : Q.Node) × (Q.pair_of node ≡ (row.key, place)) × (ledger.new ≡ with_cells ledger.old (slice_set ledger.old.cells place (Some (record { row = row; node = Some node }))))) }
     ensures err { OnErr result (ledger.new ≡ ledger.old) }
 {
     let key = row.key;

@@ -4,10 +4,10 @@ ghost use Rattle.log_entries.specs.Refusals.{first_of, is_checked};
 ghost use Rattle.log_entries.specs.declared.entry.Entry.TheVariants.{Check, Limit, Health};
 ghost use Rattle.log_entries.specs.Health.{with_result};
 ghost use Rattle.log_entries.specs.Histories.{state_of, effective, refuses_check, refuses_limit};
-ghost use Rattle.dispatch_state.specs.Traces.{is_up_at};
+ghost use Rattle.dispatch_state.specs.LoggedStates.{is_up_at};
 ghost use Rattle.dispatch_state.specs.Histories.{with_entry, MayComeNext, MayAccept};
 
-use crate::trace::DispatchState;
+use crate::state::DispatchState;
 use due_key::{Key, Moment};
 use log_entries::{Entry, Intake, Refusal, Setup};
 use pend_queue::PendQueue;

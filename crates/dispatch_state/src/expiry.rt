@@ -8,7 +8,7 @@ ghost use Rattle.pend_queue.specs.Pairs.{IsAscending};
 ghost use Rattle.dispatch_state.specs.Histories.{with_entry, MayAccept, IsJudged};
 ghost use Rattle.dispatch_state.specs.Timeouts.{HasRowAt, ExpiresAt, AreExpired};
 
-use crate::trace::DispatchState;
+use crate::state::DispatchState;
 use due_key::{Key, Moment};
 use log_entries::{Entry, Phase, Setup};
 use pend_queue::{ListQueue, PendQueue};

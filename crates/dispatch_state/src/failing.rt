@@ -4,13 +4,13 @@ ghost use Rattle.log_entries.specs.Histories.{state_of, effective, refuses_failu
 ghost use Rattle.log_entries.specs.Retries.{are_redispatched};
 ghost use Rattle.log_entries.specs.Rows.{failures_of};
 ghost use Rattle.slot_ledger.specs.declared.places.Cell.{Cell};
-ghost use Rattle.slot_ledger.specs.Ledgers.{with_slots};
-ghost use Rattle.slot_ledger.specs.Slots.{HasCountable, with_slot};
-ghost use Rattle.dispatch_state.specs.Fates.{fate_of, failed_slot};
+ghost use Rattle.slot_ledger.specs.Ledgers.{with_cells};
+ghost use Rattle.slot_ledger.specs.Cells.{HasCountable, with_cell};
+ghost use Rattle.dispatch_state.specs.Fates.{fate_of, failed_cell};
 ghost use Rattle.dispatch_state.specs.Histories.{with_entry, IsTicketAt, MayComeNext, MayAccept};
 
 use crate::position::Ticketed;
-use crate::trace::DispatchState;
+use crate::state::DispatchState;
 use due_key::{Key, Moment};
 use log_entries::{Entry, Setup};
 use pend_queue::PendQueue;
@@ -78,9 +78,9 @@ fn redispatches(setup: &Setup, failures: u32) -> bool
 /// Counts a failed connection of the row at a place, which loses its pin where it is redispatched.
 /// Returns the number of failures so far.
 fn count_failure<H: Drop>(ledger: &mut Ledger<H>, place: usize) -> u32
-    requires { HasCountable ledger.old.slots place }
-    ensures counted { ledger.new ≡ with_slots ledger.old (with_slot (failed_slot ledger.old.setup) ledger.old.slots place) }
-    ensures count { (slot : Cell H) × (slice_get ledger.old.slots place ≡ Some (Some slot)) × (result ≡ slot.row.failures + 1) }
+    requires { HasCountable ledger.old.cells place }
+    ensures counted { ledger.new ≡ with_cells ledger.old (with_cell (failed_cell ledger.old.setup) ledger.old.cells place) }
+    ensures count { (cell : Cell H) × (slice_get ledger.old.cells place ≡ Some (Some cell)) × (result ≡ cell.row.failures + 1) }
 {
     let failures = ledger.row(place).failures + 1;
     ledger.fail(place);

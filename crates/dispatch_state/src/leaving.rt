@@ -6,7 +6,7 @@ ghost use Rattle.log_entries.specs.Refusals.{is_waiting};
 ghost use Rattle.dispatch_state.specs.Histories.{with_entry, waiting_of, IsTicketAt, MayComeNext, MayAccept};
 
 use crate::position::Ticketed;
-use crate::trace::DispatchState;
+use crate::state::DispatchState;
 use base_verdict::Cause;
 use due_key::{Key, Moment};
 use log_entries::Entry;

@@ -6,7 +6,7 @@ ghost use Rattle.log_entries.specs.Judgement.{emptying};
 ghost use Rattle.log_entries.specs.Rows.{queued};
 ghost use Rattle.dispatch_state.specs.Histories.{stage_of, IsMove, IsEmptied};
 
-use crate::trace::DispatchState;
+use crate::state::DispatchState;
 use due_key::Key;
 use log_entries::Entry;
 use pend_queue::PendQueue;

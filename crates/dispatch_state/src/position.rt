@@ -8,7 +8,7 @@ pub struct Ticketed {
     pub ticket: u64,
 }
 
-/// The position of a trace.
+/// The position of a state.
 #[derive(Clone, Copy, Debug)]
 pub struct Position {
     /// The server that balancing picked last.

@@ -7,7 +7,7 @@ ghost use Rattle.log_entries.specs.Histories.{state_of, effective, refuses_done}
 ghost use Rattle.dispatch_state.specs.Histories.{with_entry, scene_of, cursor_after, waiting_of, IsTicketAt, MayComeNext, MayAccept, MayGrantNext, IsGrant, IsJudged};
 
 use crate::position::Ticketed;
-use crate::trace::DispatchState;
+use crate::state::DispatchState;
 use base_verdict::Cause;
 use due_key::{Key, Moment};
 use log_entries::{Entry, Queue};

@@ -4,9 +4,9 @@ ghost use Rattle.log_entries.specs.Histories.{state_of, next_window};
 ghost use Rattle.log_entries.specs.Legal.{IsLegal};
 ghost use Rattle.log_entries.specs.Setups.{IsSound};
 ghost use Rattle.log_reading.specs.Bases.{results_by};
-ghost use Rattle.slot_ledger.specs.Slots.{rows_in};
+ghost use Rattle.slot_ledger.specs.Cells.{rows_in};
 
-use crate::trace::DispatchState;
+use crate::state::DispatchState;
 use check_state::Health;
 use due_key::Key;
 use log_reading::Base;
@@ -40,8 +40,8 @@ impl<Q: PendQueue<Key, usize>> DispatchState<Q> {
 
 /// Copies the ledger's rows into the base.
 fn save_rows<N: Drop>(ledger: &Ledger<N>, base: &mut Base)
-    requires { length base.old.rows ≡ length ledger.now.slots }
-    ensures { base.new ≡ record base.old { rows = rows_in ledger.now.slots } }
+    requires { length base.old.rows ≡ length ledger.now.cells }
+    ensures { base.new ≡ record base.old { rows = rows_in ledger.now.cells } }
 {
     for place in 0..ledger.places() {
         base.set_row(place, ledger.cell(place));

@@ -17,7 +17,7 @@ mod show;
 mod viewing;
 
 use config_command::{Subcommand, parse};
-use config_files::{Beside, check, check_in_full};
+use config_files::{CheckOutput, check, check_in_full};
 use converting::convert_file;
 use demo::Looks;
 use replaying::replay_input;
@@ -46,7 +46,7 @@ fn main(rt: HostRuntime) -> ExitCode {
         Subcommand::Run(file, numbers, words) => serve_file(rt, &rt, &file, numbers, words),
         Subcommand::Demo(keep) => show(&rt, looks_of(&rt), keep),
         Subcommand::Replay(input) => replay_input(&rt, &input),
-        Subcommand::Check(file) => check(&rt, &file, beside_of(&rt)),
+        Subcommand::Check(file) => check(&rt, &file, check_output_of(&rt)),
         Subcommand::Explain(file) => check_in_full(&rt, &file),
         Subcommand::Draw(input, only) => draw_input(&rt, &input, &only),
         Subcommand::Tell(input, ticket) => tell_input(&rt, &input, ticket),
@@ -58,11 +58,11 @@ fn main(rt: HostRuntime) -> ExitCode {
 }
 
 // At a terminal the advice is printed to standard error.
-fn beside_of(rt: &HostRuntime) -> Beside {
+fn check_output_of(rt: &HostRuntime) -> CheckOutput {
     if rt.stderr().is_terminal() {
-        Beside::Advice
+        CheckOutput::Advice
     } else {
-        Beside::Nothing
+        CheckOutput::Nothing
     }
 }
 

@@ -4,7 +4,7 @@ use crate::admin::admin_of;
 use crate::controls::{controls_of, end_controls};
 use crate::logs::logs_of;
 use crate::reasons::say_unopened;
-use config_command::{AdminWords, Beside, ControlWords, LogWords, Numbers, RANGES};
+use config_command::{AdminWords, ControlWords, LogWords, RANGES, RunNumbers, ServiceWords};
 use config_files::{read_file, say_address_reason, say_faults};
 use run_parts::RunLimits;
 use run_service::{RunFault, RunOptions, ServeFault, run, status_of};
@@ -30,7 +30,7 @@ pub(crate) fn serve_file<
         + Copy
         + Send
         + 'static,
->(host: HostRuntime, rt: &R, file: &str, numbers: Numbers, beside: Beside) -> u8 {
+>(host: HostRuntime, rt: &R, file: &str, numbers: RunNumbers, beside: ServiceWords) -> u8 {
     let Some(sizes) = sizes_of(numbers) else {
         let _ = rt.eprintln(RANGES);
         return 2;
@@ -39,7 +39,7 @@ pub(crate) fn serve_file<
         Ok(bytes) => bytes,
         Err(error) => return say_unopened(rt, file, error),
     };
-    let Beside {
+    let ServiceWords {
         controls: words,
         logs,
         admin,
@@ -56,7 +56,7 @@ pub(crate) fn serve_file<
     status_of(ended)
 }
 
-fn sizes_of(numbers: Numbers) -> Option<RunLimits> {
+fn sizes_of(numbers: RunNumbers) -> Option<RunLimits> {
     RunLimits::new(
         numbers.workers,
         numbers.loops,
@@ -82,7 +82,7 @@ fn options_of<
 >(
     host: HostRuntime,
     rt: &R,
-    numbers: Numbers,
+    numbers: RunNumbers,
     words: (&ControlWords, LogWords, &AdminWords),
 ) -> Result<RunOptions, u8> {
     let (controls, logs, admin) = words;

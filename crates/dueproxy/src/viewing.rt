@@ -3,7 +3,7 @@
 use crate::inputs::{name_of, open};
 use crate::reasons::{say_unopened, say_why, why_of_input};
 use base_advice::Kept;
-use config_command::{Input, Only};
+use config_command::{DrawnQueue, Input};
 use std::io::{Read, Write};
 use view_files::{DrawFault, InputFault, StoryFault, draw, waits_in, write_story};
 
@@ -11,7 +11,7 @@ use view_files::{DrawFault, InputFault, StoryFault, draw, waits_in, write_story}
 const USAGE: u8 = 2;
 
 /// Draws a script or a trace to standard output, and returns the exit status.
-pub(crate) fn draw_input(rt: &HostRuntime, input: &Input, only: &Option<Only>) -> u8 {
+pub(crate) fn draw_input(rt: &HostRuntime, input: &Input, only: &Option<DrawnQueue>) -> u8 {
     match open(rt, input, "a script or a trace") {
         Ok(mut opened) => draw_stream(rt, name_of(input), &mut opened, &mut rt.stdout(), only),
         Err(error) => say_unopened(rt, name_of(input), error),
@@ -23,7 +23,7 @@ fn draw_stream<R: Read, W: Write>(
     name: &str,
     input: &mut R,
     output: &mut W,
-    only: &Option<Only>,
+    only: &Option<DrawnQueue>,
 ) -> u8 {
     let mut kept = Kept::new(rt.alloc(), input);
     let Err(fault) = draw(rt.alloc(), &mut kept, output, only) else {

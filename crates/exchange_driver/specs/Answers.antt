@@ -1,25 +1,25 @@
 -- The answers of reads and writes.
 use Rattle.std.specs.Prelude.{ℕ, Bool, true, false, ◌&&◌, not}
-use Rattle.exchange_driver.specs.declared.socket.Heard.{Heard}
-use Rattle.exchange_driver.specs.declared.socket.Heard.TheVariants.{Bytes, Nothing}
-use Rattle.exchange_driver.specs.declared.socket.Said.{Said}
-use Rattle.exchange_driver.specs.declared.socket.Said.TheVariants as said
+use Rattle.exchange_driver.specs.declared.socket.ReadResult.{ReadResult}
+use Rattle.exchange_driver.specs.declared.socket.ReadResult.TheVariants.{Bytes, Nothing}
+use Rattle.exchange_driver.specs.declared.socket.WriteResult.{WriteResult}
+use Rattle.exchange_driver.specs.declared.socket.WriteResult.TheVariants as said
 
 -- the number of bytes that a read returned
-abbrev pub came : Heard → ℕ
+abbrev pub came : ReadResult → ℕ
 came (Bytes count) = count
 came _ = 0
 
-abbrev pub is_nothing : Heard → Bool
+abbrev pub is_nothing : ReadResult → Bool
 is_nothing Nothing = true
 is_nothing _ = false
 
 -- the number of bytes that a write took
-abbrev pub went : Said → ℕ
+abbrev pub went : WriteResult → ℕ
 went (said.Bytes count) = count
 went _ = 0
 
-abbrev pub is_full : Said → Bool
+abbrev pub is_full : WriteResult → Bool
 is_full said.Full = true
 is_full _ = false
 

@@ -17,5 +17,5 @@ pub use driving::{Driven, Rest, Settings, drive};
 pub use line::Line;
 pub use meter::Meter;
 pub use moved::Moved;
-pub use socket::{Heard, Said, Socket};
+pub use socket::{ReadResult, Socket, WriteResult};
 pub use streams::{Duplex, Live};

@@ -3,7 +3,7 @@ ghost use Rattle.std.specs.Io.KnownBytes.{Consumes, Appends};
 ghost use Rattle.exchange_driver.specs.Answers.{came, went};
 ghost use Rattle.exchange_driver.specs.Wires.{is_still_at};
 
-use crate::socket::{Heard, Said, Socket};
+use crate::socket::{ReadResult, Socket, WriteResult};
 use exchange_machine::forget;
 use std::alloc::Global;
 use std::marker::Model;
@@ -141,24 +141,24 @@ impl<S: Socket> Line<S> {
 
     /// Reads once into the buffer, all of which may have to wait. Where there is no memory for
     /// that, the read counts as failed.
-    pub(crate) fn read_now(&mut self, buffer: &mut [u8]) -> Heard
+    pub(crate) fn read_now(&mut self, buffer: &mut [u8]) -> ReadResult
         requires { 0 < length buffer.old }
         ensures within { came result ≤ length buffer.new }
         ensures length { length buffer.new ≡ length buffer.old }
-        ensures some { (count : ℕ) → result ≡ Heard.Bytes count → 0 < count }
+        ensures some { (count : ℕ) → result ≡ ReadResult.Bytes count → 0 < count }
         ensures room { length self.new.waits + came result ≤ self.new.room }
         ensures left { Consumes self.old.left self.new.left (take (came result) buffer.new) }
-        ensures dry { result ≡ Heard.Nothing → self.new.dry ≡ true }
+        ensures dry { result ≡ ReadResult.Nothing → self.new.dry ≡ true }
         ensures waits { self.new.waits ≡ self.old.waits }
         ensures taken { (self.new.taken ≡ self.old.taken) × (self.new.full ≡ self.old.full) }
         ensures there { self.new.there ≡ self.old.there }
         ensures none { self.old.there ≡ false → came result ≡ 0 }
     {
         if self.waits.reserve(buffer.len()).is_err() {
-            return Heard::Ended { well: false };
+            return ReadResult::Ended { well: false };
         }
         match &mut self.socket {
-            None => Heard::Nothing,
+            None => ReadResult::Nothing,
             Some(socket) => socket.read_now(buffer),
         }
     }
@@ -178,19 +178,19 @@ impl<S: Socket> Line<S> {
     }
 
     /// Writes once.
-    pub(crate) fn write_now(&mut self, bytes: &[u8]) -> Said
+    pub(crate) fn write_now(&mut self, bytes: &[u8]) -> WriteResult
         requires { 0 < length bytes.now }
         ensures within { went result ≤ length bytes.now }
-        ensures some { (count : ℕ) → result ≡ Said.Bytes count → 0 < count }
+        ensures some { (count : ℕ) → result ≡ WriteResult.Bytes count → 0 < count }
         ensures taken { Appends self.old.taken self.new.taken (take (went result) bytes.now) }
-        ensures full { result ≡ Said.Full → self.new.full ≡ true }
+        ensures full { result ≡ WriteResult.Full → self.new.full ≡ true }
         ensures left { (self.new.left ≡ self.old.left) × (self.new.dry ≡ self.old.dry) }
         ensures waits { (self.new.waits ≡ self.old.waits) × (self.new.room ≡ self.old.room) }
         ensures there { self.new.there ≡ self.old.there }
         ensures none { self.old.there ≡ false → went result ≡ 0 }
     {
         match &mut self.socket {
-            None => Said::Full,
+            None => WriteResult::Full,
             Some(socket) => socket.write_now(bytes),
         }
     }

@@ -7,7 +7,7 @@ ghost use Rattle.exchange_events.specs.Steps.{IsAtItsStage, IsOwn, to_client, to
 
 use crate::driving::Settings;
 use crate::line::Line;
-use crate::socket::{Heard, Said, Socket};
+use crate::socket::{ReadResult, Socket, WriteResult};
 use exchange_events::{Event, Exchange, Outcome, Step};
 
 /// The effect of a move.
@@ -73,12 +73,12 @@ pub(crate) fn write_client<C: Socket, S: Socket>(
 {
     let said = client.write_now(exchange.to_client());
     match said {
-        Said::Full => unmoved(exchange),
-        Said::Failed => behind(
+        WriteResult::Full => unmoved(exchange),
+        WriteResult::Failed => behind(
             exchange.step(settings.alloc, settings.rules, Event::ClientFailed),
             Did::Tells,
         ),
-        Said::Bytes(count) => behind(
+        WriteResult::Bytes(count) => behind(
             exchange.step(settings.alloc, settings.rules, Event::ClientTook(count)),
             Did::Client,
         ),
@@ -99,12 +99,12 @@ pub(crate) fn write_server<C: Socket, S: Socket>(
 {
     let said = server.write_now(exchange.to_server());
     match said {
-        Said::Full => unmoved(exchange),
-        Said::Failed => behind(
+        WriteResult::Full => unmoved(exchange),
+        WriteResult::Failed => behind(
             exchange.step(settings.alloc, settings.rules, Event::ServerDeaf),
             Did::Tells,
         ),
-        Said::Bytes(count) => behind(
+        WriteResult::Bytes(count) => behind(
             exchange.step(settings.alloc, settings.rules, Event::ServerTook(count)),
             Did::Server,
         ),
@@ -167,16 +167,16 @@ pub(crate) fn read_client<C: Socket, S: Socket>(
     ensures buffer { length buffer.new ≡ length buffer.old }
 {
     match client.read_now(buffer) {
-        Heard::Nothing => unmoved(exchange),
-        Heard::Ended { well: true } => behind(
+        ReadResult::Nothing => unmoved(exchange),
+        ReadResult::Ended { well: true } => behind(
             exchange.step(settings.alloc, settings.rules, Event::ClientEnd),
             Did::Tells,
         ),
-        Heard::Ended { well: false } => behind(
+        ReadResult::Ended { well: false } => behind(
             exchange.step(settings.alloc, settings.rules, Event::ClientFailed),
             Did::Tells,
         ),
-        Heard::Bytes(count) => {
+        ReadResult::Bytes(count) => {
             let came = &buffer[..count];
             let step = exchange.step(settings.alloc, settings.rules, Event::ClientBytes(came));
             client.keep(&came[step.used..]);
@@ -201,16 +201,16 @@ pub(crate) fn read_server<C: Socket, S: Socket>(
     ensures buffer { length buffer.new ≡ length buffer.old }
 {
     match server.read_now(buffer) {
-        Heard::Nothing => unmoved(exchange),
-        Heard::Ended { well: true } => behind(
+        ReadResult::Nothing => unmoved(exchange),
+        ReadResult::Ended { well: true } => behind(
             exchange.step(settings.alloc, settings.rules, Event::ServerEnd),
             Did::Tells,
         ),
-        Heard::Ended { well: false } => behind(
+        ReadResult::Ended { well: false } => behind(
             exchange.step(settings.alloc, settings.rules, Event::ServerFailed),
             Did::Tells,
         ),
-        Heard::Bytes(count) => {
+        ReadResult::Bytes(count) => {
             let came = &buffer[..count];
             let step = exchange.step(settings.alloc, settings.rules, Event::ServerBytes(came));
             server.keep(&came[step.used..]);

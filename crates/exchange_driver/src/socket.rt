@@ -4,7 +4,7 @@ ghost use Rattle.exchange_driver.specs.Answers.{came, went, is_nothing, is_full,
 
 /// The result of a read.
 #[derive(Clone, Copy, Debug, PartialEq, Eq)]
-pub enum Heard {
+pub enum ReadResult {
     /// This number of bytes, at least one.
     Bytes(usize),
     /// Nothing is there.
@@ -15,7 +15,7 @@ pub enum Heard {
 
 /// The result of a write.
 #[derive(Clone, Copy, Debug, PartialEq, Eq)]
-pub enum Said {
+pub enum WriteResult {
     /// This number of bytes, at least one.
     Bytes(usize),
     /// It is full.
@@ -38,20 +38,20 @@ pub trait Socket: Drop {
     /// Its last write answered that it is full, and nothing was reported since.
     ghost full: { Self → Bool };
 
-    fn read_now(&mut self, buffer: &mut [u8]) -> Heard
+    fn read_now(&mut self, buffer: &mut [u8]) -> ReadResult
         requires { 0 < length buffer.old }
         ensures within { came result ≤ length buffer.new }
         ensures length { length buffer.new ≡ length buffer.old }
-        ensures some { (count : ℕ) → result ≡ Heard.Bytes count → 0 < count }
+        ensures some { (count : ℕ) → result ≡ ReadResult.Bytes count → 0 < count }
         ensures left { Consumes (left self.old) (left self.new) (take (came result) buffer.new) }
         ensures dry { dry self.new ≡ is_nothing result }
         ensures taken { taken self.new ≡ taken self.old }
         ensures full { full self.new ≡ full self.old };
 
-    fn write_now(&mut self, bytes: &[u8]) -> Said
+    fn write_now(&mut self, bytes: &[u8]) -> WriteResult
         requires { 0 < length bytes.now }
         ensures within { went result ≤ length bytes.now }
-        ensures some { (count : ℕ) → result ≡ Said.Bytes count → 0 < count }
+        ensures some { (count : ℕ) → result ≡ WriteResult.Bytes count → 0 < count }
         ensures taken { Appends (taken self.old) (taken self.new) (take (went result) bytes.now) }
         ensures full { full self.new ≡ is_full result }
         ensures left { left self.new ≡ left self.old }

@@ -3,7 +3,7 @@ ghost use Rattle.std.specs.Io.KnownBytes.{Consumes, Appends};
 ghost use Rattle.exchange_driver.specs.Answers.{came, went, is_nothing, is_full};
 
 use crate::meter::Meter;
-use crate::socket::{Heard, Said, Socket};
+use crate::socket::{ReadResult, Socket, WriteResult};
 use std::cell::Cell;
 use std::io::{ErrorKind, Read, Write};
 use std::net::TcpStream;
@@ -64,15 +64,15 @@ impl Live {
         self.meter.set(Some(Meter::new()));
     }
 
-    fn note_heard(&self, heard: Heard) {
-        if let (Some(mut meter), Heard::Bytes(count)) = (self.meter.get(), heard) {
+    fn note_heard(&self, heard: ReadResult) {
+        if let (Some(mut meter), ReadResult::Bytes(count)) = (self.meter.get(), heard) {
             meter.note_received(count);
             self.meter.set(Some(meter));
         }
     }
 
-    fn note_said(&self, said: Said, bytes: &[u8]) {
-        if let (Some(mut meter), Said::Bytes(count)) = (self.meter.get(), said) {
+    fn note_said(&self, said: WriteResult, bytes: &[u8]) {
+        if let (Some(mut meter), WriteResult::Bytes(count)) = (self.meter.get(), said) {
             meter.note_sent(&bytes[..count.min(bytes.len())]);
             self.meter.set(Some(meter));
         }
@@ -93,13 +93,13 @@ impl<R: Read + Drop, W: Write + Drop> Socket for Duplex<R, W> {
 
     ghost full = { λ side. side.is_full };
 
-    fn read_now(&mut self, buffer: &mut [u8]) -> Heard {
+    fn read_now(&mut self, buffer: &mut [u8]) -> ReadResult {
         let heard = read_ready(&mut self.reads, buffer);
         self.is_dry = heard.is_nothing();
         heard
     }
 
-    fn write_now(&mut self, bytes: &[u8]) -> Said {
+    fn write_now(&mut self, bytes: &[u8]) -> WriteResult {
         let said = write_ready(&mut self.writes, bytes);
         self.is_full = said.is_full();
         said
@@ -130,14 +130,14 @@ impl Socket for Live {
 
     ghost full = { λ live. live.is_full };
 
-    fn read_now(&mut self, buffer: &mut [u8]) -> Heard {
+    fn read_now(&mut self, buffer: &mut [u8]) -> ReadResult {
         let heard = read_ready(&mut self.stream, buffer);
         self.is_dry = heard.is_nothing();
         self.note_heard(heard);
         heard
     }
 
-    fn write_now(&mut self, bytes: &[u8]) -> Said {
+    fn write_now(&mut self, bytes: &[u8]) -> WriteResult {
         let said = write_ready(&mut self.stream, bytes);
         self.is_full = said.is_full();
         self.note_said(said, bytes);
@@ -158,67 +158,67 @@ impl Socket for Live {
     }
 }
 
-impl Heard {
+impl ReadResult {
     fn is_nothing(&self) -> bool
         ensures { result ≡ is_nothing self.now }
     {
         match self {
-            Heard::Nothing => true,
-            Heard::Bytes(_) => false,
-            Heard::Ended { well: _ } => false,
+            ReadResult::Nothing => true,
+            ReadResult::Bytes(_) => false,
+            ReadResult::Ended { well: _ } => false,
         }
     }
 }
 
-impl Said {
+impl WriteResult {
     fn is_full(&self) -> bool
         ensures { result ≡ is_full self.now }
     {
         match self {
-            Said::Full => true,
-            Said::Bytes(_) => false,
-            Said::Failed => false,
+            WriteResult::Full => true,
+            WriteResult::Bytes(_) => false,
+            WriteResult::Failed => false,
         }
     }
 }
 
 // Reads once, and again where a signal interrupted it.
-fn read_ready<R: Read>(reads: &mut R, buffer: &mut [u8]) -> Heard
+fn read_ready<R: Read>(reads: &mut R, buffer: &mut [u8]) -> ReadResult
     ensures within { came result ≤ length buffer.new }
     ensures length { length buffer.new ≡ length buffer.old }
-    ensures some { (count : ℕ) → result ≡ Heard.Bytes count → 0 < count }
+    ensures some { (count : ℕ) → result ≡ ReadResult.Bytes count → 0 < count }
     ensures left { Consumes (R.remaining reads.old) (R.remaining reads.new) (take (came result) buffer.new) }
 {
     for _signal in 0..SIGNALS {
         match reads.read(buffer) {
-            Ok(0) => return Heard::Ended { well: true },
-            Ok(count) => return Heard::Bytes(count),
+            Ok(0) => return ReadResult::Ended { well: true },
+            Ok(count) => return ReadResult::Bytes(count),
             Err(error) => match error.kind() {
-                ErrorKind::WouldBlock => return Heard::Nothing,
+                ErrorKind::WouldBlock => return ReadResult::Nothing,
                 ErrorKind::Interrupted => {}
-                _ => return Heard::Ended { well: false },
+                _ => return ReadResult::Ended { well: false },
             },
         }
     }
-    Heard::Ended { well: false }
+    ReadResult::Ended { well: false }
 }
 
 // Writes once, and again where a signal interrupted it.
-fn write_ready<W: Write>(writes: &mut W, bytes: &[u8]) -> Said
+fn write_ready<W: Write>(writes: &mut W, bytes: &[u8]) -> WriteResult
     ensures within { went result ≤ length bytes.now }
-    ensures some { (count : ℕ) → result ≡ Said.Bytes count → 0 < count }
+    ensures some { (count : ℕ) → result ≡ WriteResult.Bytes count → 0 < count }
     ensures taken { Appends (W.contents writes.old) (W.contents writes.new) (take (went result) bytes.now) }
 {
     for _signal in 0..SIGNALS {
         match writes.write(bytes) {
-            Ok(0) => return Said::Failed,
-            Ok(count) => return Said::Bytes(count),
+            Ok(0) => return WriteResult::Failed,
+            Ok(count) => return WriteResult::Bytes(count),
             Err(error) => match error.kind() {
-                ErrorKind::WouldBlock => return Said::Full,
+                ErrorKind::WouldBlock => return WriteResult::Full,
                 ErrorKind::Interrupted => {}
-                _ => return Said::Failed,
+                _ => return WriteResult::Failed,
             },
         }
     }
-    Said::Failed
+    WriteResult::Failed
 }

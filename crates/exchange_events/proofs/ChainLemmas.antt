@@ -11,7 +11,7 @@ use Rattle.exchange_machine.proofs.Answering.{settling_tells}
 use Rattle.exchange_events.specs.Chains.{IsBegun, IsNext, is_answered, is_clean, is_silent}
 use Rattle.exchange_events.specs.Steps.{IsAtItsStage, to_client}
 use Rattle.exchange_events.specs.declared.exchange.Exchange.{Exchange}
-use Rattle.exchange_events.specs.declared.exchange.Exchange.TheVariants.{Asking, Waiting, Dialing, Passing, Settling, Leaving, Telling, Over}
+use Rattle.exchange_events.specs.declared.exchange.Exchange.TheVariants.{Asking, Waiting, Dialing, Forwarding, Settling, Leaving, Telling, Over}
 
 text_as : (h : ExchangeHistory) (one other : List ℕ) → one ≡ other → TellsAnswer h.signs h.client_in h.server_in one
     → TellsAnswer h.signs h.client_in h.server_in other
@@ -21,7 +21,7 @@ pub answered_whole : (x : Exchange) (h : ExchangeHistory) → is_answered x ≡ 
 answered_whole (Asking a) h on is = absurd (true≢false (sym on))
 answered_whole (Waiting w) h on is = absurd (true≢false (sym on))
 answered_whole (Dialing d) h on is = absurd (true≢false (sym on))
-answered_whole (Passing p) h on is = absurd (true≢false (sym on))
+answered_whole (Forwarding p) h on is = absurd (true≢false (sym on))
 answered_whole (Settling s) h on is = text_as h _ (h.to_client ++ s.out.out) is.ends.tells (settling_tells s h is)
 answered_whole (Leaving l) h on is = text_as h is.text (h.to_client ++ l.out.out) is.told (is.whole on)
 answered_whole (Telling t) h on is = absurd (true≢false (sym on))
@@ -45,7 +45,7 @@ pub clean_ends : (x : Exchange) (h : ExchangeHistory) → is_clean x ≡ true �
 clean_ends (Asking a) h on is = absurd (true≢false (sym on))
 clean_ends (Waiting w) h on is = absurd (true≢false (sym on))
 clean_ends (Dialing d) h on is = absurd (true≢false (sym on))
-clean_ends (Passing p) h on is = absurd (true≢false (sym on))
+clean_ends (Forwarding p) h on is = absurd (true≢false (sym on))
 clean_ends (Settling s) h on is = settled_clean s h on is
 clean_ends (Leaving l) h on is = is.clean on
 clean_ends (Telling t) h on is = absurd (true≢false (sym on))
@@ -59,7 +59,7 @@ pub silent_none : (x : Exchange) (h : ExchangeHistory) → is_silent x ≡ true 
 silent_none (Asking a) h on is = (is.held ∙ none_is a.held.items on, is.fresh.silent, is.fresh.grants)
 silent_none (Waiting w) h on is = absurd (true≢false (sym on))
 silent_none (Dialing d) h on is = absurd (true≢false (sym on))
-silent_none (Passing p) h on is = absurd (true≢false (sym on))
+silent_none (Forwarding p) h on is = absurd (true≢false (sym on))
 silent_none (Settling s) h on is = absurd (true≢false (sym on))
 silent_none (Leaving l) h on is = absurd (true≢false (sym on))
 silent_none (Telling t) h on is = absurd (true≢false (sym on))
@@ -73,7 +73,7 @@ settled_next s h next none begins is = record {
   unsent = is.unsent;
   extra = is.extra;
   ends = subst (λ (l : List ℕ). Ends h is.whole s.behind.items l is.unsent is.extra) none is.ends;
-  stays = is.stays;
+  left_open = is.left_open;
   begins = begins;
 }
 

@@ -10,7 +10,7 @@ use Rattle.exchange_events.specs.Steps.{IsAtItsStage, heard, ended, history_afte
 use Rattle.exchange_events.specs.declared.event.Event.{Event}
 use Rattle.exchange_events.specs.declared.event.Event.TheVariants as Events
 use Rattle.exchange_events.specs.declared.exchange.Exchange.{Exchange}
-use Rattle.exchange_events.specs.declared.exchange.Exchange.TheVariants.{Asking, Waiting, Dialing, Passing, Settling, Leaving, Telling, Over}
+use Rattle.exchange_events.specs.declared.exchange.Exchange.TheVariants.{Asking, Waiting, Dialing, Forwarding, Settling, Leaving, Telling, Over}
 use Rattle.exchange_events.specs.declared.exchange.Outcome.{Outcome}
 use Rattle.exchange_events.specs.declared.exchange.Outcome.TheVariants as Outcomes
 
@@ -22,7 +22,7 @@ at_held : (x : Exchange) (h : ExchangeHistory) → IsAtItsStage x h → h.grants
 at_held (Asking a) h is = all_posted h.grants (passes_of h.posts) (is.fresh.grants ∙ sym (ap passes_of is.fresh.posts))
 at_held (Waiting w) h is = all_posted h.grants (passes_of h.posts) is.grants
 at_held (Dialing d) h is = is.grants
-at_held (Passing p) h is = is.grants
+at_held (Forwarding p) h is = is.grants
 at_held (Settling s) h is = all_posted h.grants (passes_of h.posts) is.grants
 at_held (Leaving l) h is = all_posted h.grants (passes_of h.posts) is.grants
 at_held (Telling t) h is = all_posted h.grants (passes_of h.posts) is.grants

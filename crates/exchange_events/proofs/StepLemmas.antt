@@ -3,10 +3,10 @@ use Rattle.std.proofs.lemmas.List.{take_all}
 use Rattle.std.proofs.Common.{◌≡◌, ◌∙◌, ℕ, Bool, arith, List, [], ◌++◌, take, refl, sym, ap, append-nil, subst}
 use Rattle.exchange_machine.specs.Histories.{ExchangeHistory, client_came, server_came, server_got, client_got, signed}
 use Rattle.exchange_machine.specs.declared.signs.Sign.{Sign}
-use Rattle.exchange_machine.proofs.EventLemmas.{asking_signed, waiting_signed, dialing_signed, passing_signed, settling_signed, leaving_signed, telling_signed, over_signed, telling_over}
+use Rattle.exchange_machine.proofs.EventLemmas.{asking_signed, waiting_signed, dialing_signed, forwarding_signed, settling_signed, leaving_signed, telling_signed, over_signed, telling_over}
 use Rattle.exchange_machine.specs.Headline.{Sound}
 use Rattle.exchange_machine.proofs.EventLemmas.{over_sound}
-use Rattle.exchange_machine.proofs.SideLemmas.{asking_sound, waiting_sound, dialing_sound, passing_sound, leaving_sound}
+use Rattle.exchange_machine.proofs.SideLemmas.{asking_sound, waiting_sound, dialing_sound, forwarding_sound, leaving_sound}
 use Rattle.exchange_machine.proofs.SettlingLemmas.{settling_sound}
 use Rattle.exchange_events.specs.Runs.{Ran}
 use Rattle.exchange_events.specs.Steps.{IsAtItsStage}
@@ -14,7 +14,7 @@ use Rattle.exchange_events.specs.declared.exchange.Outcome.{Outcome}
 use Rattle.exchange_events.specs.declared.run.Events.{Events}
 use Rattle.exchange_events.specs.declared.run.Events.TheVariants.{End}
 use Rattle.exchange_events.specs.declared.exchange.Exchange.{Exchange}
-use Rattle.exchange_events.specs.declared.exchange.Exchange.TheVariants.{Asking, Waiting, Dialing, Passing, Settling, Leaving, Telling, Over}
+use Rattle.exchange_events.specs.declared.exchange.Exchange.TheVariants.{Asking, Waiting, Dialing, Forwarding, Settling, Leaving, Telling, Over}
 
 pub at_as : {x y : Exchange} (h : ExchangeHistory) → x ≡ y → IsAtItsStage x h → IsAtItsStage y h
 at_as h e is = subst (λ (q : Exchange). IsAtItsStage q h) e is
@@ -23,7 +23,7 @@ pub at_signed : (x : Exchange) (h : ExchangeHistory) (s : Sign) → IsAtItsStage
 at_signed (Asking a) h s is = asking_signed a h s is
 at_signed (Waiting a) h s is = waiting_signed a h s is
 at_signed (Dialing a) h s is = dialing_signed a h s is
-at_signed (Passing a) h s is = passing_signed a h s is
+at_signed (Forwarding a) h s is = forwarding_signed a h s is
 at_signed (Settling a) h s is = settling_signed a h s is
 at_signed (Leaving a) h s is = leaving_signed a h s is
 at_signed (Telling a) h s is = telling_signed a h s is
@@ -51,7 +51,7 @@ pub at_sound : (x : Exchange) (h : ExchangeHistory) → IsAtItsStage x h → Sou
 at_sound (Asking a) h is = asking_sound a h is
 at_sound (Waiting a) h is = waiting_sound a h is
 at_sound (Dialing a) h is = dialing_sound a h is
-at_sound (Passing a) h is = passing_sound a h is
+at_sound (Forwarding a) h is = forwarding_sound a h is
 at_sound (Settling a) h is = settling_sound a h is
 at_sound (Leaving a) h is = leaving_sound a h is
 at_sound (Telling a) h is = over_sound h (telling_over a h is)

@@ -8,7 +8,7 @@ use Rattle.exchange_machine.specs.Wholes.{Whole, Ends, begun}
 use Rattle.exchange_machine.specs.declared.signs.Sign.TheVariants as Signs
 use Rattle.exchange_events.specs.Steps.{IsAtItsStage}
 use Rattle.exchange_events.specs.declared.exchange.Exchange.{Exchange}
-use Rattle.exchange_events.specs.declared.exchange.Exchange.TheVariants.{Asking, Waiting, Dialing, Passing, Settling, Leaving, Telling, Over}
+use Rattle.exchange_events.specs.declared.exchange.Exchange.TheVariants.{Asking, Waiting, Dialing, Forwarding, Settling, Leaving, Telling, Over}
 
 -- its client may ask again: both messages were whole, both sides agreed to keep the connection
 -- open, and the client was sent the whole answer
@@ -16,7 +16,7 @@ abbrev pub may_ask_again : Exchange → Bool
 may_ask_again (Asking a) = false
 may_ask_again (Waiting w) = false
 may_ask_again (Dialing d) = false
-may_ask_again (Passing p) = false
+may_ask_again (Forwarding p) = false
 may_ask_again (Settling s) = is_none s.out.out
 may_ask_again (Leaving l) = false
 may_ask_again (Telling t) = false
@@ -37,7 +37,7 @@ pub record IsNext (h : ExchangeHistory) (next : Exchange) : Type 0 where
   pub unsent : List ℕ
   pub extra : List ℕ
   pub ends : Ends h whole behind [] unsent extra
-  pub stays : whole.says ≢ Close
+  pub left_open : whole.says ≢ Close
   pub begins : IsBegun next behind
 
 -- its client is sent the whole answer of its server
@@ -45,7 +45,7 @@ abbrev pub is_answered : Exchange → Bool
 is_answered (Asking a) = false
 is_answered (Waiting w) = false
 is_answered (Dialing d) = false
-is_answered (Passing p) = false
+is_answered (Forwarding p) = false
 is_answered (Settling s) = true
 is_answered (Leaving l) = l.whole
 is_answered (Telling t) = false
@@ -56,7 +56,7 @@ abbrev pub is_silent : Exchange → Bool
 is_silent (Asking a) = is_none a.held.items
 is_silent (Waiting w) = false
 is_silent (Dialing d) = false
-is_silent (Passing p) = false
+is_silent (Forwarding p) = false
 is_silent (Settling s) = false
 is_silent (Leaving l) = false
 is_silent (Telling t) = false
@@ -68,7 +68,7 @@ abbrev pub is_clean : Exchange → Bool
 is_clean (Asking a) = false
 is_clean (Waiting w) = false
 is_clean (Dialing d) = false
-is_clean (Passing p) = false
+is_clean (Forwarding p) = false
 is_clean (Settling s) = s.clean
 is_clean (Leaving l) = l.clean
 is_clean (Telling t) = false
@@ -79,7 +79,7 @@ abbrev pub takes_used : Exchange → Bool
 takes_used (Asking a) = false
 takes_used (Waiting w) = false
 takes_used (Dialing d) = goes_used d
-takes_used (Passing p) = false
+takes_used (Forwarding p) = false
 takes_used (Settling s) = false
 takes_used (Leaving l) = false
 takes_used (Telling t) = false

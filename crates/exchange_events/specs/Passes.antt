@@ -4,7 +4,7 @@ use Rattle.grant_board.specs.Views.{Grant}
 use Rattle.exchange_events.specs.declared.event.Event.{Event}
 use Rattle.exchange_events.specs.declared.event.Event.TheVariants as Events
 use Rattle.exchange_events.specs.declared.exchange.Exchange.{Exchange}
-use Rattle.exchange_events.specs.declared.exchange.Exchange.TheVariants.{Asking, Waiting, Dialing, Passing, Settling, Leaving, Telling, Over}
+use Rattle.exchange_events.specs.declared.exchange.Exchange.TheVariants.{Asking, Waiting, Dialing, Forwarding, Settling, Leaving, Telling, Over}
 use Rattle.exchange_events.specs.declared.exchange.Outcome.{Outcome}
 use Rattle.exchange_events.specs.declared.exchange.Outcome.TheVariants as Outcomes
 
@@ -13,7 +13,7 @@ abbrev pub held_by : Exchange → List Grant
 held_by (Asking a) = []
 held_by (Waiting w) = []
 held_by (Dialing d) = d.pass ∷ []
-held_by (Passing p) = p.pass ∷ []
+held_by (Forwarding p) = p.pass ∷ []
 held_by (Settling s) = []
 held_by (Leaving l) = []
 held_by (Telling t) = []

@@ -6,16 +6,16 @@ use Rattle.http_texts.specs.declared.additions.Additions.{Additions}
 use Rattle.exchange_machine.specs.Histories.{ExchangeHistory, connected_on, client_came, server_came, server_got, client_got, granted, posted, retried, signed}
 use Rattle.exchange_machine.specs.Settlings.{IsSettling}
 use Rattle.exchange_machine.specs.Wants.{takes_request, takes_answer, sends_request}
-use Rattle.exchange_machine.specs.Stages.{IsAsking, IsWaiting, IsDialing, IsPassing, IsLeaving, IsTelling, IsOver}
+use Rattle.exchange_machine.specs.Stages.{IsAsking, IsWaiting, IsDialing, IsForwarding, IsLeaving, IsTelling, IsOver}
 use Rattle.exchange_machine.specs.declared.signs.Sign.{Sign}
 use Rattle.exchange_machine.specs.declared.signs.Sign.TheVariants as Signs
 use Rattle.base_verdict.specs.declared.Ending.TheVariants.{Done, Failed}
-use Rattle.exchange_events.specs.declared.event.Clock.{Clock}
-use Rattle.exchange_events.specs.declared.event.Clock.TheVariants as Clocks
+use Rattle.exchange_events.specs.declared.event.TimeoutKind.{TimeoutKind}
+use Rattle.exchange_events.specs.declared.event.TimeoutKind.TheVariants as Clocks
 use Rattle.exchange_events.specs.declared.event.Event.{Event}
 use Rattle.exchange_events.specs.declared.event.Event.TheVariants as Events
 use Rattle.exchange_events.specs.declared.exchange.Exchange.{Exchange}
-use Rattle.exchange_events.specs.declared.exchange.Exchange.TheVariants.{Asking, Waiting, Dialing, Passing, Settling, Leaving, Telling, Over}
+use Rattle.exchange_events.specs.declared.exchange.Exchange.TheVariants.{Asking, Waiting, Dialing, Forwarding, Settling, Leaving, Telling, Over}
 use Rattle.exchange_events.specs.declared.exchange.Outcome.{Outcome}
 use Rattle.exchange_events.specs.declared.exchange.Outcome.TheVariants as Outcomes
 
@@ -24,7 +24,7 @@ abbrev pub IsAtItsStage : Exchange → ExchangeHistory → Type 0
 IsAtItsStage (Asking a) h = IsAsking a h
 IsAtItsStage (Waiting w) h = IsWaiting w h
 IsAtItsStage (Dialing d) h = IsDialing d h
-IsAtItsStage (Passing p) h = IsPassing p h
+IsAtItsStage (Forwarding p) h = IsForwarding p h
 IsAtItsStage (Settling s) h = IsSettling s h
 IsAtItsStage (Leaving l) h = IsLeaving l h
 IsAtItsStage (Telling t) h = IsTelling t h
@@ -39,7 +39,7 @@ abbrev pub to_client : Exchange → List ℕ
 to_client (Asking a) = []
 to_client (Waiting w) = []
 to_client (Dialing d) = []
-to_client (Passing p) = p.down.out
+to_client (Forwarding p) = p.down.out
 to_client (Settling s) = s.out.out
 to_client (Leaving l) = l.out.out
 to_client (Telling t) = t.rest.now
@@ -50,7 +50,7 @@ abbrev pub to_server : Exchange → List ℕ
 to_server (Asking a) = []
 to_server (Waiting w) = []
 to_server (Dialing d) = []
-to_server (Passing p) = p.up.out
+to_server (Forwarding p) = p.up.out
 to_server (Settling s) = []
 to_server (Leaving l) = []
 to_server (Telling t) = []
@@ -61,7 +61,7 @@ abbrev pub reads_client : Exchange → Bool
 reads_client (Asking a) = true
 reads_client (Waiting w) = false
 reads_client (Dialing d) = false
-reads_client (Passing p) = takes_request p
+reads_client (Forwarding p) = takes_request p
 reads_client (Settling s) = false
 reads_client (Leaving l) = false
 reads_client (Telling t) = false
@@ -72,7 +72,7 @@ abbrev pub reads_server : Exchange → Bool
 reads_server (Asking a) = false
 reads_server (Waiting w) = false
 reads_server (Dialing d) = false
-reads_server (Passing p) = takes_answer p
+reads_server (Forwarding p) = takes_answer p
 reads_server (Settling s) = false
 reads_server (Leaving l) = false
 reads_server (Telling t) = false
@@ -83,7 +83,7 @@ abbrev pub writes_server : Exchange → Bool
 writes_server (Asking a) = false
 writes_server (Waiting w) = false
 writes_server (Dialing d) = false
-writes_server (Passing p) = sends_request p
+writes_server (Forwarding p) = sends_request p
 writes_server (Settling s) = false
 writes_server (Leaving l) = false
 writes_server (Telling t) = false
@@ -100,7 +100,7 @@ abbrev pub is_left : Bool → Exchange → Bool
 is_left aborts (Asking a) = true
 is_left aborts (Waiting w) = aborts
 is_left aborts (Dialing d) = aborts
-is_left aborts (Passing p) = aborts || not (is_done p.up.coding)
+is_left aborts (Forwarding p) = aborts || not (is_done p.up.coding)
 is_left aborts (Settling s) = false
 is_left aborts (Leaving l) = false
 is_left aborts (Telling t) = false
@@ -113,29 +113,29 @@ pub record IsRuled (aborts : Bool) (x : Exchange) (event : Event) (next : Exchan
 
 -- which timeout runs where both sides are active, by whether bytes wait for each, and whether the
 -- request is whole: that of the side that is waited for
-abbrev pub passing_clock : Bool → Bool → Bool → Clock
-passing_clock true for_server asked = Clocks.Client
-passing_clock false true asked = Clocks.Server
-passing_clock false false true = Clocks.Server
-passing_clock false false false = Clocks.Client
+abbrev pub forwarding_clock : Bool → Bool → Bool → TimeoutKind
+forwarding_clock true for_server asked = Clocks.Client
+forwarding_clock false true asked = Clocks.Server
+forwarding_clock false false true = Clocks.Server
+forwarding_clock false false false = Clocks.Client
 
 abbrev pub waits : List ℕ → Bool
 waits [] = false
 waits (b ∷ bytes) = true
 
 -- which timeout runs
-abbrev pub clock_of : Exchange → Option Clock
+abbrev pub clock_of : Exchange → Option TimeoutKind
 clock_of (Asking a) = Some Clocks.Client
 clock_of (Waiting w) = Some Clocks.Queue
 clock_of (Dialing d) = Some Clocks.Connect
-clock_of (Passing p) = Some (if p.dialing then Clocks.Connect else passing_clock (waits p.down.out) (waits p.up.out) (is_done p.up.coding))
+clock_of (Forwarding p) = Some (if p.dialing then Clocks.Connect else forwarding_clock (waits p.down.out) (waits p.up.out) (is_done p.up.coding))
 clock_of (Settling s) = Some Clocks.Client
 clock_of (Leaving l) = Some Clocks.Client
 clock_of (Telling t) = Some Clocks.Client
 clock_of Over = None
 
 -- the sign of an expired timeout
-abbrev pub over : Clock → Sign
+abbrev pub over : TimeoutKind → Sign
 over Clocks.Client = Signs.ClientOver
 over Clocks.Queue = Signs.QueueOver
 over Clocks.Connect = Signs.ConnectOver

@@ -2,16 +2,16 @@ ghost use Rattle.std.specs.Prelude.{◌≡◌, ◌≤◌, ℕ, List, [], false, 
 ghost use Rattle.exchange_machine.specs.Histories.{ExchangeHistory, client_came, server_came, server_got, client_got, signed};
 ghost use Rattle.exchange_machine.specs.Reasons.{told_for};
 ghost use Rattle.exchange_machine.specs.declared.signs.Sign.{Sign};
-ghost use Rattle.exchange_machine.specs.Stages.{IsAsking, IsDialing, IsPassing, IsTurn, IsUnread};
+ghost use Rattle.exchange_machine.specs.Stages.{IsAsking, IsDialing, IsForwarding, IsTurn, IsUnread};
 ghost use Rattle.exchange_events.specs.Steps as steps;
 ghost use Rattle.http_texts.specs.declared.additions.Additions as additions;
 ghost use Rattle.http_texts.specs.declared.refusals.Code as codes;
 
-use crate::event::Clock;
+use crate::event::TimeoutKind;
 use crate::exchange::{Exchange, Outcome, Step};
 use crate::relaying::{Turned, go_on, not_redialed, refused_late};
 use base_verdict::Ending;
-use exchange_machine::{Asking, Dialing, Passing, Sign, Telling, Terms, Turn, Way};
+use exchange_machine::{Asking, Dialing, Forwarding, Sign, Telling, Terms, Turn, Way};
 use grant_board::Pass;
 use http_texts::{Code, Fault};
 use std::alloc::Global;
@@ -60,7 +60,7 @@ pub(crate) fn client_bytes(exchange: Exchange, alloc: Global, input: &[u8]) -> S
 {
     match exchange {
         Exchange::Asking(asking) => asking_bytes(asking, alloc, input),
-        Exchange::Passing(passing) => request_bytes(passing, alloc, input),
+        Exchange::Forwarding(forwarding) => request_bytes(forwarding, alloc, input),
         other => unmoved(other),
     }
 }
@@ -112,13 +112,13 @@ fn unread(why: Fault) -> Turned
     }
 }
 
-fn request_bytes(mut passing: Passing, alloc: Global, input: &[u8]) -> Step
+fn request_bytes(mut forwarding: Forwarding, alloc: Global, input: &[u8]) -> Step
     ensures within { result.used ≤ length input.now }
-    ensures at { (h : ExchangeHistory) → IsPassing passing h → steps.IsAtItsStage result.next (steps.ended result.outcome (client_came h (take result.used input.now))) }
+    ensures at { (h : ExchangeHistory) → IsForwarding forwarding h → steps.IsAtItsStage result.next (steps.ended result.outcome (client_came h (take result.used input.now))) }
     ensures fails { steps.FailsInTurn result.outcome result.next }
 {
-    let used = take_request(&mut passing, input);
-    let Turned { next, outcome } = go_on(passing, alloc);
+    let used = take_request(&mut forwarding, input);
+    let Turned { next, outcome } = go_on(forwarding, alloc);
     Step {
         next,
         used,
@@ -126,15 +126,15 @@ fn request_bytes(mut passing: Passing, alloc: Global, input: &[u8]) -> Step
     }
 }
 
-fn take_request(passing: &mut Passing, input: &[u8]) -> usize
+fn take_request(forwarding: &mut Forwarding, input: &[u8]) -> usize
     ensures within { result ≤ length input.now }
-    ensures passes { (h : ExchangeHistory) → IsPassing passing.old h → IsPassing passing.new (client_came h (take result input.now)) }
+    ensures passes { (h : ExchangeHistory) → IsForwarding forwarding.old h → IsForwarding forwarding.new (client_came h (take result input.now)) }
 {
-    passing.use_held();
-    if !passing.holds_none() {
+    forwarding.use_held();
+    if !forwarding.holds_none() {
         return 0;
     }
-    passing.client_bytes(input)
+    forwarding.client_bytes(input)
 }
 
 pub(crate) fn server_bytes(exchange: Exchange, alloc: Global, input: &[u8]) -> Step
@@ -143,18 +143,18 @@ pub(crate) fn server_bytes(exchange: Exchange, alloc: Global, input: &[u8]) -> S
     ensures fails { steps.FailsInTurn result.outcome result.next }
 {
     match exchange {
-        Exchange::Passing(passing) => answer_bytes(passing, alloc, input),
+        Exchange::Forwarding(forwarding) => answer_bytes(forwarding, alloc, input),
         other => unmoved(other),
     }
 }
 
-fn answer_bytes(mut passing: Passing, alloc: Global, input: &[u8]) -> Step
+fn answer_bytes(mut forwarding: Forwarding, alloc: Global, input: &[u8]) -> Step
     ensures within { result.used ≤ length input.now }
-    ensures at { (h : ExchangeHistory) → IsPassing passing h → steps.IsAtItsStage result.next (steps.ended result.outcome (server_came h (take result.used input.now))) }
+    ensures at { (h : ExchangeHistory) → IsForwarding forwarding h → steps.IsAtItsStage result.next (steps.ended result.outcome (server_came h (take result.used input.now))) }
     ensures fails { steps.FailsInTurn result.outcome result.next }
 {
-    let used = take_answer(&mut passing, input);
-    let Turned { next, outcome } = go_on(passing, alloc);
+    let used = take_answer(&mut forwarding, input);
+    let Turned { next, outcome } = go_on(forwarding, alloc);
     Step {
         next,
         used,
@@ -162,14 +162,14 @@ fn answer_bytes(mut passing: Passing, alloc: Global, input: &[u8]) -> Step
     }
 }
 
-fn take_answer(passing: &mut Passing, input: &[u8]) -> usize
+fn take_answer(forwarding: &mut Forwarding, input: &[u8]) -> usize
     ensures within { result ≤ length input.now }
-    ensures passes { (h : ExchangeHistory) → IsPassing passing.old h → IsPassing passing.new (server_came h (take result input.now)) }
+    ensures passes { (h : ExchangeHistory) → IsForwarding forwarding.old h → IsForwarding forwarding.new (server_came h (take result input.now)) }
 {
-    if passing.is_at_body() && passing.holds_no_answer() {
-        return passing.server_bytes(input);
+    if forwarding.is_at_body() && forwarding.holds_no_answer() {
+        return forwarding.server_bytes(input);
     }
-    match passing.server_head_bytes(input) {
+    match forwarding.server_head_bytes(input) {
         Ok(used) => used,
         Err(_) => 0,
     }
@@ -193,10 +193,10 @@ pub(crate) fn client_took(exchange: Exchange, alloc: Global, count: usize) -> St
     ensures fails { steps.FailsInTurn result.outcome result.next }
 {
     match exchange {
-        Exchange::Passing(mut passing) => {
-            let used = fitting(count, passing.to_client());
-            passing.client_took(used);
-            let Turned { next, outcome } = go_on(passing, alloc);
+        Exchange::Forwarding(mut forwarding) => {
+            let used = fitting(count, forwarding.to_client());
+            forwarding.client_took(used);
+            let Turned { next, outcome } = go_on(forwarding, alloc);
             Step {
                 next,
                 used,
@@ -231,10 +231,10 @@ pub(crate) fn server_took(exchange: Exchange, alloc: Global, count: usize) -> St
     ensures fails { steps.FailsInTurn result.outcome result.next }
 {
     match exchange {
-        Exchange::Passing(mut passing) => {
-            let used = fitting(count, passing.to_server());
-            passing.server_took(used);
-            let Turned { next, outcome } = go_on(passing, alloc);
+        Exchange::Forwarding(mut forwarding) => {
+            let used = fitting(count, forwarding.to_server());
+            forwarding.server_took(used);
+            let Turned { next, outcome } = go_on(forwarding, alloc);
             Step {
                 next,
                 used,
@@ -285,22 +285,22 @@ pub(crate) fn connected(exchange: Exchange, alloc: Global, terms: Terms) -> Step
 {
     match exchange {
         Exchange::Dialing(dialing) => begin(dialing, alloc, terms),
-        Exchange::Passing(passing) => reconnected(passing, alloc, terms),
+        Exchange::Forwarding(forwarding) => reconnected(forwarding, alloc, terms),
         other => unmoved(other),
     }
 }
 
 // On a connection in place of one that broke the waiting bytes are sent as they are.
-fn reconnected(mut passing: Passing, alloc: Global, terms: Terms) -> Step
-    ensures at { (h : ExchangeHistory) → IsPassing passing h
+fn reconnected(mut forwarding: Forwarding, alloc: Global, terms: Terms) -> Step
+    ensures at { (h : ExchangeHistory) → IsForwarding forwarding h
         → steps.IsAtItsStage result.next (steps.ended result.outcome (steps.connected_with result.used terms.adds h)) }
     ensures fails { steps.FailsInTurn result.outcome result.next }
 {
-    if !passing.is_dialing() {
-        return unmoved(Exchange::Passing(passing));
+    if !forwarding.is_dialing() {
+        return unmoved(Exchange::Forwarding(forwarding));
     }
-    passing.connect(terms.fresh);
-    let Turned { next, outcome } = go_on(passing, alloc);
+    forwarding.connect(terms.fresh);
+    let Turned { next, outcome } = go_on(forwarding, alloc);
     Step {
         next,
         used: 0,
@@ -320,8 +320,8 @@ fn begin(dialing: Dialing, alloc: Global, terms: Terms) -> Step
         return short(dialing);
     };
     match dialing.connected(alloc, up, down, terms) {
-        Ok(passing) => {
-            let Turned { next, outcome } = go_on(passing, alloc);
+        Ok(forwarding) => {
+            let Turned { next, outcome } = go_on(forwarding, alloc);
             Step {
                 next,
                 used: 1,
@@ -352,7 +352,7 @@ pub(crate) fn unreachable(exchange: Exchange, sign: Sign) -> Step
 {
     match exchange {
         Exchange::Dialing(dialing) => { unreached_at_first(dialing, sign) }
-        Exchange::Passing(passing) => unreached(passing, sign),
+        Exchange::Forwarding(forwarding) => unreached(forwarding, sign),
         other => unmoved(other),
     }
 }
@@ -379,15 +379,15 @@ fn unreached_at_first(dialing: Dialing, sign: Sign) -> Step
     }
 }
 
-fn unreached(passing: Passing, sign: Sign) -> Step
+fn unreached(forwarding: Forwarding, sign: Sign) -> Step
     requires { told_for sign ≡ Some codes.Code.Unavailable }
-    ensures at { (h : ExchangeHistory) → IsPassing passing h → steps.IsAtItsStage result.next (steps.ended result.outcome (signed h sign)) }
+    ensures at { (h : ExchangeHistory) → IsForwarding forwarding h → steps.IsAtItsStage result.next (steps.ended result.outcome (signed h sign)) }
     ensures fails { steps.FailsInTurn result.outcome result.next }
 {
-    if !passing.is_dialing() {
-        return unmoved(Exchange::Passing(passing));
+    if !forwarding.is_dialing() {
+        return unmoved(Exchange::Forwarding(forwarding));
     }
-    let Turned { next, outcome } = not_redialed(passing, sign);
+    let Turned { next, outcome } = not_redialed(forwarding, sign);
     Step {
         next,
         used: 0,
@@ -410,8 +410,8 @@ pub(crate) fn gone(exchange: Exchange, sign: Sign) -> Step
                 outcome: Outcome::Posts(pass, Ending::Done),
             }
         }
-        Exchange::Passing(passing) => {
-            let pass = passing.abandon();
+        Exchange::Forwarding(forwarding) => {
+            let pass = forwarding.abandon();
             Step {
                 next: Exchange::Over,
                 used: 0,
@@ -448,7 +448,7 @@ fn is_left(exchange: &Exchange, aborts: bool) -> bool
         Exchange::Asking(_) => true,
         Exchange::Waiting(_) => aborts,
         Exchange::Dialing(_) => aborts,
-        Exchange::Passing(passing) => aborts || !passing.is_asked(),
+        Exchange::Forwarding(forwarding) => aborts || !forwarding.is_asked(),
         Exchange::Settling(_) => false,
         Exchange::Leaving(_) => false,
         Exchange::Telling(_) => false,
@@ -462,9 +462,9 @@ pub(crate) fn server_ended(exchange: Exchange, alloc: Global, sign: Sign) -> Ste
     ensures fails { steps.FailsInTurn result.outcome result.next }
 {
     match exchange {
-        Exchange::Passing(mut passing) => {
-            passing.server_ended(is_end(sign));
-            let Turned { next, outcome } = go_on(passing, alloc);
+        Exchange::Forwarding(mut forwarding) => {
+            forwarding.server_ended(is_end(sign));
+            let Turned { next, outcome } = go_on(forwarding, alloc);
             Step {
                 next,
                 used: 0,
@@ -491,9 +491,9 @@ pub(crate) fn server_deaf(exchange: Exchange, alloc: Global) -> Step
     ensures fails { steps.FailsInTurn result.outcome result.next }
 {
     match exchange {
-        Exchange::Passing(mut passing) => {
-            passing.cut_off();
-            let Turned { next, outcome } = go_on(passing, alloc);
+        Exchange::Forwarding(mut forwarding) => {
+            forwarding.cut_off();
+            let Turned { next, outcome } = go_on(forwarding, alloc);
             Step {
                 next,
                 used: 0,
@@ -504,15 +504,15 @@ pub(crate) fn server_deaf(exchange: Exchange, alloc: Global) -> Step
     }
 }
 
-pub(crate) fn time_over(exchange: Exchange, clock: Clock) -> Step
+pub(crate) fn time_over(exchange: Exchange, clock: TimeoutKind) -> Step
     ensures at { (h : ExchangeHistory) → steps.IsAtItsStage exchange h → steps.IsAtItsStage result.next (steps.ended result.outcome (signed h (steps.over clock))) }
     ensures fails { steps.FailsInTurn result.outcome result.next }
 {
     match clock {
-        Clock::Client => client_over(exchange),
-        Clock::Queue => unserved(exchange, Sign::QueueOver),
-        Clock::Connect => unreachable(exchange, Sign::ConnectOver),
-        Clock::Server => server_over(exchange),
+        TimeoutKind::Client => client_over(exchange),
+        TimeoutKind::Queue => unserved(exchange, Sign::QueueOver),
+        TimeoutKind::Connect => unreachable(exchange, Sign::ConnectOver),
+        TimeoutKind::Server => server_over(exchange),
     }
 }
 
@@ -545,8 +545,8 @@ fn server_over(exchange: Exchange) -> Step
     ensures fails { steps.FailsInTurn result.outcome result.next }
 {
     match exchange {
-        Exchange::Passing(passing) => {
-            let Turned { next, outcome } = refused_late(passing);
+        Exchange::Forwarding(forwarding) => {
+            let Turned { next, outcome } = refused_late(forwarding);
             Step {
                 next,
                 used: 0,

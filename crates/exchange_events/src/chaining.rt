@@ -28,7 +28,7 @@ impl Exchange {
             Exchange::Asking(_)
             | Exchange::Waiting(_)
             | Exchange::Dialing(_)
-            | Exchange::Passing(_)
+            | Exchange::Forwarding(_)
             | Exchange::Telling(_)
             | Exchange::Over => false,
         }
@@ -43,7 +43,7 @@ impl Exchange {
             Exchange::Asking(asking) => asking.is_silent(),
             Exchange::Waiting(_)
             | Exchange::Dialing(_)
-            | Exchange::Passing(_)
+            | Exchange::Forwarding(_)
             | Exchange::Settling(_)
             | Exchange::Leaving(_)
             | Exchange::Telling(_)
@@ -64,7 +64,7 @@ impl Exchange {
             Exchange::Asking(_)
             | Exchange::Waiting(_)
             | Exchange::Dialing(_)
-            | Exchange::Passing(_)
+            | Exchange::Forwarding(_)
             | Exchange::Telling(_)
             | Exchange::Over => false,
         }
@@ -79,7 +79,7 @@ impl Exchange {
             Exchange::Dialing(dialing) => dialing.takes_used(),
             Exchange::Asking(_)
             | Exchange::Waiting(_)
-            | Exchange::Passing(_)
+            | Exchange::Forwarding(_)
             | Exchange::Settling(_)
             | Exchange::Leaving(_)
             | Exchange::Telling(_)
@@ -97,7 +97,7 @@ impl Exchange {
             Exchange::Asking(_)
             | Exchange::Waiting(_)
             | Exchange::Dialing(_)
-            | Exchange::Passing(_)
+            | Exchange::Forwarding(_)
             | Exchange::Leaving(_)
             | Exchange::Telling(_)
             | Exchange::Over => false,

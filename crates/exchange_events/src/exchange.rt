@@ -1,5 +1,6 @@
 ghost use Rattle.std.specs.Prelude.{◌≡◌, ◌≢◌, ◌++◌, [], true, false, Some, IsFalse, IsTrue};
 ghost use Rattle.exchange_machine.specs.Histories.{ExchangeHistory, nothing_yet};
+ghost use Rattle.exchange_events.specs.Chains as chains;
 ghost use Rattle.exchange_events.specs.Passes.{held_by, came_with, gone_with};
 ghost use Rattle.exchange_events.specs.Steps as steps;
 
@@ -7,9 +8,9 @@ use crate::calls::{
     client_bytes, client_ended, client_took, connected, gone, granted, server_bytes, server_deaf,
     server_ended, server_took, time_over, unreachable, unserved,
 };
-use crate::event::{Clock, Event, Rules};
+use crate::event::{Event, Rules, TimeoutKind};
 use base_verdict::Ending;
-use exchange_machine::{Asking, Dialing, Leaving, Passing, Settling, Sign, Telling, Waiting};
+use exchange_machine::{Asking, Dialing, Forwarding, Leaving, Settling, Sign, Telling, Waiting};
 use grant_board::Pass;
 use std::alloc::Global;
 
@@ -18,7 +19,7 @@ pub enum Exchange {
     Asking(Asking),
     Waiting(Waiting),
     Dialing(Dialing),
-    Passing(Passing),
+    Forwarding(Forwarding),
     /// Both messages were whole, and its client may ask again once all is sent.
     Settling(Settling),
     /// Its client's connection is closed once all is sent.
@@ -54,7 +55,7 @@ pub struct Step {
 /// The bytes that it waits for, those that it has for a side that takes them, and the timeout that runs.
 #[derive(Clone, Copy, Debug, PartialEq, Eq)]
 pub struct Wants {
-    pub clock: Option<Clock>,
+    pub clock: Option<TimeoutKind>,
     pub reads_client: bool,
     pub writes_client: bool,
     pub reads_server: bool,
@@ -64,7 +65,8 @@ pub struct Wants {
 impl Exchange {
     /// Makes an exchange without a pass, a connection or a byte.
     pub fn new(alloc: Global) -> Exchange
-        ensures { steps.IsAtItsStage result nothing_yet }
+        ensures at { steps.IsAtItsStage result nothing_yet }
+        ensures silent { chains.is_silent result ≡ true }
     {
         Exchange::Asking(Asking::new(alloc))
     }
@@ -77,7 +79,7 @@ impl Exchange {
             Exchange::Asking(_) | Exchange::Waiting(_) | Exchange::Dialing(_) | Exchange::Over => {
                 b""
             }
-            Exchange::Passing(passing) => passing.to_client(),
+            Exchange::Forwarding(forwarding) => forwarding.to_client(),
             Exchange::Settling(settling) => settling.to_client(),
             Exchange::Leaving(leaving) => leaving.to_client(),
             Exchange::Telling(telling) => telling.to_client(),
@@ -89,7 +91,7 @@ impl Exchange {
         ensures { result.now ≡ steps.to_server self.now }
     {
         match self {
-            Exchange::Passing(passing) => passing.to_server(),
+            Exchange::Forwarding(forwarding) => forwarding.to_server(),
             Exchange::Asking(_)
             | Exchange::Waiting(_)
             | Exchange::Dialing(_)
@@ -123,7 +125,7 @@ impl Exchange {
     {
         match self {
             Exchange::Asking(_) => true,
-            Exchange::Passing(passing) => passing.takes_request(),
+            Exchange::Forwarding(forwarding) => forwarding.takes_request(),
             Exchange::Waiting(_)
             | Exchange::Dialing(_)
             | Exchange::Settling(_)
@@ -137,7 +139,7 @@ impl Exchange {
         ensures { result ≡ steps.reads_server self.now }
     {
         match self {
-            Exchange::Passing(passing) => passing.takes_answer(),
+            Exchange::Forwarding(forwarding) => forwarding.takes_answer(),
             Exchange::Asking(_)
             | Exchange::Waiting(_)
             | Exchange::Dialing(_)
@@ -152,7 +154,7 @@ impl Exchange {
         ensures { result ≡ steps.writes_server self.now }
     {
         match self {
-            Exchange::Passing(passing) => passing.sends_request(),
+            Exchange::Forwarding(forwarding) => forwarding.sends_request(),
             Exchange::Asking(_)
             | Exchange::Waiting(_)
             | Exchange::Dialing(_)
@@ -167,7 +169,7 @@ impl Exchange {
     pub fn request_room(&self) -> usize {
         match self {
             Exchange::Asking(asking) => asking.room(),
-            Exchange::Passing(passing) => passing.request_room(),
+            Exchange::Forwarding(forwarding) => forwarding.request_room(),
             _ => 0,
         }
     }
@@ -175,23 +177,23 @@ impl Exchange {
     /// Returns about how many bytes of its server it takes at once, where it takes any.
     pub fn answer_room(&self) -> usize {
         match self {
-            Exchange::Passing(passing) => passing.answer_room(),
+            Exchange::Forwarding(forwarding) => forwarding.answer_room(),
             _ => 0,
         }
     }
 
     // Returns the timeout that runs: that of the side that is waited for.
-    fn clock(&self) -> Option<Clock>
+    fn clock(&self) -> Option<TimeoutKind>
         ensures { result ≡ steps.clock_of self.now }
     {
         match self {
-            Exchange::Asking(_) => Some(Clock::Client),
-            Exchange::Waiting(_) => Some(Clock::Queue),
-            Exchange::Dialing(_) => Some(Clock::Connect),
-            Exchange::Passing(passing) => Some(clock_between(passing)),
-            Exchange::Settling(_) => Some(Clock::Client),
-            Exchange::Leaving(_) => Some(Clock::Client),
-            Exchange::Telling(_) => Some(Clock::Client),
+            Exchange::Asking(_) => Some(TimeoutKind::Client),
+            Exchange::Waiting(_) => Some(TimeoutKind::Queue),
+            Exchange::Dialing(_) => Some(TimeoutKind::Connect),
+            Exchange::Forwarding(forwarding) => Some(clock_between(forwarding)),
+            Exchange::Settling(_) => Some(TimeoutKind::Client),
+            Exchange::Leaving(_) => Some(TimeoutKind::Client),
+            Exchange::Telling(_) => Some(TimeoutKind::Client),
             Exchange::Over => None,
         }
     }
@@ -236,16 +238,16 @@ impl Exchange {
     }
 }
 
-fn clock_between(passing: &Passing) -> Clock
-    ensures { Some result ≡ steps.clock_of (Exchange.Passing passing.now) }
+fn clock_between(forwarding: &Forwarding) -> TimeoutKind
+    ensures { Some result ≡ steps.clock_of (Exchange.Forwarding forwarding.now) }
 {
-    if passing.is_dialing() {
-        return Clock::Connect;
+    if forwarding.is_dialing() {
+        return TimeoutKind::Connect;
     }
-    passing_clock(
-        waits(passing.to_client()),
-        waits(passing.to_server()),
-        passing.is_asked(),
+    forwarding_clock(
+        waits(forwarding.to_client()),
+        waits(forwarding.to_server()),
+        forwarding.is_asked(),
     )
 }
 
@@ -255,14 +257,14 @@ fn waits(bytes: &[u8]) -> bool
     !bytes.is_empty()
 }
 
-fn passing_clock(for_client: bool, for_server: bool, asked: bool) -> Clock
-    ensures { result ≡ steps.passing_clock for_client for_server asked }
+fn forwarding_clock(for_client: bool, for_server: bool, asked: bool) -> TimeoutKind
+    ensures { result ≡ steps.forwarding_clock for_client for_server asked }
 {
     if for_client {
-        Clock::Client
+        TimeoutKind::Client
     } else if for_server || asked {
-        Clock::Server
+        TimeoutKind::Server
     } else {
-        Clock::Client
+        TimeoutKind::Client
     }
 }

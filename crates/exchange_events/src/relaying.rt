@@ -4,14 +4,14 @@ ghost use Rattle.exchange_machine.specs.Histories.{ExchangeHistory, posted, sign
 ghost use Rattle.exchange_machine.specs.Reasons.{LacksAnswer, told_for};
 ghost use Rattle.exchange_machine.specs.Repeatables.{IsRepeatable, IsUntouched};
 ghost use Rattle.exchange_machine.specs.Settlings.{IsRest};
-ghost use Rattle.exchange_machine.specs.Stages.{IsLeaving, IsPassing};
+ghost use Rattle.exchange_machine.specs.Stages.{IsLeaving, IsForwarding};
 ghost use Rattle.exchange_events.specs.Steps as steps;
 ghost use Rattle.http_texts.specs.declared.refusals.Code as codes;
 ghost use Rattle.base_verdict.specs.declared.Ending.TheVariants as ending;
 
 use crate::exchange::{Exchange, Outcome};
 use base_verdict::Ending;
-use exchange_machine::{Down, Ended, Headed, Passing, Rest, Settled, Sign};
+use exchange_machine::{Down, Ended, Forwarding, Headed, Rest, Settled, Sign};
 use http_texts::Code;
 use std::alloc::Global;
 
@@ -22,107 +22,107 @@ pub(crate) struct Turned {
 }
 
 /// Uses the held bytes as far as it may, and judges the server's side where it is over.
-pub(crate) fn go_on(mut passing: Passing, alloc: Global) -> Turned
-    ensures at { (h : ExchangeHistory) → IsPassing passing h → steps.IsAtItsStage result.next (steps.ended result.outcome h) }
+pub(crate) fn go_on(mut forwarding: Forwarding, alloc: Global) -> Turned
+    ensures at { (h : ExchangeHistory) → IsForwarding forwarding h → steps.IsAtItsStage result.next (steps.ended result.outcome h) }
     ensures fails { steps.FailsInTurn result.outcome result.next }
 {
-    passing.use_held();
-    match read_heads(&mut passing, alloc, 9) {
-        Headed::Answer => body_goes_on(passing),
-        Headed::More => head_goes_on(passing),
-        Headed::Interim => stays(passing),
-        Headed::Full => no_room(passing),
-        Headed::Short => refused_short(passing),
-        Headed::Refused => refused_badly(passing),
+    forwarding.use_held();
+    match read_heads(&mut forwarding, alloc, 9) {
+        Headed::Answer => body_goes_on(forwarding),
+        Headed::More => head_goes_on(forwarding),
+        Headed::Interim => still_forwarding(forwarding),
+        Headed::Full => no_room(forwarding),
+        Headed::Short => refused_short(forwarding),
+        Headed::Refused => refused_badly(forwarding),
     }
 }
 
-fn read_heads(passing: &mut Passing, alloc: Global, left: u8) -> Headed
-    ensures passes { (h : ExchangeHistory) → IsPassing passing.old h → IsPassing passing.new h }
-    ensures refused { result ≡ Headed.Refused → (h : ExchangeHistory) → IsPassing passing.old h → LacksAnswer passing.new.view.method h.server_in }
+fn read_heads(forwarding: &mut Forwarding, alloc: Global, left: u8) -> Headed
+    ensures passes { (h : ExchangeHistory) → IsForwarding forwarding.old h → IsForwarding forwarding.new h }
+    ensures refused { result ≡ Headed.Refused → (h : ExchangeHistory) → IsForwarding forwarding.old h → LacksAnswer forwarding.new.view.method h.server_in }
 {
-    let headed = passing.read_head(alloc);
+    let headed = forwarding.read_head(alloc);
     if headed == Headed::Interim && left > 0 {
-        return read_heads(passing, alloc, left - 1);
+        return read_heads(forwarding, alloc, left - 1);
     }
     headed
 }
 
-fn stays(passing: Passing) -> Turned
-    ensures at { (h : ExchangeHistory) → IsPassing passing h → steps.IsAtItsStage result.next (steps.ended result.outcome h) }
+fn still_forwarding(forwarding: Forwarding) -> Turned
+    ensures at { (h : ExchangeHistory) → IsForwarding forwarding h → steps.IsAtItsStage result.next (steps.ended result.outcome h) }
     ensures fails { steps.FailsInTurn result.outcome result.next }
 {
     Turned {
-        next: Exchange::Passing(passing),
+        next: Exchange::Forwarding(forwarding),
         outcome: Outcome::Quiet,
     }
 }
 
 // A head's text waits for room, where bytes are to be sent before it; otherwise there is never room for it.
-fn no_room(passing: Passing) -> Turned
-    ensures at { (h : ExchangeHistory) → IsPassing passing h → steps.IsAtItsStage result.next (steps.ended result.outcome h) }
+fn no_room(forwarding: Forwarding) -> Turned
+    ensures at { (h : ExchangeHistory) → IsForwarding forwarding h → steps.IsAtItsStage result.next (steps.ended result.outcome h) }
     ensures fails { steps.FailsInTurn result.outcome result.next }
 {
-    if passing.to_client().is_empty() {
-        refused_short(passing)
+    if forwarding.to_client().is_empty() {
+        refused_short(forwarding)
     } else {
-        stays(passing)
+        still_forwarding(forwarding)
     }
 }
 
-fn head_goes_on(passing: Passing) -> Turned
-    ensures at { (h : ExchangeHistory) → IsPassing passing h → steps.IsAtItsStage result.next (steps.ended result.outcome h) }
+fn head_goes_on(forwarding: Forwarding) -> Turned
+    ensures at { (h : ExchangeHistory) → IsForwarding forwarding h → steps.IsAtItsStage result.next (steps.ended result.outcome h) }
     ensures fails { steps.FailsInTurn result.outcome result.next }
 {
-    if passing.is_asked_badly() {
-        return asked_badly(passing);
+    if forwarding.is_asked_badly() {
+        return asked_badly(forwarding);
     }
-    if !passing.has_ended() {
-        return stays(passing);
+    if !forwarding.has_ended() {
+        return still_forwarding(forwarding);
     }
-    if passing.can_repeat() {
-        return again(passing);
+    if forwarding.can_repeat() {
+        return again(forwarding);
     }
-    if passing.is_untouched() {
-        return redials(passing);
+    if forwarding.is_untouched() {
+        return redials(forwarding);
     }
-    breaks_off(passing)
+    breaks_off(forwarding)
 }
 
 // The bytes that wait for the server are sent on another connection as they are.
-fn redials(mut passing: Passing) -> Turned
-    requires { IsUntouched passing }
-    ensures at { (h : ExchangeHistory) → IsPassing passing h → steps.IsAtItsStage result.next (steps.ended result.outcome h) }
+fn redials(mut forwarding: Forwarding) -> Turned
+    requires { IsUntouched forwarding }
+    ensures at { (h : ExchangeHistory) → IsForwarding forwarding h → steps.IsAtItsStage result.next (steps.ended result.outcome h) }
     ensures fails { steps.FailsInTurn result.outcome result.next }
 {
-    passing.redial();
+    forwarding.redial();
     Turned {
-        next: Exchange::Passing(passing),
+        next: Exchange::Forwarding(forwarding),
         outcome: Outcome::Retries,
     }
 }
 
 // The server's input ended before the answer did.
-fn breaks_off(passing: Passing) -> Turned
-    requires { passing.ended ≡ true }
-    ensures at { (h : ExchangeHistory) → IsPassing passing h → steps.IsAtItsStage result.next (steps.ended result.outcome h) }
+fn breaks_off(forwarding: Forwarding) -> Turned
+    requires { forwarding.ended ≡ true }
+    ensures at { (h : ExchangeHistory) → IsForwarding forwarding h → steps.IsAtItsStage result.next (steps.ended result.outcome h) }
     ensures fails { steps.FailsInTurn result.outcome result.next }
 {
-    if passing.has_begun() {
-        return ends(passing);
+    if forwarding.has_begun() {
+        return ends(forwarding);
     }
-    left(passing.refuse_unanswered())
+    left(forwarding.refuse_unanswered())
 }
 
-fn asked_badly(passing: Passing) -> Turned
-    requires { is_bad passing.up.coding ≡ true }
-    ensures at { (h : ExchangeHistory) → IsPassing passing h → steps.IsAtItsStage result.next (steps.ended result.outcome h) }
+fn asked_badly(forwarding: Forwarding) -> Turned
+    requires { is_bad forwarding.up.coding ≡ true }
+    ensures at { (h : ExchangeHistory) → IsForwarding forwarding h → steps.IsAtItsStage result.next (steps.ended result.outcome h) }
     ensures fails { steps.FailsInTurn result.outcome result.next }
 {
-    if passing.has_begun() {
-        return ends(passing);
+    if forwarding.has_begun() {
+        return ends(forwarding);
     }
-    left(passing.refuse_request())
+    left(forwarding.refuse_request())
 }
 
 fn left(ended: Ended) -> Turned
@@ -136,59 +136,59 @@ fn left(ended: Ended) -> Turned
     }
 }
 
-fn again(passing: Passing) -> Turned
-    requires { IsRepeatable passing }
-    ensures at { (h : ExchangeHistory) → IsPassing passing h → steps.IsAtItsStage result.next (steps.ended result.outcome h) }
+fn again(forwarding: Forwarding) -> Turned
+    requires { IsRepeatable forwarding }
+    ensures at { (h : ExchangeHistory) → IsForwarding forwarding h → steps.IsAtItsStage result.next (steps.ended result.outcome h) }
     ensures fails { steps.FailsInTurn result.outcome result.next }
 {
-    let dialing = passing.again();
+    let dialing = forwarding.again();
     Turned {
         next: Exchange::Dialing(dialing),
         outcome: Outcome::Retries,
     }
 }
 
-fn body_goes_on(mut passing: Passing) -> Turned
-    ensures at { (h : ExchangeHistory) → IsPassing passing h → steps.IsAtItsStage result.next (steps.ended result.outcome h) }
+fn body_goes_on(mut forwarding: Forwarding) -> Turned
+    ensures at { (h : ExchangeHistory) → IsForwarding forwarding h → steps.IsAtItsStage result.next (steps.ended result.outcome h) }
     ensures fails { steps.FailsInTurn result.outcome result.next }
 {
-    if !passing.is_at_body() {
-        return stays(passing);
+    if !forwarding.is_at_body() {
+        return still_forwarding(forwarding);
     }
-    passing.use_answer_held();
-    if passing.is_answered_badly() {
-        return answered_badly(passing);
+    forwarding.use_answer_held();
+    if forwarding.is_answered_badly() {
+        return answered_badly(forwarding);
     }
-    if passing.is_answered() {
-        return settles(passing);
+    if forwarding.is_answered() {
+        return settles(forwarding);
     }
-    if !passing.has_ended() || !passing.holds_no_answer() {
-        return stays(passing);
+    if !forwarding.has_ended() || !forwarding.holds_no_answer() {
+        return still_forwarding(forwarding);
     }
-    if passing.goes_to_end() {
-        return settles(passing);
+    if forwarding.goes_to_end() {
+        return settles(forwarding);
     }
-    breaks_off(passing)
+    breaks_off(forwarding)
 }
 
 // The bytes after the answer's head can't be its body.
-fn answered_badly(passing: Passing) -> Turned
-    requires body { passing.phase ≡ Down.Body }
-    requires bad { is_bad passing.down.coding ≡ true }
-    ensures at { (h : ExchangeHistory) → IsPassing passing h → steps.IsAtItsStage result.next (steps.ended result.outcome h) }
+fn answered_badly(forwarding: Forwarding) -> Turned
+    requires body { forwarding.phase ≡ Down.Body }
+    requires bad { is_bad forwarding.down.coding ≡ true }
+    ensures at { (h : ExchangeHistory) → IsForwarding forwarding h → steps.IsAtItsStage result.next (steps.ended result.outcome h) }
     ensures fails { steps.FailsInTurn result.outcome result.next }
 {
-    if passing.has_begun() {
-        return ends(passing);
+    if forwarding.has_begun() {
+        return ends(forwarding);
     }
-    left(passing.refuse_broken())
+    left(forwarding.refuse_broken())
 }
 
-fn settles(passing: Passing) -> Turned
-    ensures at { (h : ExchangeHistory) → IsPassing passing h → steps.IsAtItsStage result.next (steps.ended result.outcome h) }
+fn settles(forwarding: Forwarding) -> Turned
+    ensures at { (h : ExchangeHistory) → IsForwarding forwarding h → steps.IsAtItsStage result.next (steps.ended result.outcome h) }
     ensures fails { steps.FailsInTurn result.outcome result.next }
 {
-    let Settled { pass, rest } = passing.settle();
+    let Settled { pass, rest } = forwarding.settle();
     let outcome = Outcome::Posts(pass, Ending::Done);
     match rest {
         Rest::Settling(settling) => Turned {
@@ -203,56 +203,56 @@ fn settles(passing: Passing) -> Turned
 }
 
 /// The answer can't go on: the part that was handed on is still sent.
-pub(crate) fn ends(passing: Passing) -> Turned
-    ensures at { (h : ExchangeHistory) → IsPassing passing h → steps.IsAtItsStage result.next (steps.ended result.outcome h) }
+pub(crate) fn ends(forwarding: Forwarding) -> Turned
+    ensures at { (h : ExchangeHistory) → IsForwarding forwarding h → steps.IsAtItsStage result.next (steps.ended result.outcome h) }
     ensures fails { steps.FailsInTurn result.outcome result.next }
 {
-    left(passing.end())
+    left(forwarding.end())
 }
 
-fn refused_short(passing: Passing) -> Turned
-    ensures at { (h : ExchangeHistory) → IsPassing passing h → steps.IsAtItsStage result.next (steps.ended result.outcome h) }
+fn refused_short(forwarding: Forwarding) -> Turned
+    ensures at { (h : ExchangeHistory) → IsForwarding forwarding h → steps.IsAtItsStage result.next (steps.ended result.outcome h) }
     ensures fails { steps.FailsInTurn result.outcome result.next }
 {
-    if passing.has_begun() {
-        return ends(passing);
+    if forwarding.has_begun() {
+        return ends(forwarding);
     }
-    let Ended { pass, rest } = passing.refuse(Code::Unavailable);
+    let Ended { pass, rest } = forwarding.refuse(Code::Unavailable);
     Turned {
         next: Exchange::Leaving(rest),
         outcome: Outcome::StarvedPosts(pass, Ending::Done),
     }
 }
 
-fn refused_badly(passing: Passing) -> Turned
-    ensures at { (h : ExchangeHistory) → IsPassing passing h → LacksAnswer passing.view.method h.server_in → steps.IsAtItsStage result.next (steps.ended result.outcome h) }
+fn refused_badly(forwarding: Forwarding) -> Turned
+    ensures at { (h : ExchangeHistory) → IsForwarding forwarding h → LacksAnswer forwarding.view.method h.server_in → steps.IsAtItsStage result.next (steps.ended result.outcome h) }
     ensures fails { steps.FailsInTurn result.outcome result.next }
 {
-    if passing.has_begun() {
-        return ends(passing);
+    if forwarding.has_begun() {
+        return ends(forwarding);
     }
-    left(passing.refuse(Code::BadGateway))
+    left(forwarding.refuse(Code::BadGateway))
 }
 
 /// The server is silent for too long.
-pub(crate) fn refused_late(passing: Passing) -> Turned
-    ensures at { (h : ExchangeHistory) → IsPassing passing h → steps.IsAtItsStage result.next (steps.ended result.outcome (signed h Sign.ServerOver)) }
+pub(crate) fn refused_late(forwarding: Forwarding) -> Turned
+    ensures at { (h : ExchangeHistory) → IsForwarding forwarding h → steps.IsAtItsStage result.next (steps.ended result.outcome (signed h Sign.ServerOver)) }
     ensures fails { steps.FailsInTurn result.outcome result.next }
 {
-    if passing.has_begun() {
-        return ends(passing);
+    if forwarding.has_begun() {
+        return ends(forwarding);
     }
-    left(passing.refuse(Code::BadGateway))
+    left(forwarding.refuse(Code::BadGateway))
 }
 
 /// No connection was made in place of one that broke, for this reason.
-pub(crate) fn not_redialed(passing: Passing, sign: Sign) -> Turned
+pub(crate) fn not_redialed(forwarding: Forwarding, sign: Sign) -> Turned
     requires { told_for sign ≡ Some codes.Code.Unavailable }
-    ensures at { (h : ExchangeHistory) → IsPassing passing h → steps.IsAtItsStage result.next (steps.ended result.outcome (signed h sign)) }
+    ensures at { (h : ExchangeHistory) → IsForwarding forwarding h → steps.IsAtItsStage result.next (steps.ended result.outcome (signed h sign)) }
     ensures fails { steps.FailsInTurn result.outcome result.next }
 {
-    if passing.has_begun() {
-        return ends(passing);
+    if forwarding.has_begun() {
+        return ends(forwarding);
     }
-    left(passing.refuse(Code::Unavailable))
+    left(forwarding.refuse(Code::Unavailable))
 }

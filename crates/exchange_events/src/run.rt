@@ -15,7 +15,7 @@ pub enum Events<'a> {
 }
 
 /// A receiver of what exchanges give away.
-pub trait Desk {
+pub trait OutcomeReceiver {
     // What it was handed.
     ghost told: { Self → List outcomes.Outcome };
 
@@ -26,8 +26,14 @@ pub trait Desk {
 impl Exchange {
     /// Runs the exchange over all events, whatever they are and in whatever order: the history that
     /// they make is sound.
-    pub fn run<D: Desk>(self, alloc: Global, rules: Rules, desk: &mut D, events: Events) -> Exchange
-        ensures { (h : ExchangeHistory) → steps.IsAtItsStage self h → Ran rules.aborts self h events.entry (D.told desk.old) (D.told desk.new) result }
+    pub fn run<D: OutcomeReceiver>(
+        self,
+        alloc: Global,
+        rules: Rules,
+        receiver: &mut D,
+        events: Events,
+    ) -> Exchange
+        ensures { (h : ExchangeHistory) → steps.IsAtItsStage self h → Ran rules.aborts self h events.entry (D.told receiver.old) (D.told receiver.new) result }
     {
         match events {
             Events::End => self,
@@ -37,8 +43,8 @@ impl Exchange {
                     used: _,
                     outcome,
                 } = self.step(alloc, rules, event);
-                desk.take(outcome);
-                next.run(alloc, rules, desk, Box::into_inner(rest))
+                receiver.take(outcome);
+                next.run(alloc, rules, receiver, Box::into_inner(rest))
             }
         }
     }

@@ -136,11 +136,11 @@ text_kept : (b : ChunkedBody) → chunked_text true b ≡ chunked_text true (pla
 text_kept b = ap (λ l. l ++ codes "0\r\n\r\n") (sym (texts_kept b.chunks))
 
 -- what a body became is a body that is framed so, and becomes itself
-pub sent_body : (f : Framing) (used passed : List ℕ) → f ≢ ToEnd → IsBody f true used passed → IsBody f true passed passed
-sent_body Empty used passed other is = (is.1, is.1)
-sent_body (Length count) used passed other is = (ap length is.1 ∙ is.0, refl)
-sent_body Chunked used passed other is = (plain_body is.0, body_good is.0 is.1, is.3 ∙ body_is is.0, is.3 ∙ text_kept is.0)
-sent_body ToEnd used passed other is = absurd (other refl)
+pub sent_body : (f : Framing) (used sent_on : List ℕ) → f ≢ ToEnd → IsBody f true used sent_on → IsBody f true sent_on sent_on
+sent_body Empty used sent_on other is = (is.1, is.1)
+sent_body (Length count) used sent_on other is = (ap length is.1 ∙ is.0, refl)
+sent_body Chunked used sent_on other is = (plain_body is.0, body_good is.0 is.1, is.3 ∙ body_is is.0, is.3 ∙ text_kept is.0)
+sent_body ToEnd used sent_on other is = absurd (other refl)
 
 pub request_found : (adds : Additions) (h : RequestHead) (used text : List ℕ) → IsNamed adds.client → IsRequest h
     → (sent : IsForwarded adds (request_of h) used text) → FindsRequest adds.client (request_of h) sent.body text

@@ -122,7 +122,7 @@ next_sides before x y h input output s next =
     let now = next.begins.now in
     record {
       each = all_append IsWhole before (w ∷ []) s.each (e.is, tt);
-      stays = all_append IsOpenToClient before (w ∷ []) s.stays (next.stays, tt);
+      stays = all_append IsOpenToClient before (w ∷ []) s.stays (next.left_open, tt);
       came =
           s.came ∙ ap (λ l. flat_map asked before ++ l) e.came ∙ sym (one_more asked before w next.behind)
           ∙ ap (λ l. flat_map asked (before ++ w ∷ []) ++ l) (sym (begun_in y next.behind next.begins));

@@ -87,7 +87,7 @@ answer_at : (w : Whole) → (is : IsWhole w) → IsOpenToServer w
     → IsReply w.head.method (record { interims = is.answered.interims; head = is.answered.head; body = is.answered.body })
 answer_at w is stays =
     let a = is.answered in
-    let body = body_itself (framed_for (request_of w.head).version) a.plan.body a.body a.passed a.passes in
+    let body = body_itself (framed_for (request_of w.head).version) a.plan.body a.body a.sent_on a.passes in
     record {
       before = befores w.head.method a.interims a.are.each;
       head = a.final.head.reads.0;

@@ -171,25 +171,25 @@ leave_sent r = go (waits_for_leave r)
 shown : (framed : Bool) (f : Framing) → is_delimited framed f ≡ true → f ≢ ToEnd
 shown framed f shows same = true≢false (sym shows ∙ ap (is_delimited framed) same)
 
-told_body : (framed : Bool) (f : Framing) (used passed : List ℕ) → is_delimited framed f ≡ true → IsBody f framed used passed → IsBody f true passed passed
-told_body framed Empty used passed shows is = (is.1, is.1)
-told_body framed (Length count) used passed shows is = sent_body (Length count) used passed (shown framed (Length count) shows) is
-told_body true Chunked used passed shows is = sent_body Chunked used passed (shown true Chunked shows) is
-told_body false Chunked used passed shows is = absurd (true≢false (sym shows))
-told_body framed ToEnd used passed shows is = absurd (true≢false (sym shows))
+told_body : (framed : Bool) (f : Framing) (used sent_on : List ℕ) → is_delimited framed f ≡ true → IsBody f framed used sent_on → IsBody f true sent_on sent_on
+told_body framed Empty used sent_on shows is = (is.1, is.1)
+told_body framed (Length count) used sent_on shows is = sent_body (Length count) used sent_on (shown framed (Length count) shows) is
+told_body true Chunked used sent_on shows is = sent_body Chunked used sent_on (shown true Chunked shows) is
+told_body false Chunked used sent_on shows is = absurd (true≢false (sym shows))
+told_body framed ToEnd used sent_on shows is = absurd (true≢false (sym shows))
 
 pub answer_found : (says : Persistence) (r : Request) (used text : List ℕ) → (told : IsAnswered says r.method (framed_for r.version) used text)
-    → is_delimited (framed_for r.version) told.plan.body ≡ true → FindsAnswer r.method (answer_of told.head) told.plan told.passed (leave_text r ++ text)
+    → is_delimited (framed_for r.version) told.plan.body ≡ true → FindsAnswer r.method (answer_of told.head) told.plan told.sent_on (leave_text r ++ text)
 answer_found says r used text told shows =
     let framed = framed_for r.version in
     let leave = leave_sent r in
     let first = interims_sent r.method framed told.interims told.are.each in
     let all = both_sent (leave_text r) (interims_text framed told.interims) leave first in
     let head = answers_alike says framed r.method told.head told.plan told.final shows in
-    let body = told_body framed told.plan.body told.body told.passed shows told.passes in
-    let rest = answer_text says framed (answer_of told.head) told.plan ++ told.passed in
+    let body = told_body framed told.plan.body told.body told.sent_on shows told.passes in
+    let rest = answer_text says framed (answer_of told.head) told.plan ++ told.sent_on in
     record {
-      reply = record { interims = all.heads; head = head.head; body = told.passed };
+      reply = record { interims = all.heads; head = head.head; body = told.sent_on };
       is = record {
         before = all.each;
         head = head.is;
@@ -197,11 +197,11 @@ answer_found says r used text told shows =
         plan = told.plan;
         planned = head.planned;
         shows = shown framed told.plan.body shows;
-        text = told.passed;
+        text = told.sent_on;
         body = body;
       };
       text_is = ap (λ l. leave_text r ++ l) told.text_is ∙ sym (append_assoc (leave_text r) (interims_text framed told.interims) rest)
-          ∙ (λ i. all.text_is i ++ (head.text_is i ++ told.passed));
+          ∙ (λ i. all.text_is i ++ (head.text_is i ++ told.sent_on));
       status = head.status;
       plan_is = refl;
       body_is = refl;

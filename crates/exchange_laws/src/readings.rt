@@ -72,5 +72,5 @@ pub fn a_server_finds_the_request()
 pub fn a_client_finds_the_answer()
     ensures { (says : persistences.Persistence) (r : Request) (used text : List ℕ)
         → (told : IsAnswered says r.method (framed_for r.version) used text) → is_delimited (framed_for r.version) told.plan.body ≡ true
-        → FindsAnswer r.method (answer_of told.head) told.plan told.passed (leave_text r ++ text) }
+        → FindsAnswer r.method (answer_of told.head) told.plan told.sent_on (leave_text r ++ text) }
 {}

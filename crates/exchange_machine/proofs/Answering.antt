@@ -20,10 +20,10 @@ use Rattle.exchange_machine.specs.Histories.{ExchangeHistory}
 use Rattle.exchange_machine.specs.Reasons.{Shows}
 use Rattle.exchange_machine.specs.Settlings.{IsSettling}
 use Rattle.exchange_machine.specs.Sides.{AtBody}
-use Rattle.exchange_machine.specs.Stages.{IsPassing}
+use Rattle.exchange_machine.specs.Stages.{IsForwarding}
 use Rattle.exchange_machine.specs.Wants.{is_none}
 use Rattle.exchange_machine.specs.Wholes.{told}
-use Rattle.exchange_machine.specs.declared.passing.Passing.{Passing}
+use Rattle.exchange_machine.specs.declared.forwarding.Forwarding.{Forwarding}
 use Rattle.exchange_machine.specs.declared.settling.Settling.{Settling}
 use Rattle.exchange_machine.specs.declared.sides.Down.{Down}
 use Rattle.exchange_machine.specs.declared.sides.Down.TheVariants.{Heads, Body}
@@ -68,9 +68,9 @@ both_first : (a b : Bool) → (a && b) ≡ true → a ≡ true
 both_first true b is = refl
 both_first false b is = is
 
-tells : (p : Passing) (h : ExchangeHistory) → (is : IsPassing p h)
+tells : (p : Forwarding) (h : ExchangeHistory) → (is : IsForwarding p h)
     → (a : AtBody p.says p.kept p.view.method (framed_for p.view.version) p.down.coding p.down_held.items h.server_in is.answer)
-    → IsBody a.plan.body (framed_for p.view.version) a.taken a.passed → (a.plan.body ≡ Framed.Framing.ToEnd → Shows h.signs ServerEnded)
+    → IsBody a.plan.body (framed_for p.view.version) a.taken a.sent_on → (a.plan.body ≡ Framed.Framing.ToEnd → Shows h.signs ServerEnded)
     → TellsAnswer h.signs h.client_in h.server_in (leave_text p.view ++ is.answer)
 tells p h is a body ends =
     let heads = print_heads a.interims in
@@ -93,7 +93,7 @@ tells p h is a body ends =
         plan = a.plan;
         final = a.final;
         body = a.taken;
-        passed = a.passed;
+        sent_on = a.sent_on;
         passes = body;
         used_is = refl;
         text_is = a.given_is;
@@ -103,27 +103,27 @@ tells p h is a body ends =
     }
 
 -- what a client is told where the answer was read whole
-pub passing_tells : (p : Passing) (h : ExchangeHistory) (phase : Down) (c : Coding) → (is : IsPassing p h) → p.phase ≡ phase → p.down.coding ≡ c
+pub forwarding_tells : (p : Forwarding) (h : ExchangeHistory) (phase : Down) (c : Coding) → (is : IsForwarding p h) → p.phase ≡ phase → p.down.coding ≡ c
     → is_read_at phase c (p.well && is_none p.down_held.items) ≡ true
     → TellsAnswer h.signs h.client_in h.server_in (leave_text p.view ++ is.answer)
-passing_tells p h (Heads count) c is at coding whole = absurd (true≢false (sym whole))
-passing_tells p h Body (Length left) is at coding whole =
+forwarding_tells p h (Heads count) c is at coding whole = absurd (true≢false (sym whole))
+forwarding_tells p h Body (Length left) is at coding whole =
     let a = down_as {p = p} {h = h} Body at is in
     let framed = framed_for p.view.version in
-    tells p h is a (feeds_body a.plan.body framed p.down.coding a.taken a.passed a.feeds (ap is_done coding ∙ whole))
-    (λ e. absurd (true≢false (sym (end_stays a.plan.body framed p.down.coding a.taken a.passed a.feeds e) ∙ ap is_end coding)))
-passing_tells p h Body ToEnd is at coding whole =
+    tells p h is a (feeds_body a.plan.body framed p.down.coding a.taken a.sent_on a.feeds (ap is_done coding ∙ whole))
+    (λ e. absurd (true≢false (sym (end_stays a.plan.body framed p.down.coding a.taken a.sent_on a.feeds e) ∙ ap is_end coding)))
+forwarding_tells p h Body ToEnd is at coding whole =
     let a = down_as {p = p} {h = h} Body at is in
     let framed = framed_for p.view.version in
     tells p h is a
-    (end_body a.plan.body framed a.taken a.passed
-    (subst (λ (c : Coding). Feeds (start_of a.plan.body framed) c a.taken a.passed) coding a.feeds))
+    (end_body a.plan.body framed a.taken a.sent_on
+    (subst (λ (c : Coding). Feeds (start_of a.plan.body framed) c a.taken a.sent_on) coding a.feeds))
     (λ e. is.well (both_first p.well (is_none p.down_held.items) whole))
-passing_tells p h Body (Chunked fr part) is at coding whole =
+forwarding_tells p h Body (Chunked fr part) is at coding whole =
     let a = down_as {p = p} {h = h} Body at is in
     let framed = framed_for p.view.version in
-    tells p h is a (feeds_body a.plan.body framed p.down.coding a.taken a.passed a.feeds (ap is_done coding ∙ whole))
-    (λ e. absurd (true≢false (sym (end_stays a.plan.body framed p.down.coding a.taken a.passed a.feeds e) ∙ ap is_end coding)))
+    tells p h is a (feeds_body a.plan.body framed p.down.coding a.taken a.sent_on a.feeds (ap is_done coding ∙ whole))
+    (λ e. absurd (true≢false (sym (end_stays a.plan.body framed p.down.coding a.taken a.sent_on a.feeds e) ∙ ap is_end coding)))
 
 -- whose messages were whole was told a whole answer
 pub settling_tells : (s : Settling) (h : ExchangeHistory) → (is : IsSettling s h) → TellsAnswer h.signs h.client_in h.server_in (told is.whole)
@@ -146,5 +146,5 @@ settling_tells s h is =
       given = w.text;
       answered = is.ends.is.answered;
       text_is = refl;
-      ends = λ e. absurd (true≢false (sym (is.ends.is.delimits is.stays) ∙ ap (is_delimited framed) e));
+      ends = λ e. absurd (true≢false (sym (is.ends.is.delimits is.left_open) ∙ ap (is_delimited framed) e));
     }

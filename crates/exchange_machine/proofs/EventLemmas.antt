@@ -25,19 +25,19 @@ use Rattle.exchange_machine.specs.Reasons.Reason.{of_sign, bad_answer, broken_an
 use Rattle.exchange_machine.specs.Reasons.NoneFollows.{never, unplanned, ninth}
 use Rattle.exchange_machine.specs.Findings.{NoneStands}
 use Rattle.exchange_machine.specs.Settlings.{IsSettling}
-use Rattle.exchange_machine.specs.Stages.{HistoryIsFresh, IsUnread, IsAsking, IsWaiting, IsDialing, IsPassing, IsLeaving, IsTelling, IsOver}
+use Rattle.exchange_machine.specs.Stages.{HistoryIsFresh, IsUnread, IsAsking, IsWaiting, IsDialing, IsForwarding, IsLeaving, IsTelling, IsOver}
 use Rattle.exchange_machine.specs.declared.sides.Down.TheVariants.{Heads}
 use Rattle.exchange_machine.specs.declared.signs.Sign.{Sign}
 use Rattle.exchange_machine.specs.declared.signs.Sign.TheVariants.{ClientOver, NoMemory, ServerEnded}
 use Rattle.exchange_machine.specs.declared.asking.Asking.{Asking}
 use Rattle.exchange_machine.specs.declared.waiting.Waiting.{Waiting}
 use Rattle.exchange_machine.specs.declared.dialing.Dialing.{Dialing}
-use Rattle.exchange_machine.specs.declared.passing.Passing.{Passing}
+use Rattle.exchange_machine.specs.declared.forwarding.Forwarding.{Forwarding}
 use Rattle.exchange_machine.specs.declared.leaving.Leaving.{Leaving}
 use Rattle.exchange_machine.specs.declared.settling.Settling.{Settling}
 use Rattle.exchange_machine.specs.declared.telling.Telling.{Telling}
 use Rattle.exchange_machine.specs.Wholes.{Whole, Ends, EndsClean, told}
-use Rattle.exchange_machine.proofs.SideLemmas.{passing_ends, down_as}
+use Rattle.exchange_machine.proofs.SideLemmas.{forwarding_ends, down_as}
 use Rattle.exchange_machine.proofs.HeadEnds.{has_feed, no_head_yet, no_head_at_all}
 use Rattle.exchange_machine.proofs.SettlingLemmas.{clean_took, got_client, got_server, got_tried}
 
@@ -130,8 +130,8 @@ dialing_signed d h s is = record {
   unreached = is.unreached;
 }
 
-pub passing_signed : (p : Passing) (h : ExchangeHistory) (s : Sign) → IsPassing p h → IsPassing p (signed h s)
-passing_signed p h s is = record {
+pub forwarding_signed : (p : Forwarding) (h : ExchangeHistory) (s : Sign) → IsForwarding p h → IsForwarding p (signed h s)
+forwarding_signed p h s is = record {
   behind = is.behind;
   asked = is.asked;
   request = is.request;
@@ -180,7 +180,7 @@ settling_signed t h s is = record {
   unsent = is.unsent;
   extra = is.extra;
   ends = ends_signed h s is.whole t.behind.items t.out.out is.unsent is.extra is.ends;
-  stays = is.stays;
+  left_open = is.left_open;
   clean = is.clean;
   server = signed_server h s is.server;
   client = signed_client h s (told is.whole) is.client;
@@ -371,10 +371,10 @@ pub over_sound : (h : ExchangeHistory) → IsOver h → Sound h
 over_sound h is = record { server = is.server; client = is.client; once = all_posted is.grants; fair = is.fair; tried = is.tried }
 
 -- the client has gone
-pub passing_left : (p : Passing) (h : ExchangeHistory) → IsPassing p h → IsOver (posted h p.pass Done)
-passing_left p h is =
+pub forwarding_left : (p : Forwarding) (h : ExchangeHistory) → IsForwarding p h → IsOver (posted h p.pass Done)
+forwarding_left p h is =
     leaving_over (record { out = p.down; whole = false; clean = false }) (posted h p.pass Done)
-    (passing_ends p h Done false false is (λ e. absurd cc) (λ on. absurd cc) (λ on. absurd cc))
+    (forwarding_ends p h Done false false is (λ e. absurd cc) (λ on. absurd cc) (λ on. absurd cc))
 
 pub dialing_left : (d : Dialing) (h : ExchangeHistory) → IsDialing d h → IsOver (posted h d.pass Done)
 dialing_left d h is = record {
@@ -386,9 +386,9 @@ dialing_left d h is = record {
 }
 
 -- no answer follows the heads that came
-pub passing_lacks : (p : Passing) (h : ExchangeHistory) (count : ℕ) → IsPassing p h → p.phase ≡ Heads count → NoneFollows p.view.method count p.down_held.items
+pub forwarding_lacks : (p : Forwarding) (h : ExchangeHistory) (count : ℕ) → IsForwarding p h → p.phase ≡ Heads count → NoneFollows p.view.method count p.down_held.items
     → LacksAnswer p.view.method h.server_in
-passing_lacks p h count is phase none =
+forwarding_lacks p h count is phase none =
     let at = down_as {p = p} {h = h} (Heads count) phase is in
     record {
       interims = at.interims;
@@ -398,16 +398,16 @@ passing_lacks p h count is phase none =
       lacks = subst (λ (n : ℕ). NoneFollows p.view.method n p.down_held.items) at.count_is none;
     }
 
-pub head_refused : (p : Passing) (h : ExchangeHistory) (count : ℕ) (held method : List ℕ) (why : Fault) → method ≡ p.view.method → held ≡ p.down_held.items
-    → IsPassing p h → p.phase ≡ Heads count
+pub head_refused : (p : Forwarding) (h : ExchangeHistory) (count : ℕ) (held method : List ℕ) (why : Fault) → method ≡ p.view.method → held ≡ p.down_held.items
+    → IsForwarding p h → p.phase ≡ Heads count
     → NoneStands method count held why → why ≢ Faulty.NoMemory → LacksAnswer p.view.method h.server_in
 head_refused p h count held method Faulty.Head same all is phase none other =
-    passing_lacks p h count is phase (never (subst (λ (l : List ℕ). NeverHasAnswer l) all none))
+    forwarding_lacks p h count is phase (never (subst (λ (l : List ℕ). NeverHasAnswer l) all none))
 head_refused p h count held method Faulty.Framing same all is phase none other =
     let says = subst (λ (l : List ℕ). SaysAnswer l none.answer none.len) all none.says in
     elim none.role [
-      | inl unread ↦ passing_lacks p h count is phase (unplanned none.answer none.len says (ap (λ m. answer_plan m none.answer) (sym same) ∙ unread))
-      | inr more ↦ passing_lacks p h count is phase (ninth none.answer none.len says more.1 more.2)
+      | inl unread ↦ forwarding_lacks p h count is phase (unplanned none.answer none.len says (ap (λ m. answer_plan m none.answer) (sym same) ∙ unread))
+      | inr more ↦ forwarding_lacks p h count is phase (ninth none.answer none.len says more.1 more.2)
     ]
 head_refused p h count held method Faulty.NoMemory same all is phase none other = absurd (other refl)
 head_refused p h count held method Faulty.Read same all is phase none other = absurd none
@@ -418,9 +418,9 @@ head_refused p h count held method Faulty.Closed same all is phase none other = 
 pub ended_reason : (signs : List Sign) (r : Request) (behind answer : List ℕ) → HasEnded signs → Reason signs r behind answer BadGateway
 ended_reason signs r behind answer is = of_sign is.sign BadGateway is.shows is.tells
 
-pub passing_ended : (p q : Passing) (h : ExchangeHistory) → IsPassing p h → HasEnded h.signs → (q.well ≡ true → Shows h.signs ServerEnded)
-    → q ≡ record p { ended = true; well = q.well } → IsPassing q h
-passing_ended p q h is ends ends_well same = subst (λ (r : Passing). IsPassing r h) (sym same) (record {
+pub forwarding_ended : (p q : Forwarding) (h : ExchangeHistory) → IsForwarding p h → HasEnded h.signs → (q.well ≡ true → Shows h.signs ServerEnded)
+    → q ≡ record p { ended = true; well = q.well } → IsForwarding q h
+forwarding_ended p q h is ends ends_well same = subst (λ (r : Forwarding). IsForwarding r h) (sym same) (record {
   behind = is.behind;
   asked = is.asked;
   request = is.request;
@@ -441,8 +441,8 @@ passing_ended p q h is ends ends_well same = subst (λ (r : Passing). IsPassing 
   leave = is.leave;
 })
 
-pub passing_marked : (p q : Passing) (h : ExchangeHistory) → IsPassing p h → q ≡ record p { cut = q.cut; fresh = q.fresh; dialing = q.dialing } → IsPassing q h
-passing_marked p q h is same = subst (λ (r : Passing). IsPassing r h) (sym same) (record {
+pub forwarding_marked : (p q : Forwarding) (h : ExchangeHistory) → IsForwarding p h → q ≡ record p { cut = q.cut; fresh = q.fresh; dialing = q.dialing } → IsForwarding q h
+forwarding_marked p q h is same = subst (λ (r : Forwarding). IsForwarding r h) (sym same) (record {
   behind = is.behind;
   asked = is.asked;
   request = is.request;

@@ -23,9 +23,9 @@ use Rattle.exchange_machine.specs.Repeatables.{IsRepeatable, IsUntouched}
 use Rattle.exchange_machine.specs.Repeats.{is_bare, IsTry}
 use Rattle.exchange_machine.specs.Repeats.IsTry.{unsent, repeated}
 use Rattle.exchange_machine.specs.Sides.{IsDown}
-use Rattle.exchange_machine.specs.Stages.{IsPassing, IsDialing}
+use Rattle.exchange_machine.specs.Stages.{IsForwarding, IsDialing}
 use Rattle.exchange_machine.specs.declared.sides.Down.TheVariants.{Heads}
-use Rattle.exchange_machine.specs.declared.passing.Passing.{Passing}
+use Rattle.exchange_machine.specs.declared.forwarding.Forwarding.{Forwarding}
 use Rattle.exchange_machine.proofs.SideLemmas.{down_as, no_interims}
 
 shut : (a b c : Bool) → b ≡ false → (a && b && c) ≡ false
@@ -64,12 +64,12 @@ nil_left [] ys e = refl
 nil_left (x ∷ xs) ys e = absurd cc
 
 -- of no body nothing is taken, and nothing is given for it
-feeds_none : (c : Coding) (taken passed : List ℕ) → Feeds (Length 0) c taken passed → (taken ≡ []) × (passed ≡ [])
-feeds_none c taken passed f =
-    let e = f.goes_on [] ∙ ap (λ (r : Reading). record { text = passed ++ r.text; rest = r.rest; coding = r.coding }) (read_nothing c) in
+feeds_none : (c : Coding) (taken sent_on : List ℕ) → Feeds (Length 0) c taken sent_on → (taken ≡ []) × (sent_on ≡ [])
+feeds_none c taken sent_on f =
+    let e = f.goes_on [] ∙ ap (λ (r : Reading). record { text = sent_on ++ r.text; rest = r.rest; coding = r.coding }) (read_nothing c) in
     let rests : taken ++ [] ≡ [] = ap (λ (r : Reading). r.rest) e in
-    let texts : [] ≡ passed ++ [] = ap (λ (r : Reading). r.text) e in
-    (sym (append-nil taken) ∙ rests, nil_left passed [] texts)
+    let texts : [] ≡ sent_on ++ [] = ap (λ (r : Reading). r.text) e in
+    (sym (append-nil taken) ∙ rests, nil_left sent_on [] texts)
 
 no_heads : (hs : List ResponseHead) → 0 ≡ length hs → print_heads hs ≡ []
 no_heads [] is = refl
@@ -80,7 +80,7 @@ right_nil [] ys e = e
 right_nil (x ∷ xs) ys e = absurd cc
 
 -- nothing came of the server of which no head was read and nothing is held
-none_came : (p : Passing) (h : ExchangeHistory) → IsPassing p h → p.phase ≡ Heads 0 → p.down_held.items ≡ [] → h.server_in ≡ []
+none_came : (p : Forwarding) (h : ExchangeHistory) → IsForwarding p h → p.phase ≡ Heads 0 → p.down_held.items ≡ [] → h.server_in ≡ []
 none_came p h is heads none =
     let at = down_as {p = p} {h = h} (Heads 0) heads is in
     at.came_is ∙ ap (λ l. print_heads at.interims ++ l) none ∙ append-nil (print_heads at.interims) ∙ no_heads at.interims at.count_is
@@ -94,11 +94,11 @@ all_reached h =
 none_sent : (h : ExchangeHistory) → reached_by h ≡ [] → h.to_server ≡ []
 none_sent h none = right_nil (flat_map (λ (t : List ℕ). t) h.tries) h.to_server none
 
-pub passing_again : (p : Passing) (h : ExchangeHistory) → IsPassing p h → IsRepeatable p
+pub forwarding_again : (p : Forwarding) (h : ExchangeHistory) → IsForwarding p h → IsRepeatable p
     → (h.server_in ≡ []) × IsDialing
     (record { waiting = record { asked = record { view = p.view; framing = p.framing; held = p.up_held } }; pass = p.pass; reached = p.reached })
     (retried h)
-passing_again p h is may =
+forwarding_again p h is may =
     let u = is.up in
     let at = down_as {p = p} {h = h} (Heads 0) may.heads is in
     let answer : is.answer ≡ [] = at.given_is ∙ no_interims at.interims (framed_for p.view.version) at.count_is in
@@ -107,7 +107,7 @@ passing_again p h is may =
     let both : Some u.framing ≡ Some p.framing = sym u.framed ∙ is.framed in
     let framings : u.framing ≡ p.framing = cc in
     let start : start_of u.framing true ≡ Length 0 = ap (λ (f : Framing). start_of f true) framings ∙ start_bare p.framing may.bare in
-    let fed = feeds_none p.up.coding u.taken u.passed (subst (λ (c : Coding). Feeds c p.up.coding u.taken u.passed) start u.feeds) in
+    let fed = feeds_none p.up.coding u.taken u.sent_on (subst (λ (c : Coding). Feeds c p.up.coding u.taken u.sent_on) start u.feeds) in
     let behind : is.behind ≡ p.up_held.items = u.came_is ∙ ap (λ l. l ++ p.up_held.items) fed.0 in
     let text : request_text p.adds p.view p.framing ≡ h.to_server ++ p.up.out =
     ap (request_text p.adds p.view) (sym framings) ∙ sym (append-nil (request_text p.adds p.view u.framing))
@@ -129,13 +129,13 @@ passing_again p h is may =
       },
     )
 
-pub passing_redialed : (p q : Passing) (h : ExchangeHistory) → IsPassing p h → IsUntouched p → q ≡ record p { cut = q.cut; ended = false; well = false; dialing = q.dialing }
-    → (h.server_in ≡ []) × IsPassing q (retried h)
-passing_redialed p q h is may same =
+pub forwarding_redialed : (p q : Forwarding) (h : ExchangeHistory) → IsForwarding p h → IsUntouched p → q ≡ record p { cut = q.cut; ended = false; well = false; dialing = q.dialing }
+    → (h.server_in ≡ []) × IsForwarding q (retried h)
+forwarding_redialed p q h is may same =
     let silent_server = none_came p h is may.heads may.none in
     let none = none_sent h (is.unreached may.unreached) in (
       silent_server,
-      subst (λ (r : Passing). IsPassing r (retried h)) (sym same) (record {
+      subst (λ (r : Forwarding). IsForwarding r (retried h)) (sym same) (record {
         behind = is.behind;
         asked = is.asked;
         request = is.request;

@@ -22,18 +22,18 @@ use Rattle.exchange_machine.specs.Headline.ToServer.{nothing, of_request}
 use Rattle.exchange_machine.specs.Headline.ClientText.{silent, refused_unread, late, starved, unserved, refused, answered}
 use Rattle.exchange_machine.specs.Histories.{ExchangeHistory, client_got, posted, reached_by}
 use Rattle.exchange_machine.specs.Repeats.{is_bare}
-use Rattle.exchange_machine.specs.Settlings.{IsSettling, asks_to_stay, is_clean, is_done_at}
-use Rattle.exchange_machine.specs.Stages.{IsPassing}
+use Rattle.exchange_machine.specs.Settlings.{IsSettling, asks_to_persist, is_clean, is_done_at}
+use Rattle.exchange_machine.specs.Stages.{IsForwarding}
 use Rattle.exchange_machine.specs.Wants.{is_none}
 use Rattle.exchange_machine.specs.Wholes.{Whole, Ends, EndsClean, IsBare, told}
 use Rattle.exchange_machine.specs.declared.sides.Down.{Down}
 use Rattle.exchange_machine.specs.declared.sides.Down.TheVariants.{Heads, Body}
-use Rattle.exchange_machine.specs.declared.passing.Passing.{Passing}
+use Rattle.exchange_machine.specs.declared.forwarding.Forwarding.{Forwarding}
 use Rattle.exchange_machine.specs.declared.settling.Settling.{Settling}
-use Rattle.exchange_machine.proofs.SideLemmas.{up_whole, down_whole, down_as, passing_server, passing_client, passing_ends, posted_client, posted_server}
+use Rattle.exchange_machine.proofs.SideLemmas.{up_whole, down_whole, down_as, forwarding_server, forwarding_client, forwarding_ends, posted_client, posted_server}
 
 -- the exchange, where its messages were whole: this is its request's body, and this its answer
-abbrev whole_of : (p : Passing) (h : ExchangeHistory) → IsPassing p h → List ℕ → List ℕ → Whole
+abbrev whole_of : (p : Forwarding) (h : ExchangeHistory) → IsForwarding p h → List ℕ → List ℕ → Whole
 whole_of p h is body answer = record {
   pass = p.pass;
   head = is.asked.head;
@@ -46,7 +46,7 @@ whole_of p h is body answer = record {
   text = is.answer;
 }
 
-whole_ends : (p : Passing) (h : ExchangeHistory) (ending : Ending) → (is : IsPassing p h) → p.phase ≡ Body → is_done p.up.coding ≡ true → is_done p.down.coding ≡ true
+whole_ends : (p : Forwarding) (h : ExchangeHistory) (ending : Ending) → (is : IsForwarding p h) → p.phase ≡ Body → is_done p.up.coding ≡ true → is_done p.down.coding ≡ true
     → (body : List ℕ) × (answer : List ℕ) × Ends (posted h p.pass ending) (whole_of p h is body answer) p.up_held.items p.down.out p.up.out p.down_held.items
 whole_ends p h ending is at asked_whole answer_whole =
     let up = up_whole p.adds p.view p.up.coding p.up_held.items is.behind is.request is.up asked_whole in
@@ -83,7 +83,7 @@ none_is : (bytes : List ℕ) → is_none bytes ≡ true → bytes ≡ []
 none_is [] is = refl
 none_is (b ∷ bytes) is = absurd (true≢false (sym is))
 
-stay_is : (asks : Persistence) → asks_to_stay asks ≡ true → asks ≡ Persist
+stay_is : (asks : Persistence) → asks_to_persist asks ≡ true → asks ≡ Persist
 stay_is Close is = absurd (true≢false (sym is))
 stay_is Persist is = refl
 stay_is KeepAlive is = absurd (true≢false (sym is))
@@ -93,7 +93,7 @@ done_at (Heads count) c is = absurd (true≢false (sym is))
 done_at Body c is = (refl, is)
 
 -- what it takes that nothing is left on the server's side
-record IsClean (p : Passing) : Type 0 where
+record IsClean (p : Forwarding) : Type 0 where
   asks : p.adds.asks ≡ Persist
   kept : p.kept ≡ true
   sent : p.up.out ≡ []
@@ -102,16 +102,16 @@ record IsClean (p : Passing) : Type 0 where
   answer : (p.phase ≡ Body) × (is_done p.down.coding ≡ true)
   bare : is_bare p.framing ≡ true
 
-clean_is : (p : Passing) → is_clean p ≡ true → IsClean p
+clean_is : (p : Forwarding) → is_clean p ≡ true → IsClean p
 clean_is p is =
-    let six = both (asks_to_stay p.adds.asks && p.kept && is_none p.up.out && is_none p.down_held.items && is_done p.up.coding && is_done_at p.phase p.down.coding)
+    let six = both (asks_to_persist p.adds.asks && p.kept && is_none p.up.out && is_none p.down_held.items && is_done p.up.coding && is_done_at p.phase p.down.coding)
     (is_bare p.framing) is in
-    let five = both (asks_to_stay p.adds.asks && p.kept && is_none p.up.out && is_none p.down_held.items && is_done p.up.coding)
+    let five = both (asks_to_persist p.adds.asks && p.kept && is_none p.up.out && is_none p.down_held.items && is_done p.up.coding)
     (is_done_at p.phase p.down.coding) six.0 in
-    let four = both (asks_to_stay p.adds.asks && p.kept && is_none p.up.out && is_none p.down_held.items) (is_done p.up.coding) five.0 in
-    let three = both (asks_to_stay p.adds.asks && p.kept && is_none p.up.out) (is_none p.down_held.items) four.0 in
-    let two = both (asks_to_stay p.adds.asks && p.kept) (is_none p.up.out) three.0 in
-    let one = both (asks_to_stay p.adds.asks) p.kept two.0 in
+    let four = both (asks_to_persist p.adds.asks && p.kept && is_none p.up.out && is_none p.down_held.items) (is_done p.up.coding) five.0 in
+    let three = both (asks_to_persist p.adds.asks && p.kept && is_none p.up.out) (is_none p.down_held.items) four.0 in
+    let two = both (asks_to_persist p.adds.asks && p.kept) (is_none p.up.out) three.0 in
+    let one = both (asks_to_persist p.adds.asks) p.kept two.0 in
     record {
       asks = stay_is p.adds.asks one.0;
       kept = one.1;
@@ -122,12 +122,12 @@ clean_is p is =
       bare = six.1;
     }
 
-bare_of : (p : Passing) (h : ExchangeHistory) → (is : IsPassing p h) → is_bare p.framing ≡ true → (body answer : List ℕ) → IsBare (whole_of p h is body answer)
+bare_of : (p : Forwarding) (h : ExchangeHistory) → (is : IsForwarding p h) → is_bare p.framing ≡ true → (body answer : List ℕ) → IsBare (whole_of p h is body answer)
 bare_of p h is bare body answer = record { framing = p.framing; framed = ap request_framing (sym is.asked.request_is) ∙ is.framed; bare = bare }
 
 -- whose client is left
-pub passing_clean : (p : Passing) (h : ExchangeHistory) (ending : Ending) → IsPassing p h → is_clean p ≡ true → EndsClean (posted h p.pass ending) p.down.out
-passing_clean p h ending is clean =
+pub forwarding_clean : (p : Forwarding) (h : ExchangeHistory) (ending : Ending) → IsForwarding p h → is_clean p ≡ true → EndsClean (posted h p.pass ending) p.down.out
+forwarding_clean p h ending is clean =
     let all = clean_is p clean in
     let it = whole_ends p h ending is all.answer.0 all.request all.answer.1 in
     let w = whole_of p h is it.0 it.1 in
@@ -141,25 +141,25 @@ passing_clean p h ending is clean =
       bare = bare_of p h is all.bare it.0 it.1;
     }
 
-pub passing_settles : (p : Passing) (h : ExchangeHistory) (ending : Ending) (clean : Bool) → IsPassing p h
+pub forwarding_settles : (p : Forwarding) (h : ExchangeHistory) (ending : Ending) (clean : Bool) → IsForwarding p h
     → (p.phase ≡ Body) × (is_done p.up.coding ≡ true) × (is_done p.down.coding ≡ true) × (p.says ≢ Close)
     → (clean ≡ true → is_clean p ≡ true) → (ending ≡ Failed → p.reached ≡ false)
     → IsSettling (record { out = p.down; behind = p.up_held; clean = clean }) (posted h p.pass ending)
-passing_settles p h ending clean is done rests fair =
+forwarding_settles p h ending clean is done rests fair =
     let it = whole_ends p h ending is done.0 done.1 done.2 in
-    let over = passing_ends p h ending false false is fair (λ on. absurd (true≢false (sym on))) (λ on. absurd (true≢false (sym on))) in
+    let over = forwarding_ends p h ending false false is fair (λ on. absurd (true≢false (sym on))) (λ on. absurd (true≢false (sym on))) in
     record {
       whole = whole_of p h is it.0 it.1;
       unsent = p.up.out;
       extra = p.down_held.items;
       ends = it.2;
-      stays = done.3;
+      left_open = done.3;
       clean = λ on.
           let all = clean_is p (rests on) in
           (all.sent, all.none, all.asks, all.kept, bare_of p h is all.bare it.0 it.1);
-      server = posted_server h p.pass ending (passing_server p h is);
+      server = posted_server h p.pass ending (forwarding_server p h is);
       client = subst (λ (r : Request). ClientText (posted h p.pass ending) (leave_text r ++ is.answer)) is.asked.request_is
-          (posted_client h p.pass ending (leave_text p.view ++ is.answer) (passing_client p h is));
+          (posted_client h p.pass ending (leave_text p.view ++ is.answer) (forwarding_client p h is));
       grants = over.grants;
       fair = over.fair;
       tried = over.tried;
@@ -217,7 +217,7 @@ settling_took s t h count is same out =
       unsent = is.unsent;
       extra = is.extra;
       ends = ends_took h is.whole s.behind.items s.out.out t.out.out is.unsent is.extra count is.ends out;
-      stays = is.stays;
+      left_open = is.left_open;
       clean = is.clean;
       server = got_server h front is.server;
       client = got_client h front (told is.whole) is.client;

@@ -52,7 +52,7 @@ use Rattle.exchange_machine.specs.Headline.ClientText.{silent, refused_unread, l
 use Rattle.exchange_machine.specs.Headline.ArePosted.{all_posted, one_held}
 use Rattle.exchange_machine.specs.Histories.{Post, ExchangeHistory, client_came, server_came, client_got, connected_on, posted, passes_of, reached_by}
 use Rattle.exchange_machine.specs.Requests.{IsAskedBy, BreaksBody, IsNoRequest, LacksHead}
-use Rattle.exchange_machine.specs.Stages.{HistoryIsFresh, IsAsking, IsWaiting, IsDialing, IsPassing, IsLeaving, HasLeave}
+use Rattle.exchange_machine.specs.Stages.{HistoryIsFresh, IsAsking, IsWaiting, IsDialing, IsForwarding, IsLeaving, HasLeave}
 use Rattle.exchange_machine.specs.declared.leaving.Leaving.{Leaving}
 use Rattle.grant_board.specs.Views.{Grant}
 use Rattle.base_verdict.specs.declared.Ending.{Ending}
@@ -63,7 +63,7 @@ use Rattle.std.proofs.Math.Seq.{take-append_seam}
 use Rattle.exchange_machine.specs.declared.asking.Asking.{Asking}
 use Rattle.exchange_machine.specs.declared.waiting.Waiting.{Waiting}
 use Rattle.exchange_machine.specs.declared.dialing.Dialing.{Dialing}
-use Rattle.exchange_machine.specs.declared.passing.Passing.{Passing}
+use Rattle.exchange_machine.specs.declared.forwarding.Forwarding.{Forwarding}
 use Rattle.exchange_machine.specs.declared.way.Way.{Way}
 use Rattle.exchange_machine.specs.Sides.{IsUp, IsDown, AtHeads, AtBody}
 use Rattle.exchange_machine.specs.Ways.{Hears}
@@ -91,10 +91,10 @@ by_part came used rest given more text is part longest =
 pub up_front : (adds : Additions) (r : Request) (c : Coding) (held came given more text : List ℕ) → IsUp adds r c held came given
     → IsLongest (PartOfForwarded adds r) (came ++ more) text → IsFront given text
 up_front adds r c held came given more text u longest =
-    let s = feeds_sent u.framing true c u.taken u.passed u.feeds in
+    let s = feeds_sent u.framing true c u.taken u.sent_on u.feeds in
     by_part came s.used (s.rest ++ held) given more text
     (u.came_is ∙ ap (λ l. l ++ held) s.input_is ∙ append_assoc s.used s.rest held)
-    (subst (λ (l : List ℕ). PartOfForwarded adds r s.used l) (sym u.given_is) (forwards u.framing s.used u.passed u.framed s.part)) longest
+    (subst (λ (l : List ℕ). PartOfForwarded adds r s.used l) (sym u.given_is) (forwards u.framing s.used u.sent_on u.framed s.part)) longest
 
 pub up_whole : (adds : Additions) (r : Request) (c : Coding) (held came given : List ℕ) → IsUp adds r c held came given → is_done c ≡ true
     → (used : List ℕ) × (came ≡ used ++ held) × IsForwarded adds r used given
@@ -104,8 +104,8 @@ up_whole adds r c held came given u done = (
   record {
     framing = u.framing;
     framed = u.framed;
-    body = u.passed;
-    passes = feeds_body u.framing true c u.taken u.passed u.feeds done;
+    body = u.sent_on;
+    passes = feeds_body u.framing true c u.taken u.sent_on u.feeds done;
     text_is = u.given_is;
   },
 )
@@ -121,7 +121,7 @@ body_front : (says : Persistence) (kept : Bool) (method : List ℕ) (framed : Bo
     → AtBody says kept method framed c held came given
     → IsLongest (PartOfAnswered says method framed) (came ++ more) text → IsFront given text
 body_front says kept method framed c held came given more text a longest =
-    let s = feeds_sent a.plan.body framed c a.taken a.passed a.feeds in
+    let s = feeds_sent a.plan.body framed c a.taken a.sent_on a.feeds in
     let heads = print_heads a.interims in
     let head = print_response a.head in
     by_part came (heads ++ (head ++ s.used)) (s.rest ++ held) given more text
@@ -131,7 +131,7 @@ body_front says kept method framed c held came given more text a longest =
     ∙ ap (λ l. heads ++ l) (sym (append_assoc head s.used (s.rest ++ held)))
     ∙ sym (append_assoc heads (head ++ s.used) (s.rest ++ held)))
     (subst (λ (l : List ℕ). PartOfAnswered says method framed (heads ++ (head ++ s.used)) l) (sym a.given_is)
-    (answers a.interims a.head a.plan s.used a.passed a.are a.final s.part)) longest
+    (answers a.interims a.head a.plan s.used a.sent_on a.are a.final s.part)) longest
 
 pub down_front : (says : Persistence) (kept : Bool) (method : List ℕ) (framed : Bool) (phase : Down) (c : Coding) (held came given more text : List ℕ)
     → IsDown says kept method framed phase c held came given → IsLongest (PartOfAnswered says method framed) (came ++ more) text → IsFront given text
@@ -156,8 +156,8 @@ down_whole says kept method framed c held came given a done =
         plan = a.plan;
         final = a.final;
         body = a.taken;
-        passed = a.passed;
-        passes = feeds_body a.plan.body framed c a.taken a.passed a.feeds done;
+        sent_on = a.sent_on;
+        passes = feeds_body a.plan.body framed c a.taken a.sent_on a.feeds done;
         used_is = refl;
         text_is = a.given_is;
       },
@@ -172,14 +172,14 @@ pub up_more : (adds : Additions) (r : Request) (c d : Coding) (out out' held cam
     → (given' : List ℕ) × IsUp adds r d held (came ++ bytes) given' × (given' ≡ sent ++ out')
 up_more adds r c d out out' held came given sent bytes none u is step =
     let text = request_text adds r u.framing in
-    let before : Hears (start_of u.framing true) c text out u.taken sent = record { given = u.passed; feeds = u.feeds; sent = sym u.given_is ∙ is } in
+    let before : Hears (start_of u.framing true) c text out u.taken sent = record { given = u.sent_on; feeds = u.feeds; sent = sym u.given_is ∙ is } in
     let after = step (start_of u.framing true) text u.taken sent before in (
       text ++ after.given,
       record {
         framing = u.framing;
         framed = u.framed;
         taken = u.taken ++ bytes;
-        passed = after.given;
+        sent_on = after.given;
         feeds = after.feeds;
         came_is =
             ap (λ l. l ++ bytes) u.came_is ∙ ap (λ l. (u.taken ++ l) ++ bytes) none ∙ ap (λ l. l ++ bytes) (append-nil u.taken)
@@ -231,10 +231,10 @@ leave_left {count} {leave} {went} {out} is =
     is.leave_is
     ∙ ap (λ l. went ++ l) (sym (ap (λ n. take n out) is.count_is ∙ ap (take (length is.left)) is.out_is ∙ take-append_seam is.left is.behind))
 
-pub passing_more : (p : Passing) (way : Way) (h : ExchangeHistory) (bytes : List ℕ) → IsPassing p h → p.up_held.items ≡ []
+pub forwarding_more : (p : Forwarding) (way : Way) (h : ExchangeHistory) (bytes : List ℕ) → IsForwarding p h → p.up_held.items ≡ []
     → ((start : Coding) (text x y : List ℕ) → Hears start p.up.coding text p.up.out x y → Hears start way.coding text way.out (x ++ bytes) y)
-    → IsPassing (record p { up = way }) (client_came h bytes)
-passing_more p way h bytes is none step =
+    → IsForwarding (record p { up = way }) (client_came h bytes)
+forwarding_more p way h bytes is none step =
     let more = up_more p.adds p.view p.up.coding way.coding p.up.out way.out p.up_held.items is.behind is.request h.to_server bytes none is.up is.sent step in
     record {
       behind = is.behind ++ bytes;
@@ -261,13 +261,13 @@ passing_more p way h bytes is none step =
 pub up_part : (adds : Additions) (r : Request) (c : Coding) (held came given : List ℕ) → IsUp adds r c held came given
     → IsOfPart (PartOfForwarded adds r) came given
 up_part adds r c held came given u =
-    let s = feeds_sent u.framing true c u.taken u.passed u.feeds in
+    let s = feeds_sent u.framing true c u.taken u.sent_on u.feeds in
     record {
       used = s.used;
       rest = s.rest ++ held;
       text = given;
       input_is = u.came_is ∙ ap (λ l. l ++ held) s.input_is ∙ append_assoc s.used s.rest held;
-      part = subst (λ (l : List ℕ). PartOfForwarded adds r s.used l) (sym u.given_is) (forwards u.framing s.used u.passed u.framed s.part);
+      part = subst (λ (l : List ℕ). PartOfForwarded adds r s.used l) (sym u.given_is) (forwards u.framing s.used u.sent_on u.framed s.part);
       front = front_same given;
     }
 
@@ -287,7 +287,7 @@ down_body : (says : Persistence) (kept : Bool) (method : List ℕ) (framed : Boo
     → AtBody says kept method framed c held came given
     → IsOfPart (PartOfAnswered says method framed) came given
 down_body says kept method framed c held came given a =
-    let s = feeds_sent a.plan.body framed c a.taken a.passed a.feeds in
+    let s = feeds_sent a.plan.body framed c a.taken a.sent_on a.feeds in
     let heads = print_heads a.interims in
     let head = print_response a.head in
     record {
@@ -301,7 +301,7 @@ down_body says kept method framed c held came given a =
           ∙ ap (λ l. heads ++ l) (sym (append_assoc head s.used (s.rest ++ held)))
           ∙ sym (append_assoc heads (head ++ s.used) (s.rest ++ held));
       part = subst (λ (l : List ℕ). PartOfAnswered says method framed (heads ++ (head ++ s.used)) l) (sym a.given_is)
-          (answers a.interims a.head a.plan s.used a.passed a.are a.final s.part);
+          (answers a.interims a.head a.plan s.used a.sent_on a.are a.final s.part);
       front = front_same given;
     }
 
@@ -366,12 +366,12 @@ dialing_sound d h is = record {
 }
 
 -- the server was reached: the request's head goes out, and its body begins
-pub dialing_passes : (d : Dialing) (p : Passing) (h : ExchangeHistory) → IsDialing d h → p.view ≡ d.waiting.asked.view → p.pass ≡ d.pass → p.reached ≡ d.reached
+pub dialing_passes : (d : Dialing) (p : Forwarding) (h : ExchangeHistory) → IsDialing d h → p.view ≡ d.waiting.asked.view → p.pass ≡ d.pass → p.reached ≡ d.reached
     → p.framing ≡ d.waiting.asked.framing
     → p.up.coding ≡ start_of d.waiting.asked.framing true → p.up.out ≡ request_text p.adds d.waiting.asked.view d.waiting.asked.framing
     → p.up_held.items ≡ d.waiting.asked.held.items → p.phase ≡ Heads 0 → p.down_held.items ≡ []
     → p.down.out ≡ leave_text d.waiting.asked.view → p.ended ≡ false
-    → p.leave_left ≡ length p.down.out → p.well ≡ false → p.says ≡ Close → IsPassing p (connected_on h p.adds)
+    → p.leave_left ≡ length p.down.out → p.well ≡ false → p.says ≡ Close → IsForwarding p (connected_on h p.adds)
 dialing_passes d p h is view pass reach framing coding out held phase empty leave running left unwell closed =
     let r = d.waiting.asked.view in
     let f = d.waiting.asked.framing in
@@ -382,7 +382,7 @@ dialing_passes d p h is view pass reach framing coding out held phase empty leav
       framing = f;
       framed = is.asked.framed;
       taken = [];
-      passed = [];
+      sent_on = [];
       feeds = feeds_nil (start_of f true);
       came_is = sym held;
       given_is = sym (append-nil (request_text p.adds r f));
@@ -417,28 +417,28 @@ dialing_passes d p h is view pass reach framing coding out held phase empty leav
       };
     }
 
-pub passing_server : (p : Passing) (h : ExchangeHistory) → IsPassing p h → ToServer h
-passing_server p h is =
+pub forwarding_server : (p : Forwarding) (h : ExchangeHistory) → IsForwarding p h → ToServer h
+forwarding_server p h is =
     of_request p.view is.behind is.asked
     (front_part p.up.out is.sent
     (subst (λ (a : Additions). IsOfPart (PartOfForwarded a p.view) is.behind is.request) is.adds
     (up_part p.adds p.view p.up.coding p.up_held.items is.behind is.request is.up)))
 
-pub passing_client : (p : Passing) (h : ExchangeHistory) → (is : IsPassing p h) → ClientText h (leave_text p.view ++ is.answer)
-passing_client p h is =
+pub forwarding_client : (p : Forwarding) (h : ExchangeHistory) → (is : IsForwarding p h) → ClientText h (leave_text p.view ++ is.answer)
+forwarding_client p h is =
     answered p.says p.view is.behind is.answer is.asked
     (down_part p.says p.kept p.view.method (framed_for p.view.version) p.phase p.down.coding p.down_held.items h.server_in is.answer is.down)
 
-pub passing_tried : (p : Passing) (h : ExchangeHistory) → IsPassing p h → AreTries h
-passing_tried p h is = some_tries p.view is.behind is.asked is.tries
+pub forwarding_tried : (p : Forwarding) (h : ExchangeHistory) → IsForwarding p h → AreTries h
+forwarding_tried p h is = some_tries p.view is.behind is.asked is.tries
 
-pub passing_sound : (p : Passing) (h : ExchangeHistory) → IsPassing p h → Sound h
-passing_sound p h is = record {
-  server = passing_server p h is;
-  client = record { text = leave_text p.view ++ is.answer; is = passing_client p h is; front = record { rest = p.down.out; is = is.told } };
+pub forwarding_sound : (p : Forwarding) (h : ExchangeHistory) → IsForwarding p h → Sound h
+forwarding_sound p h is = record {
+  server = forwarding_server p h is;
+  client = record { text = leave_text p.view ++ is.answer; is = forwarding_client p h is; front = record { rest = p.down.out; is = is.told } };
   once = one_held p.pass is.grants;
   fair = is.fair;
-  tried = passing_tried p h is;
+  tried = forwarding_tried p h is;
 }
 
 pub leaving_sound : (l : Leaving) (h : ExchangeHistory) → IsLeaving l h → Sound h
@@ -468,21 +468,21 @@ pub posted_tried : (h : ExchangeHistory) (pass : Grant) (ending : Ending) → Ar
 posted_tried h pass ending (untried is) = untried is
 posted_tried h pass ending (some_tries r behind asked tries) = some_tries r behind asked tries
 
-pub passing_ends : (p : Passing) (h : ExchangeHistory) (ending : Ending) (whole clean : Bool) → (is : IsPassing p h) → (ending ≡ Failed → p.reached ≡ false)
+pub forwarding_ends : (p : Forwarding) (h : ExchangeHistory) (ending : Ending) (whole clean : Bool) → (is : IsForwarding p h) → (ending ≡ Failed → p.reached ≡ false)
     → (whole ≡ true → TellsAnswer h.signs h.client_in h.server_in (leave_text p.view ++ is.answer))
     → (clean ≡ true → EndsClean (posted h p.pass ending) p.down.out)
     → IsLeaving (record { out = p.down; whole = whole; clean = clean }) (posted h p.pass ending)
-passing_ends p h ending whole clean is fair tells ends = record {
-  server = posted_server h p.pass ending (passing_server p h is);
+forwarding_ends p h ending whole clean is fair tells ends = record {
+  server = posted_server h p.pass ending (forwarding_server p h is);
   text = leave_text p.view ++ is.answer;
-  client = posted_client h p.pass ending (leave_text p.view ++ is.answer) (passing_client p h is);
+  client = posted_client h p.pass ending (leave_text p.view ++ is.answer) (forwarding_client p h is);
   told = is.told;
   whole = tells;
   clean = ends;
   grants = is.grants ∙ sym (map-append (λ (q : Post). q.pass) h.posts (record { pass = p.pass; ending = ending; reached = reached_by h } ∷ []));
   fair = all_append IsFair h.posts (record { pass = p.pass; ending = ending; reached = reached_by h } ∷ []) is.fair
       ((λ failed. is.unreached (fair failed)), tt);
-  tried = posted_tried h p.pass ending (passing_tried p h is);
+  tried = posted_tried h p.pass ending (forwarding_tried p h is);
 }
 
 -- more of an answer's body came, and its way took it
@@ -499,7 +499,7 @@ body_more says kept method framed c d out out' held came given lead sent bytes n
     let whole : (x : List ℕ) → text ++ x ≡ lead ++ (told ++ (top ++ x)) = λ x.
     append_assoc lead (told ++ top) x ∙ ap (λ l. lead ++ l) (append_assoc told top x) in
     let before : Hears (start_of a.plan.body framed) c text out a.taken sent =
-    record { given = a.passed; feeds = a.feeds; sent = whole a.passed ∙ ap (λ l. lead ++ l) (sym a.given_is) ∙ is } in
+    record { given = a.sent_on; feeds = a.feeds; sent = whole a.sent_on ∙ ap (λ l. lead ++ l) (sym a.given_is) ∙ is } in
     let after = step (start_of a.plan.body framed) text a.taken sent before in (
       told ++ (top ++ after.given),
       record {
@@ -511,7 +511,7 @@ body_more says kept method framed c d out out' held came given lead sent bytes n
         delimits = a.delimits;
         keeps = a.keeps;
         taken = a.taken ++ bytes;
-        passed = after.given;
+        sent_on = after.given;
         feeds = after.feeds;
         came_is =
             ap (λ l. l ++ bytes) a.came_is ∙ append_assoc heads (head ++ (a.taken ++ held)) bytes
@@ -523,15 +523,15 @@ body_more says kept method framed c d out out' held came given lead sent bytes n
       sym (whole after.given) ∙ after.sent,
     )
 
-pub down_as : {p : Passing} {h : ExchangeHistory} (phase : Down) → p.phase ≡ phase → (is : IsPassing p h)
+pub down_as : {p : Forwarding} {h : ExchangeHistory} (phase : Down) → p.phase ≡ phase → (is : IsForwarding p h)
     → IsDown p.says p.kept p.view.method (framed_for p.view.version) phase p.down.coding p.down_held.items h.server_in is.answer
 down_as {p} {h} phase e is =
     subst (λ (d : Down). IsDown p.says p.kept p.view.method (framed_for p.view.version) d p.down.coding p.down_held.items h.server_in is.answer) e is.down
 
-pub passing_answer : (p : Passing) (way : Way) (h : ExchangeHistory) (bytes : List ℕ) → IsPassing p h → p.phase ≡ Body → p.down_held.items ≡ []
+pub forwarding_answer : (p : Forwarding) (way : Way) (h : ExchangeHistory) (bytes : List ℕ) → IsForwarding p h → p.phase ≡ Body → p.down_held.items ≡ []
     → ((start : Coding) (text x y : List ℕ) → Hears start p.down.coding text p.down.out x y → Hears start way.coding text way.out (x ++ bytes) y)
-    → IsFront p.down.out way.out → IsPassing (record p { down = way }) (server_came h bytes)
-passing_answer p way h bytes is body none step grows =
+    → IsFront p.down.out way.out → IsForwarding (record p { down = way }) (server_came h bytes)
+forwarding_answer p way h bytes is body none step grows =
     let more = body_more p.says p.kept p.view.method
     (framed_for p.view.version) p.down.coding way.coding p.down.out way.out p.down_held.items h.server_in is.answer
     (leave_text p.view) h.to_client bytes none (down_as Body body is) is.told step in
@@ -579,7 +579,7 @@ heads_final says kept method framed count held came given a len plan at stood pl
       delimits = delimits;
       keeps = λ on. ap (λ (q : Answer). is_kept_by_server q plan) (sym stood.answer) ∙ keeps on;
       taken = [];
-      passed = [];
+      sent_on = [];
       feeds = feeds_nil (start_of plan.body framed);
       came_is =
           at.came_is ∙ ap (λ l. print_heads at.interims ++ l) (stood.stands.reads.1 ∙ ap (λ l. print_response h ++ l) (sym rest));
@@ -644,14 +644,14 @@ said_wished willing r plan says is other =
     let both = said_agreed willing (is_delimited (framed_for r.version) plan.body) (wished r) (λ closed. other (is ∙ closed)) in
     (both.0, both.1 ∙ sym is)
 
-pub passing_final : (p : Passing) (way : Way) (held : List ℕ) (h : ExchangeHistory) (count : ℕ) (a : Answer) (len : ℕ) (plan : Plan) (q : Passing) → IsPassing p h
+pub forwarding_final : (p : Forwarding) (way : Way) (held : List ℕ) (h : ExchangeHistory) (count : ℕ) (a : Answer) (len : ℕ) (plan : Plan) (q : Forwarding) → IsForwarding p h
     → p.phase ≡ Heads count
     → SaysAnswer p.down_held.items a len → answer_plan p.view.method a ≡ Some plan → is_interim a.status ≡ false
     → q.says ≡ answer_says p.willing p.view plan → q.kept ≡ is_kept_by_server a plan
     → way.coding ≡ start_of plan.body (framed_for p.view.version) → way.out ≡ p.down.out ++ answer_text q.says (framed_for p.view.version) a plan
     → held ≡ drop len p.down_held.items → q.down_held.items ≡ held
-    → q ≡ record p { phase = Body; down = way; down_held = q.down_held; says = q.says; kept = q.kept } → IsPassing q h
-passing_final p way held h count a len plan q is phase stood planned final told kept coding out rest here same =
+    → q ≡ record p { phase = Body; down = way; down_held = q.down_held; says = q.says; kept = q.kept } → IsForwarding q h
+forwarding_final p way held h count a len plan q is phase stood planned final told kept coding out rest here same =
     let framed = framed_for p.view.version in
     let text = answer_text q.says framed a plan in
     let at = heads_final q.says q.kept p.view.method framed count p.down_held.items h.server_in is.answer a len plan (down_as
@@ -660,7 +660,7 @@ passing_final p way held h count a len plan q is phase stood planned final told 
     let down : AtBody q.says q.kept p.view.method framed way.coding q.down_held.items h.server_in (is.answer ++ text) =
     subst (λ (l : List ℕ). AtBody q.says q.kept p.view.method framed way.coding l h.server_in (is.answer ++ text)) (sym rest ∙ sym here)
     (subst (λ (c : Coding). AtBody q.says q.kept p.view.method framed c (drop len p.down_held.items) h.server_in (is.answer ++ text)) (sym coding) at) in
-    subst (λ (r : Passing). IsPassing r h) (sym same) (record {
+    subst (λ (r : Forwarding). IsForwarding r h) (sym same) (record {
       behind = is.behind;
       asked = is.asked;
       request = is.request;
@@ -683,18 +683,18 @@ passing_final p way held h count a len plan q is phase stood planned final told 
       leave = λ none. leave_grows (record { rest = text; is = out }) (is.leave none);
     })
 
-pub passing_interim : (p : Passing) (way : Way) (held : List ℕ) (h : ExchangeHistory) (count : ℕ) (a : Answer) (len : ℕ) (q : Passing) → IsPassing p h
+pub forwarding_interim : (p : Forwarding) (way : Way) (held : List ℕ) (h : ExchangeHistory) (count : ℕ) (a : Answer) (len : ℕ) (q : Forwarding) → IsForwarding p h
     → p.phase ≡ Heads count
     → SaysAnswer p.down_held.items a len → IsSome (answer_plan p.view.method a) → is_interim a.status ≡ true → count < 8
     → way.out ≡ p.down.out ++ interim_text (framed_for p.view.version) a
     → held ≡ drop len p.down_held.items → q.down_held.items ≡ held → q ≡ record p { phase = Heads (count + 1); down = way; down_held = q.down_held }
-    → IsPassing q h
-passing_interim p way held h count a len q is phase says planned interim few out rest here same =
+    → IsForwarding q h
+forwarding_interim p way held h count a len q is phase says planned interim few out rest here same =
     let framed = framed_for p.view.version in
     let at = heads_interim p.view.method framed count p.down_held.items h.server_in is.answer a len (down_as (Heads count) phase is) says planned interim few in
     let down : AtHeads p.view.method framed (count + 1) q.down_held.items h.server_in (is.answer ++ interim_text framed a) =
     subst (λ (l : List ℕ). AtHeads p.view.method framed (count + 1) l h.server_in (is.answer ++ interim_text framed a)) (sym rest ∙ sym here) at in
-    subst (λ (r : Passing). IsPassing r h) (sym same) (record {
+    subst (λ (r : Forwarding). IsForwarding r h) (sym same) (record {
       behind = is.behind;
       asked = is.asked;
       request = is.request;
@@ -761,17 +761,17 @@ look_broken w h is broken = inr (record {
 })
 
 -- what is held is taken in part
-pub passing_used : (p : Passing) (way : Way) (q : Passing) (h : ExchangeHistory) (used : ℕ) (seen : List ℕ) → IsPassing p h → seen ≡ p.up_held.items
+pub forwarding_used : (p : Forwarding) (way : Way) (q : Forwarding) (h : ExchangeHistory) (used : ℕ) (seen : List ℕ) → IsForwarding p h → seen ≡ p.up_held.items
     → ((start : Coding) (text x y : List ℕ) → Hears start p.up.coding text p.up.out x y → Hears start way.coding text way.out (x ++ take used seen) y)
-    → q.up_held.items ≡ drop used p.up_held.items → q ≡ record p { up = way; up_held = q.up_held } → IsPassing q h
-passing_used p way q h used seen is same step rest here =
+    → q.up_held.items ≡ drop used p.up_held.items → q ≡ record p { up = way; up_held = q.up_held } → IsForwarding q h
+forwarding_used p way q h used seen is same step rest here =
     let u = is.up in
     let text = request_text p.adds p.view u.framing in
     let before : Hears (start_of u.framing true) p.up.coding text p.up.out u.taken h.to_server =
-    record { given = u.passed; feeds = u.feeds; sent = sym u.given_is ∙ is.sent } in
+    record { given = u.sent_on; feeds = u.feeds; sent = sym u.given_is ∙ is.sent } in
     let after = step (start_of u.framing true) text u.taken h.to_server before in
     let front = take used seen in
-    subst (λ (r : Passing). IsPassing r h) (sym here) (record {
+    subst (λ (r : Forwarding). IsForwarding r h) (sym here) (record {
       behind = is.behind;
       asked = is.asked;
       request = text ++ after.given;
@@ -779,7 +779,7 @@ passing_used p way q h used seen is same step rest here =
         framing = u.framing;
         framed = u.framed;
         taken = u.taken ++ front;
-        passed = after.given;
+        sent_on = after.given;
         feeds = after.feeds;
         came_is =
             u.came_is ∙ ap (λ l. u.taken ++ l) (sym same ∙ sym (take-append-drop used seen)) ∙ sym (append_assoc u.taken front (drop used seen))
@@ -816,7 +816,7 @@ body_used says kept method framed c d out out' held rest came given lead sent se
     let whole : (x : List ℕ) → text ++ x ≡ lead ++ (told ++ (top ++ x)) = λ x.
     append_assoc lead (told ++ top) x ∙ ap (λ l. lead ++ l) (append_assoc told top x) in
     let before : Hears (start_of a.plan.body framed) c text out a.taken sent =
-    record { given = a.passed; feeds = a.feeds; sent = whole a.passed ∙ ap (λ l. lead ++ l) (sym a.given_is) ∙ is } in
+    record { given = a.sent_on; feeds = a.feeds; sent = whole a.sent_on ∙ ap (λ l. lead ++ l) (sym a.given_is) ∙ is } in
     let after = step (start_of a.plan.body framed) text a.taken sent before in
     let front = take used seen in (
       told ++ (top ++ after.given),
@@ -829,7 +829,7 @@ body_used says kept method framed c d out out' held rest came given lead sent se
         delimits = a.delimits;
         keeps = a.keeps;
         taken = a.taken ++ front;
-        passed = after.given;
+        sent_on = after.given;
         feeds = after.feeds;
         came_is =
             a.came_is
@@ -841,16 +841,16 @@ body_used says kept method framed c d out out' held rest came given lead sent se
       sym (whole after.given) ∙ after.sent,
     )
 
-pub passing_answer_used : (p : Passing) (way : Way) (q : Passing) (h : ExchangeHistory) (used : ℕ) (seen : List ℕ) → IsPassing p h → p.phase ≡ Body
+pub forwarding_answer_used : (p : Forwarding) (way : Way) (q : Forwarding) (h : ExchangeHistory) (used : ℕ) (seen : List ℕ) → IsForwarding p h → p.phase ≡ Body
     → seen ≡ p.down_held.items
     → ((start : Coding) (text x y : List ℕ) → Hears start p.down.coding text p.down.out x y → Hears start way.coding text way.out (x ++ take used seen) y)
     → IsFront p.down.out way.out
-    → q.down_held.items ≡ drop used p.down_held.items → q ≡ record p { down = way; down_held = q.down_held } → IsPassing q h
-passing_answer_used p way q h used seen is body same step grows rest here =
+    → q.down_held.items ≡ drop used p.down_held.items → q ≡ record p { down = way; down_held = q.down_held } → IsForwarding q h
+forwarding_answer_used p way q h used seen is body same step grows rest here =
     let more = body_used p.says p.kept p.view.method
     (framed_for p.view.version) p.down.coding way.coding p.down.out way.out p.down_held.items q.down_held.items h.server_in
     is.answer (leave_text p.view) h.to_client seen used same rest (down_as Body body is) is.told step in
-    subst (λ (r : Passing). IsPassing r h) (sym here) (record {
+    subst (λ (r : Forwarding). IsForwarding r h) (sym here) (record {
       behind = is.behind;
       asked = is.asked;
       request = is.request;
@@ -876,7 +876,7 @@ pub no_interims : (hs : List ResponseHead) (framed : Bool) → 0 ≡ length hs �
 no_interims [] framed none = refl
 no_interims (h ∷ hs) framed none = absurd (omega (arith, none))
 
-pub nothing_answered : (p : Passing) (h : ExchangeHistory) → (is : IsPassing p h) → ClientText h (leave_text p.view)
+pub nothing_answered : (p : Forwarding) (h : ExchangeHistory) → (is : IsForwarding p h) → ClientText h (leave_text p.view)
 nothing_answered p h is =
     subst (λ (l : List ℕ). ClientText h l) (append-nil (leave_text p.view))
     (answered p.says p.view is.behind [] is.asked (record {
@@ -889,11 +889,11 @@ nothing_answered p h is =
     }))
 
 -- a refusal takes the place of what waits behind the leave; where there is no room for it, nothing does
-pub passing_refused : (p : Passing) (l : Leaving) (way : Way) (h : ExchangeHistory) (code : Code) (pass : Grant) (ending : Ending) (fits : Bool) → (is : IsPassing p h)
+pub forwarding_refused : (p : Forwarding) (l : Leaving) (way : Way) (h : ExchangeHistory) (code : Code) (pass : Grant) (ending : Ending) (fits : Bool) → (is : IsForwarding p h)
     → IsLeaving l (posted h pass ending) → l.out ≡ p.down → p.begun ≡ false → Reason h.signs p.view is.behind h.server_in code
     → (fits ≡ true → way.out ≡ take p.leave_left l.out.out ++ refusal_text code) → (fits ≡ false → way.out ≡ take p.leave_left l.out.out)
     → IsLeaving (record { out = way; whole = false; clean = false }) (posted h pass ending)
-passing_refused p l way h code pass ending true is over same none why out full =
+forwarding_refused p l way h code pass ending true is over same none why out full =
     let front = leave_left (is.leave none) ∙ ap (λ (w : Way). h.to_client ++ take p.leave_left w.out) (sym same) in
     record {
       server = over.server;
@@ -907,7 +907,7 @@ passing_refused p l way h code pass ending true is over same none why out full =
       fair = over.fair;
       tried = over.tried;
     }
-passing_refused p l way h code pass ending false is over same none why out full = record {
+forwarding_refused p l way h code pass ending false is over same none why out full = record {
   server = over.server;
   text = leave_text p.view;
   client = posted_client h pass ending (leave_text p.view) (nothing_answered p h is);
@@ -920,12 +920,12 @@ passing_refused p l way h code pass ending false is over same none why out full 
 }
 
 -- the client took more of what waits
-pub passing_told : (p q : Passing) (h : ExchangeHistory) (count : ℕ) → IsPassing p h → q.down.out ≡ drop count p.down.out → q.down.coding ≡ p.down.coding
+pub forwarding_told : (p q : Forwarding) (h : ExchangeHistory) (count : ℕ) → IsForwarding p h → q.down.out ≡ drop count p.down.out → q.down.coding ≡ p.down.coding
     → (q.begun ≡ false → (p.begun ≡ false) × (count ≤ p.leave_left) × (q.leave_left ≡ p.leave_left - count))
-    → q ≡ record p { down = q.down; begun = q.begun; leave_left = q.leave_left } → IsPassing q (client_got h (take count p.down.out))
-passing_told p q h count is out coding still same =
+    → q ≡ record p { down = q.down; begun = q.begun; leave_left = q.leave_left } → IsForwarding q (client_got h (take count p.down.out))
+forwarding_told p q h count is out coding still same =
     let front = take count p.down.out in
-    subst (λ (r : Passing). IsPassing r (client_got h front)) (sym same) (record {
+    subst (λ (r : Forwarding). IsForwarding r (client_got h front)) (sym same) (record {
       behind = is.behind;
       asked = is.asked;
       request = is.request;
@@ -975,7 +975,7 @@ down_held_more says kept method framed Body c held came given bytes a =
       delimits = a.delimits;
       keeps = a.keeps;
       taken = a.taken;
-      passed = a.passed;
+      sent_on = a.sent_on;
       feeds = a.feeds;
       came_is =
           ap (λ l. l ++ bytes) a.came_is ∙ append_assoc heads (head ++ (a.taken ++ held)) bytes
@@ -983,10 +983,10 @@ down_held_more says kept method framed Body c held came given bytes a =
       given_is = a.given_is;
     }
 
-pub passing_held : (p q : Passing) (h : ExchangeHistory) (bytes : List ℕ) → IsPassing p h → q.down_held.items ≡ p.down_held.items ++ bytes
-    → q ≡ record p { down_held = q.down_held; looks = q.looks } → IsPassing q (server_came h bytes)
-passing_held p q h bytes is held same =
-    subst (λ (r : Passing). IsPassing r (server_came h bytes)) (sym same) (record {
+pub forwarding_held : (p q : Forwarding) (h : ExchangeHistory) (bytes : List ℕ) → IsForwarding p h → q.down_held.items ≡ p.down_held.items ++ bytes
+    → q ≡ record p { down_held = q.down_held; looks = q.looks } → IsForwarding q (server_came h bytes)
+forwarding_held p q h bytes is held same =
+    subst (λ (r : Forwarding). IsForwarding r (server_came h bytes)) (sym same) (record {
       behind = is.behind;
       asked = is.asked;
       request = is.request;
@@ -1028,8 +1028,8 @@ look_lacks HeadFault fault bytes never is = subst (λ (f : Fault). LacksHead f b
 look_lacks NoMemory fault bytes never is = subst (λ (f : Fault). LacksHead f bytes) (sym is) tt
 
 -- what came behind a head is none of its bodies
-pub passing_breaks : (p : Passing) (h : ExchangeHistory) → (is : IsPassing p h) → is_bad p.up.coding ≡ true → BreaksBody p.view is.behind
-passing_breaks p h is broken =
+pub forwarding_breaks : (p : Forwarding) (h : ExchangeHistory) → (is : IsForwarding p h) → is_bad p.up.coding ≡ true → BreaksBody p.view is.behind
+forwarding_breaks p h is broken =
     let u = is.up in
     record {
       framing = u.framing;
@@ -1038,11 +1038,11 @@ passing_breaks p h is broken =
           subst (λ (l : List ℕ). LacksBody u.framing l)
           (ap (λ l. l ++ (p.up_held.items ++ more)) (append-nil u.taken) ∙ sym (append_assoc u.taken p.up_held.items more)
           ∙ ap (λ l. l ++ more) (sym u.came_is))
-          (run_bad u.framing true ((u.taken, u.passed) ∷ []) p.up.coding (p.up.coding, u.feeds, refl) (p.up_held.items ++ more) broken);
+          (run_bad u.framing true ((u.taken, u.sent_on) ∷ []) p.up.coding (p.up.coding, u.feeds, refl) (p.up_held.items ++ more) broken);
     }
 
-pub passing_answers_badly : (p : Passing) (h : ExchangeHistory) → IsPassing p h → p.phase ≡ Body → is_bad p.down.coding ≡ true → BreaksAnswer p.view.method h.server_in
-passing_answers_badly p h is body broken =
+pub forwarding_answers_badly : (p : Forwarding) (h : ExchangeHistory) → IsForwarding p h → p.phase ≡ Body → is_bad p.down.coding ≡ true → BreaksAnswer p.view.method h.server_in
+forwarding_answers_badly p h is body broken =
     let a = down_as {p = p} {h = h} Body body is in
     record {
       interims = a.interims;
@@ -1055,6 +1055,6 @@ passing_answers_badly p h is body broken =
       breaks = λ more.
           subst (λ (l : List ℕ). LacksBody a.plan.body l)
           (ap (λ l. l ++ (p.down_held.items ++ more)) (append-nil a.taken) ∙ sym (append_assoc a.taken p.down_held.items more))
-          (run_bad a.plan.body (framed_for p.view.version) ((a.taken, a.passed) ∷ []) p.down.coding (p.down.coding, a.feeds, refl)
+          (run_bad a.plan.body (framed_for p.view.version) ((a.taken, a.sent_on) ∷ []) p.down.coding (p.down.coding, a.feeds, refl)
           (p.down_held.items ++ more) broken);
     }

@@ -11,7 +11,7 @@ use Rattle.exchange_machine.specs.Reasons.{Shows}
 use Rattle.exchange_machine.specs.Requests.{IsAskedBy}
 use Rattle.exchange_machine.specs.Wants.{is_none}
 use Rattle.exchange_machine.specs.Ways.{is_read}
-use Rattle.exchange_machine.specs.declared.passing.Passing.{Passing}
+use Rattle.exchange_machine.specs.declared.forwarding.Forwarding.{Forwarding}
 use Rattle.exchange_machine.specs.declared.sides.Down.{Down}
 use Rattle.exchange_machine.specs.declared.sides.Down.TheVariants.{Heads, Body}
 use Rattle.exchange_machine.specs.declared.signs.Sign.{Sign}
@@ -24,7 +24,7 @@ is_read_at Body coding over = is_read coding over
 
 -- the answer of this exchange was read whole; the server's input counts as over where it came to
 -- its end without an error, and none of it is held
-abbrev pub has_answered : Passing → Bool
+abbrev pub has_answered : Forwarding → Bool
 has_answered p = is_read_at p.phase p.down.coding (p.well && is_none p.down_held.items)
 
 -- The text is the interim answers and the whole answer to the client's request, as its server sent

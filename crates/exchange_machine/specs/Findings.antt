@@ -16,7 +16,7 @@ pub record Unplanned (method : List ℕ) (count : ℕ) (held : List ℕ) : Type 
   pub says : SaysAnswer held answer len
   pub role : HasRole method answer count Roles.Refused
 
--- why no head is passed on
+-- why no head is handed on
 abbrev pub NoneStands : List ℕ → ℕ → List ℕ → Fault → Type 0
 NoneStands method count held Faulty.Head = NeverHasAnswer held
 NoneStands method count held Faulty.Framing = Unplanned method count held

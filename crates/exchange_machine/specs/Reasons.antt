@@ -35,13 +35,13 @@ told_for ConnectOver = Some Unavailable
 told_for ServerOver = Some BadGateway
 told_for NoMemory = Some Unavailable
 
--- after this number of interim heads the bytes begin with no head that is passed on
+-- after this number of interim heads the bytes begin with no head that is handed on
 pub data NoneFollows (method : List ℕ) (count : ℕ) (held : List ℕ) : Type 0 where
   never : NeverHasAnswer held → NoneFollows method count held
   unplanned : (a : Answer) (len : ℕ) → SaysAnswer held a len → answer_plan method a ≡ None → NoneFollows method count held
   ninth : (a : Answer) (len : ℕ) → SaysAnswer held a len → is_interim a.status ≡ true → 8 ≤ count → NoneFollows method count held
 
--- the bytes from the server have no answer that is passed on
+-- the bytes from the server have no answer that is handed on
 pub record LacksAnswer (method input : List ℕ) : Type 0 where
   pub interims : List ResponseHead
   pub are : AreInterims method interims

@@ -3,10 +3,10 @@ use Rattle.std.specs.Prelude.{◌≡◌, ◌⊎◌, Bool, true, false, ◌&&◌,
 use Rattle.exchange_machine.specs.Repeats.{is_bare, is_idempotent}
 use Rattle.exchange_machine.specs.declared.sides.Down.TheVariants.{Heads}
 use Rattle.exchange_machine.specs.declared.dialing.Dialing.{Dialing}
-use Rattle.exchange_machine.specs.declared.passing.Passing.{Passing}
+use Rattle.exchange_machine.specs.declared.forwarding.Forwarding.{Forwarding}
 
 -- it has no body, and is idempotent or hasn't reached a server; and no byte of an answer came
-pub record IsRepeatable (p : Passing) : Type 0 where
+pub record IsRepeatable (p : Forwarding) : Type 0 where
   pub heads : p.phase ≡ Heads 0
   pub none : p.down_held.items ≡ []
   pub bare : is_bare p.framing ≡ true
@@ -14,7 +14,7 @@ pub record IsRepeatable (p : Passing) : Type 0 where
 
 -- no byte of it reached a server, and no byte of an answer came: the bytes that wait for the server
 -- may go to another connection as they are
-pub record IsUntouched (p : Passing) : Type 0 where
+pub record IsUntouched (p : Forwarding) : Type 0 where
   pub heads : p.phase ≡ Heads 0
   pub none : p.down_held.items ≡ []
   pub unreached : p.reached ≡ false

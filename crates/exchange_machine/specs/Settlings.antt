@@ -13,7 +13,7 @@ use Rattle.exchange_machine.specs.Wants.{is_none}
 use Rattle.exchange_machine.specs.Wholes.{Whole, Ends, IsBare, told}
 use Rattle.exchange_machine.specs.declared.ending.Rest.{Rest}
 use Rattle.exchange_machine.specs.declared.ending.Rest.TheVariants as Rests
-use Rattle.exchange_machine.specs.declared.passing.Passing.{Passing}
+use Rattle.exchange_machine.specs.declared.forwarding.Forwarding.{Forwarding}
 use Rattle.exchange_machine.specs.declared.settling.Settling.{Settling}
 use Rattle.exchange_machine.specs.declared.sides.Down.{Down}
 use Rattle.exchange_machine.specs.declared.sides.Down.TheVariants.{Heads, Body}
@@ -24,7 +24,7 @@ pub record IsSettling (s : Settling) (h : ExchangeHistory) : Type 0 where
   pub unsent : List ℕ
   pub extra : List ℕ
   pub ends : Ends h whole s.behind.items s.out.out unsent extra
-  pub stays : whole.says ≢ Close
+  pub left_open : whole.says ≢ Close
   pub clean : s.clean ≡ true → (unsent ≡ []) × (extra ≡ []) × (whole.adds.asks ≡ Persist) × (whole.kept ≡ true) × IsBare whole
   pub server : ToServer h
   pub client : ClientText h (told whole)
@@ -47,17 +47,17 @@ is_done_at (Heads count) coding = false
 is_done_at Body coding = is_done coding
 
 -- the server was asked to keep its connection open
-abbrev pub asks_to_stay : Persistence → Bool
-asks_to_stay Close = false
-asks_to_stay Persist = true
-asks_to_stay KeepAlive = false
+abbrev pub asks_to_persist : Persistence → Bool
+asks_to_persist Close = false
+asks_to_persist Persist = true
+asks_to_persist KeepAlive = false
 
 -- Nothing is left on the server's side, whatever the client is told of its own connection: both
 -- messages were read to their marked ends, the request has no body and was sent whole, no byte from
 -- the server is held, and the server was asked to keep its connection open, and does.
-abbrev pub is_clean : Passing → Bool
+abbrev pub is_clean : Forwarding → Bool
 is_clean p =
-    asks_to_stay p.adds.asks && p.kept && is_none p.up.out && is_none p.down_held.items && is_done p.up.coding && is_done_at p.phase p.down.coding
+    asks_to_persist p.adds.asks && p.kept && is_none p.up.out && is_none p.down_held.items && is_done p.up.coding && is_done_at p.phase p.down.coding
     && is_bare p.framing
 
 -- what is left knows whether the server's connection can be used again

@@ -22,7 +22,7 @@ use Rattle.exchange_machine.specs.declared.waiting.Asked.{Asked}
 use Rattle.exchange_machine.specs.declared.asking.Asking.{Asking}
 use Rattle.exchange_machine.specs.declared.waiting.Waiting.{Waiting}
 use Rattle.exchange_machine.specs.declared.dialing.Dialing.{Dialing}
-use Rattle.exchange_machine.specs.declared.passing.Passing.{Passing}
+use Rattle.exchange_machine.specs.declared.forwarding.Forwarding.{Forwarding}
 use Rattle.exchange_machine.specs.declared.leaving.Leaving.{Leaving}
 use Rattle.exchange_machine.specs.declared.telling.Telling.{Telling}
 use Rattle.exchange_machine.specs.declared.signs.Sign.TheVariants.{ServerEnded}
@@ -80,7 +80,7 @@ pub record HasLeave (count : ℕ) (leave went out : List ℕ) : Type 0 where
   pub out_is : out ≡ left ++ behind
 
 -- both sides are active
-pub record IsPassing (p : Passing) (h : ExchangeHistory) : Type 0 where
+pub record IsForwarding (p : Forwarding) (h : ExchangeHistory) : Type 0 where
   pub behind : List ℕ
   pub asked : IsAskedBy h.client_in p.view behind
   pub request : List ℕ

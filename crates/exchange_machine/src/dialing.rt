@@ -6,7 +6,7 @@ ghost use Rattle.http_texts.specs.Replies.{leave_text};
 ghost use Rattle.http_texts.specs.Texts.{request_text};
 ghost use Rattle.base_verdict.specs.declared.Ending.TheVariants as ending;
 
-use crate::passing::Passing;
+use crate::forwarding::Forwarding;
 use crate::repeating::{is_bare, is_idempotent};
 use crate::sides::Down;
 use crate::texts::{put_leave, put_request};
@@ -105,11 +105,11 @@ impl Dialing {
         mut up: Way,
         mut down: Way,
         terms: Terms,
-    ) -> Result<Passing, Dialing>
+    ) -> Result<Forwarding, Dialing>
         requires up { up.out ≡ [] }
         requires down { down.out ≡ [] }
-        ensures passes { IfOk result (λ passing. (h : ExchangeHistory) → stages.IsDialing self h → stages.IsPassing passing (connected_on h terms.adds)) }
-        ensures said { IfOk result (λ passing. (passing.adds ≡ terms.adds) × (passing.willing ≡ terms.willing) × (passing.fresh ≡ terms.fresh)) }
+        ensures passes { IfOk result (λ forwarding. (h : ExchangeHistory) → stages.IsDialing self h → stages.IsForwarding forwarding (connected_on h terms.adds)) }
+        ensures said { IfOk result (λ forwarding. (forwarding.adds ≡ terms.adds) × (forwarding.willing ≡ terms.willing) × (forwarding.fresh ≡ terms.fresh)) }
         ensures same { IfErr result (λ dialing. dialing ≡ self) }
     {
         let fits = put_request(
@@ -129,10 +129,10 @@ impl Dialing {
     }
 
     // Begins both sides, after the request's head and the `100`.
-    fn begin(self, alloc: Global, mut up: Way, down: Way, terms: Terms) -> Passing
+    fn begin(self, alloc: Global, mut up: Way, down: Way, terms: Terms) -> Forwarding
         requires up { up.out ≡ request_text terms.adds self.waiting.asked.view self.waiting.asked.framing }
         requires down { down.out ≡ leave_text self.waiting.asked.view }
-        ensures passes { (h : ExchangeHistory) → stages.IsDialing self h → stages.IsPassing result (connected_on h terms.adds) }
+        ensures passes { (h : ExchangeHistory) → stages.IsDialing self h → stages.IsForwarding result (connected_on h terms.adds) }
         ensures said { (result.adds ≡ terms.adds) × (result.willing ≡ terms.willing) × (result.fresh ≡ terms.fresh) }
     {
         up.begin(self.waiting.asked.framing, true);
@@ -148,7 +148,7 @@ impl Dialing {
             framing,
             held,
         } = asked;
-        Passing {
+        Forwarding {
             view,
             pass,
             up,

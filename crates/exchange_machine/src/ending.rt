@@ -11,8 +11,8 @@ ghost use Rattle.exchange_machine.specs.Stages as stages;
 ghost use Rattle.base_verdict.specs.declared.Ending.TheVariants as ending;
 
 use crate::dialing::Dialing;
+use crate::forwarding::Forwarding;
 use crate::leaving::Leaving;
-use crate::passing::Passing;
 use crate::repeating::{is_bare, is_idempotent};
 use crate::settling::Settling;
 use crate::sides::Down;
@@ -30,24 +30,24 @@ pub enum Rest {
     Leaving(Leaving),
 }
 
-/// A pass to be posted as done, and what is left.
+/// A pass to be posted as done, and what is left: the client may ask again, or the connection is closed.
 pub struct Settled {
     pub pass: Pass,
     pub rest: Rest,
 }
 
-/// A pass to be posted as done, and what is left.
+/// A pass to be posted as done, and a connection that is closed once the last bytes are sent.
 pub struct Ended {
     pub pass: Pass,
     pub rest: Leaving,
 }
 
-impl Passing {
+impl Forwarding {
     /// The client is sent this refusal in place of an answer of which it took no byte, after what
     /// it took of the `100`.
     pub fn refuse(self, code: Code) -> Ended
         requires { self.begun ≡ false }
-        ensures { (h : ExchangeHistory) → (is : stages.IsPassing self h) → Reason h.signs self.view is.behind h.server_in code
+        ensures { (h : ExchangeHistory) → (is : stages.IsForwarding self h) → Reason h.signs self.view is.behind h.server_in code
             → stages.IsLeaving result.rest (posted h result.pass ending.Done) }
     {
         let leave_left = self.leave_left;
@@ -69,7 +69,7 @@ impl Passing {
     pub fn refuse_unanswered(self) -> Ended
         requires none { self.begun ≡ false }
         requires ended { self.ended ≡ true }
-        ensures { (h : ExchangeHistory) → stages.IsPassing self h → stages.IsLeaving result.rest (posted h result.pass ending.Done) }
+        ensures { (h : ExchangeHistory) → stages.IsForwarding self h → stages.IsLeaving result.rest (posted h result.pass ending.Done) }
     {
         self.refuse(Code::BadGateway)
     }
@@ -79,7 +79,7 @@ impl Passing {
         requires none { self.begun ≡ false }
         requires body { self.phase ≡ Down.Body }
         requires bad { is_bad self.down.coding ≡ true }
-        ensures { (h : ExchangeHistory) → stages.IsPassing self h → stages.IsLeaving result.rest (posted h result.pass ending.Done) }
+        ensures { (h : ExchangeHistory) → stages.IsForwarding self h → stages.IsLeaving result.rest (posted h result.pass ending.Done) }
     {
         self.refuse(Code::BadGateway)
     }
@@ -88,7 +88,7 @@ impl Passing {
     pub fn refuse_request(self) -> Ended
         requires none { self.begun ≡ false }
         requires bad { is_bad self.up.coding ≡ true }
-        ensures { (h : ExchangeHistory) → stages.IsPassing self h → stages.IsLeaving result.rest (posted h result.pass ending.Done) }
+        ensures { (h : ExchangeHistory) → stages.IsForwarding self h → stages.IsLeaving result.rest (posted h result.pass ending.Done) }
     {
         self.refuse(Code::BadRequest)
     }
@@ -96,7 +96,7 @@ impl Passing {
     /// The client has left: nothing more is written, and the pass is posted as done, since the
     /// server isn't to blame.
     pub fn abandon(self) -> Pass
-        ensures ends { (h : ExchangeHistory) → stages.IsPassing self h → stages.IsOver (posted h result ending.Done) }
+        ensures ends { (h : ExchangeHistory) → stages.IsForwarding self h → stages.IsOver (posted h result ending.Done) }
         ensures pass { result ≡ self.pass }
     {
         let Ended { pass, rest: _ } = self.end();
@@ -119,9 +119,9 @@ impl Passing {
     /// The server's connection broke: the same request is sent on another one, under the same pass.
     pub fn again(self) -> Dialing
         requires { repeats.IsRepeatable self }
-        ensures { (h : ExchangeHistory) → stages.IsPassing self h → (h.server_in ≡ []) × stages.IsDialing result (retried h) }
+        ensures { (h : ExchangeHistory) → stages.IsForwarding self h → (h.server_in ≡ []) × stages.IsDialing result (retried h) }
     {
-        let Passing {
+        let Forwarding {
             view,
             pass,
             up: _,
@@ -169,7 +169,7 @@ impl Passing {
     /// sent on another one as they are, under the same pass.
     pub fn redial(&mut self)
         requires { repeats.IsUntouched self.old }
-        ensures { (h : ExchangeHistory) → stages.IsPassing self.old h → (h.server_in ≡ []) × stages.IsPassing self.new (retried h) }
+        ensures { (h : ExchangeHistory) → stages.IsForwarding self.old h → (h.server_in ≡ []) × stages.IsForwarding self.new (retried h) }
     {
         self.cut = false;
         self.ended = false;
@@ -200,7 +200,7 @@ impl Passing {
     pub fn is_clean(&self) -> bool
         ensures { result ≡ settling.is_clean self.now }
     {
-        asks_to_stay(self.adds.asks)
+        asks_to_persist(self.adds.asks)
             && self.kept
             && self.up.waiting().is_empty()
             && self.down_held.is_empty()
@@ -221,7 +221,7 @@ impl Passing {
 
     /// Ends the exchange: its pass is to be posted. Where both messages were whole the client may ask again.
     pub fn settle(self) -> Settled
-        ensures ends { (h : ExchangeHistory) → stages.IsPassing self h → settling.IsRest result.rest (posted h result.pass ending.Done) }
+        ensures ends { (h : ExchangeHistory) → stages.IsForwarding self h → settling.IsRest result.rest (posted h result.pass ending.Done) }
         ensures whole { settling.IsMarked (has_answered self) result.rest }
         ensures clean { settling.IsCleanAs (settling.is_clean self) result.rest }
     {
@@ -239,12 +239,12 @@ impl Passing {
 
     fn settle_whole(self) -> Settled
         requires { (self.phase ≡ Down.Body) × (is_done self.up.coding ≡ true) × (is_done self.down.coding ≡ true) × (self.says ≢ Persistence.Close) }
-        ensures ends { (h : ExchangeHistory) → stages.IsPassing self h → settling.IsRest result.rest (posted h result.pass ending.Done) }
+        ensures ends { (h : ExchangeHistory) → stages.IsForwarding self h → settling.IsRest result.rest (posted h result.pass ending.Done) }
         ensures whole { settling.IsMarked (has_answered self) result.rest }
         ensures clean { settling.IsCleanAs (settling.is_clean self) result.rest }
     {
         let clean = self.is_clean();
-        let Passing {
+        let Forwarding {
             view: _,
             pass,
             up: _,
@@ -279,7 +279,7 @@ impl Passing {
 
     /// Ends the exchange at any stage: its pass is to be posted as done, since nothing is tried again.
     pub fn end(self) -> Ended
-        ensures ends { (h : ExchangeHistory) → stages.IsPassing self h → stages.IsLeaving result.rest (posted h result.pass ending.Done) }
+        ensures ends { (h : ExchangeHistory) → stages.IsForwarding self h → stages.IsLeaving result.rest (posted h result.pass ending.Done) }
         ensures pass { result.pass ≡ self.pass }
         ensures rest { (result.rest.out ≡ self.down) × (result.rest.whole ≡ false) × (result.rest.clean ≡ false) }
     {
@@ -291,11 +291,11 @@ impl Passing {
     fn end_as(self, whole: bool, clean: bool) -> Ended
         requires whole { whole ≡ true → has_answered self ≡ true }
         requires clean { clean ≡ true → settling.is_clean self ≡ true }
-        ensures ends { (h : ExchangeHistory) → stages.IsPassing self h → stages.IsLeaving result.rest (posted h result.pass ending.Done) }
+        ensures ends { (h : ExchangeHistory) → stages.IsForwarding self h → stages.IsLeaving result.rest (posted h result.pass ending.Done) }
         ensures pass { result.pass ≡ self.pass }
         ensures rest { (result.rest.out ≡ self.down) × (result.rest.whole ≡ whole) × (result.rest.clean ≡ clean) }
     {
-        let Passing {
+        let Forwarding {
             view: _,
             pass,
             up: _,
@@ -330,8 +330,8 @@ impl Passing {
 }
 
 // Says whether a server was asked to keep its connection open.
-fn asks_to_stay(asks: Persistence) -> bool
-    ensures { result ≡ settling.asks_to_stay asks }
+fn asks_to_persist(asks: Persistence) -> bool
+    ensures { result ≡ settling.asks_to_persist asks }
 {
     match asks {
         Persistence::Persist => true,

@@ -8,8 +8,8 @@ ghost use Rattle.exchange_machine.specs.Stages as stages;
 ghost use Rattle.http_texts.specs.Framings.{answer_plan, is_interim};
 ghost use Rattle.req_view.specs.AnswerHeads.{SaysAnswer};
 
+use crate::forwarding::Forwarding;
 use crate::held::forget;
-use crate::passing::Passing;
 use crate::sides::Down;
 use crate::texts::put_text;
 use http_texts::{
@@ -30,7 +30,7 @@ pub enum Headed {
     Full,
     /// Memory is short.
     Short,
-    /// The bytes have no answer that is passed on.
+    /// The bytes have no answer that is handed on.
     Refused,
 }
 
@@ -43,7 +43,7 @@ pub enum Seen {
     Interim(AnswerHead, usize),
     /// The answer's own head, of this number of bytes, and the plan for its body.
     Final(AnswerHead, usize, Plan),
-    /// No head that is passed on, whatever follows, for this reason; or memory is short.
+    /// No head that is handed on, whatever follows, for this reason; or memory is short.
     Refused(Fault),
 }
 
@@ -62,12 +62,12 @@ pub fn see_head(alloc: Global, method: &[u8], held: &[u8], count: u64) -> Seen
     }
 }
 
-impl Passing {
+impl Forwarding {
     /// Looks for a head in the held bytes, where a line has ended since the last look, and hands it
     /// on. Nothing else changes.
     pub fn read_head(&mut self, alloc: Global) -> Headed
-        ensures passes { (h : ExchangeHistory) → stages.IsPassing self.old h → stages.IsPassing self.new h }
-        ensures refused { result ≡ Headed.Refused → (h : ExchangeHistory) → stages.IsPassing self.old h → LacksAnswer self.new.view.method h.server_in }
+        ensures passes { (h : ExchangeHistory) → stages.IsForwarding self.old h → stages.IsForwarding self.new h }
+        ensures refused { result ≡ Headed.Refused → (h : ExchangeHistory) → stages.IsForwarding self.old h → LacksAnswer self.new.view.method h.server_in }
     {
         let Down::Heads(count) = self.phase else {
             return Headed::Answer;
@@ -80,20 +80,26 @@ impl Passing {
                 self.looks = false;
                 Headed::More
             }
-            Seen::Interim(head, len) => self.pass_interim(alloc, &head, len, count),
-            Seen::Final(head, len, plan) => self.pass_final(alloc, &head, len, plan),
+            Seen::Interim(head, len) => self.forward_interim(alloc, &head, len, count),
+            Seen::Final(head, len, plan) => self.forward_final(alloc, &head, len, plan),
             Seen::Refused(why) => headed_for(why),
         }
     }
 
-    fn pass_interim(&mut self, alloc: Global, head: &AnswerHead, len: usize, count: u64) -> Headed
+    fn forward_interim(
+        &mut self,
+        alloc: Global,
+        head: &AnswerHead,
+        len: usize,
+        count: u64,
+    ) -> Headed
         requires phase { self.old.phase ≡ Down.Heads count }
         requires says { SaysAnswer self.old.down_held.items head.now len }
         requires planned { IsSome (answer_plan self.old.view.method head.now) }
         requires interim { is_interim head.now.status ≡ true }
         requires few { count < 8 }
         ensures answered { result ≢ Headed.Refused }
-        ensures passes { (h : ExchangeHistory) → stages.IsPassing self.old h → stages.IsPassing self.new h }
+        ensures passes { (h : ExchangeHistory) → stages.IsForwarding self.old h → stages.IsForwarding self.new h }
     {
         let framed = is_framed(self.view.version());
         let Ok(text) = interim_head(alloc, head, framed) else {
@@ -107,13 +113,13 @@ impl Passing {
         Headed::Interim
     }
 
-    fn pass_final(&mut self, alloc: Global, head: &AnswerHead, len: usize, plan: Plan) -> Headed
+    fn forward_final(&mut self, alloc: Global, head: &AnswerHead, len: usize, plan: Plan) -> Headed
         requires phase { (count : ℕ) × (self.old.phase ≡ Down.Heads count) }
         requires says { SaysAnswer self.old.down_held.items head.now len }
         requires planned { answer_plan self.old.view.method head.now ≡ Some plan }
         requires last { is_interim head.now.status ≡ false }
         ensures answered { result ≢ Headed.Refused }
-        ensures passes { (h : ExchangeHistory) → stages.IsPassing self.old h → stages.IsPassing self.new h }
+        ensures passes { (h : ExchangeHistory) → stages.IsForwarding self.old h → stages.IsForwarding self.new h }
     {
         let framed = is_framed(self.view.version());
         let says = answer_says(self.willing, &self.view, plan);

@@ -18,11 +18,11 @@ ghost use Rattle.http_bodies.specs.Runs.{IsLongest};
 ghost use Rattle.exchange_machine.specs.Headline.{Sound};
 ghost use Rattle.exchange_machine.specs.Histories.{ExchangeHistory};
 ghost use Rattle.exchange_machine.specs.Settlings.{IsSettling};
-ghost use Rattle.exchange_machine.specs.Stages.{IsUnread, IsAsking, IsWaiting, IsDialing, IsPassing, IsLeaving, IsTelling, IsOver};
+ghost use Rattle.exchange_machine.specs.Stages.{IsUnread, IsAsking, IsWaiting, IsDialing, IsForwarding, IsLeaving, IsTelling, IsOver};
 ghost use Rattle.exchange_machine.specs.declared.asking.Asking as asking;
 ghost use Rattle.exchange_machine.specs.declared.waiting.Waiting as waiting;
 ghost use Rattle.exchange_machine.specs.declared.dialing.Dialing as dialing;
-ghost use Rattle.exchange_machine.specs.declared.passing.Passing as passing;
+ghost use Rattle.exchange_machine.specs.declared.forwarding.Forwarding as forwarding;
 ghost use Rattle.exchange_machine.specs.declared.leaving.Leaving as leaving;
 ghost use Rattle.exchange_machine.specs.declared.settling.Settling as settling;
 ghost use Rattle.exchange_machine.specs.declared.telling.Telling as telling;
@@ -59,7 +59,7 @@ pub fn what_holds()
     ensures asking { (a : asking.Asking) (h : ExchangeHistory) → IsAsking a h → Sound h }
     ensures waiting { (w : waiting.Waiting) (h : ExchangeHistory) → IsWaiting w h → Sound h }
     ensures dialing { (d : dialing.Dialing) (h : ExchangeHistory) → IsDialing d h → Sound h }
-    ensures passing { (p : passing.Passing) (h : ExchangeHistory) → IsPassing p h → Sound h }
+    ensures forwarding { (p : forwarding.Forwarding) (h : ExchangeHistory) → IsForwarding p h → Sound h }
     ensures settling { (s : settling.Settling) (h : ExchangeHistory) → IsSettling s h → Sound h }
     ensures unread { (fault : faults.Fault) (h : ExchangeHistory) → IsUnread fault h → Sound h }
     ensures leaving { (l : leaving.Leaving) (h : ExchangeHistory) → IsLeaving l h → Sound h }

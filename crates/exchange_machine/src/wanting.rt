@@ -3,7 +3,7 @@
 ghost use Rattle.std.specs.Prelude.{◌≡◌};
 ghost use Rattle.exchange_machine.specs.Wants as wants;
 
-use crate::passing::Passing;
+use crate::forwarding::Forwarding;
 use crate::sides::Down;
 use http_bodies::OUTBOX_BYTES;
 use req_view::HEAD_BYTES;
@@ -11,7 +11,7 @@ use req_view::HEAD_BYTES;
 /// There is room for more of a body where no more bytes than this wait to be sent.
 const ROOMY: usize = 16_384;
 
-impl Passing {
+impl Forwarding {
     /// Says whether more of the request is taken now.
     pub fn takes_request(&self) -> bool
         ensures { result ≡ wants.takes_request self.now }

@@ -3,13 +3,13 @@ use Rattle.std.proofs.Common.{◌≡◌, ◌≤◌, List, [], ◌++◌, length, 
 use Rattle.grant_board.specs.Views.{Grant}
 use Rattle.exchange_events.specs.Passes.{held_by}
 use Rattle.exchange_events.specs.declared.exchange.Exchange.{Exchange}
-use Rattle.exchange_events.specs.declared.exchange.Exchange.TheVariants.{Asking, Waiting, Dialing, Passing, Settling, Leaving, Telling, Over}
+use Rattle.exchange_events.specs.declared.exchange.Exchange.TheVariants.{Asking, Waiting, Dialing, Forwarding, Settling, Leaving, Telling, Over}
 
 held_few : (x : Exchange) → length (held_by x ++ []) ≤ 1
 held_few (Asking a) = omega arith
 held_few (Waiting w) = omega arith
 held_few (Dialing d) = omega arith
-held_few (Passing p) = omega arith
+held_few (Forwarding p) = omega arith
 held_few (Settling s) = omega arith
 held_few (Leaving l) = omega arith
 held_few (Telling t) = omega arith
@@ -22,7 +22,7 @@ pub held_one : (x : Exchange) → length (held_by x) ≤ 1
 held_one (Asking a) = omega arith
 held_one (Waiting w) = omega arith
 held_one (Dialing d) = omega arith
-held_one (Passing p) = omega arith
+held_one (Forwarding p) = omega arith
 held_one (Settling s) = omega arith
 held_one (Leaving l) = omega arith
 held_one (Telling t) = omega arith

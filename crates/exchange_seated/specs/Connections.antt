@@ -1,6 +1,6 @@
 -- An exchange and its server's connection (RFC 9112, section 9.3): the exchanges that owned it
 -- before, and the bytes that went over it.
-use Rattle.std.specs.Prelude.{◌≡◌, ◌≢◌, ◌⊎◌, ℕ, true, List, [], ◌∷◌, ◌++◌, Option, Some}
+use Rattle.std.specs.Prelude.{◌≡◌, ◌≢◌, ◌⊎◌, ℕ, true, List, [], ◌∷◌, ◌++◌, Option, Some, None}
 use Rattle.std.specs.Io.KnownBytes.{Appends, Consumes}
 use Rattle.std.specs.List.{flat_map, AllByRecursion}
 use Rattle.grant_board.specs.Views.{Grant}
@@ -77,3 +77,7 @@ IsFor server passes = passes ≢ [] → server_of passes ≡ Some server
 -- no pass is held any more, or the same one
 abbrev pub StillHolds : List Grant → List Grant → Type 0
 StillHolds old new = (new ≡ []) ⊎ (new ≡ old)
+
+-- it has a connection already, or holds no pass for a server
+abbrev pub WantsNone : Exchange → Wire → Type 0
+WantsNone x line = (line.there ≡ true) ⊎ (server_of (held_by x) ≡ None)

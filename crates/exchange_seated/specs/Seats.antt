@@ -1,13 +1,17 @@
 -- The passes and the seat of an exchange.
-use Rattle.std.specs.Prelude.{ℕ, Bool, true, false, ◌&&◌, List, [], ◌∷◌, Option, Some, None}
+use Rattle.std.specs.Prelude.{◌≡◌, ℕ, Bool, true, false, if◌then◌else◌, ◌&&◌, List, [], ◌∷◌, Option, Some, None}
 use Rattle.atomic_table.specs.Seated.{TableId}
 use Rattle.exchange_machine.specs.Histories.{ExchangeHistory}
-use Rattle.exchange_machine.specs.Stages.{IsWaiting}
+use Rattle.exchange_machine.specs.Stages.{IsWaiting, IsDialing}
+use Rattle.exchange_machine.specs.declared.dialing.Dialing as dialings
 use Rattle.exchange_machine.specs.declared.waiting.Waiting as waitings
 use Rattle.grant_board.specs.RelayCalls.{Relay}
 use Rattle.grant_board.specs.Views.{Grant, Terms}
 use Rattle.exchange_events.specs.declared.exchange.Exchange.{Exchange}
-use Rattle.exchange_events.specs.declared.exchange.Exchange.TheVariants.{Asking, Waiting, Dialing, Passing, Settling, Leaving, Telling, Over}
+use Rattle.exchange_events.specs.declared.exchange.Exchange.TheVariants.{Asking, Waiting, Dialing, Forwarding, Settling, Leaving, Telling, Over}
+use Rattle.exchange_seated.specs.declared.seated.Stage.{Stage}
+use Rattle.exchange_seated.specs.declared.seated.Stage.TheVariants as stages
+use Rattle.http_bodies.specs.Stops.{is_done}
 use Rattle.base_verdict.specs.declared.Ending.{Ending}
 use Rattle.base_verdict.specs.declared.Ending.TheVariants.{Done, Failed}
 use Rattle.base_verdict.specs.declared.Verdict.{Verdict}
@@ -70,8 +74,34 @@ abbrev pub is_waiting : Exchange → Bool
 is_waiting (Asking a) = false
 is_waiting (Waiting w) = true
 is_waiting (Dialing d) = false
-is_waiting (Passing p) = false
+is_waiting (Forwarding p) = false
 is_waiting (Settling s) = false
 is_waiting (Leaving l) = false
 is_waiting (Telling t) = false
 is_waiting Over = false
+
+-- the stage of an exchange
+abbrev pub stage_of : Exchange → Stage
+stage_of (Asking a) = stages.Asking
+stage_of (Waiting w) = stages.Waiting
+stage_of (Dialing d) = stages.Dialing
+stage_of (Forwarding f) = if f.dialing then stages.Dialing else stages.Forwarding
+stage_of (Settling s) = stages.Telling
+stage_of (Leaving l) = stages.Telling
+stage_of (Telling t) = stages.Telling
+stage_of Over = stages.Over
+
+-- its request was read whole, or isn't read before a pass is there
+abbrev pub has_asked : Exchange → Bool
+has_asked (Asking a) = false
+has_asked (Waiting w) = true
+has_asked (Dialing d) = true
+has_asked (Forwarding f) = is_done f.up.coding
+has_asked (Settling s) = false
+has_asked (Leaving l) = false
+has_asked (Telling t) = false
+has_asked Over = false
+
+-- it has a pass and waits for a connection, after this history
+abbrev pub IsDialingAt : Exchange → ExchangeHistory → Type 0
+IsDialingAt x h = (dialing : dialings.Dialing) × (x ≡ Dialing dialing) × IsDialing dialing h

@@ -11,6 +11,6 @@ mod unused;
 
 pub use linked::{Carried, Linked};
 pub use notice::Notice;
-pub use queued::Queued;
+pub use queued::WaitingExchange;
 pub use seated::{Given, Posting, Seated, Served, Stage};
 pub use unused::Unused;

@@ -1,18 +1,23 @@
-ghost use Rattle.std.specs.Prelude.{◌≡◌, ◌≢◌, ◌<◌, ◌∷◌, ℕ, List, [], true, false, length, Some, IfOk, IfErr, IfSome, MatchOption, is_some};
+ghost use Rattle.std.specs.Prelude.{◌≡◌, ◌≢◌, ◌<◌, ◌∷◌, ℕ, List, [], true, false, length, Some, IfOk, IfErr, IfSome, IfNone, MatchOption, is_some};
 ghost use Rattle.std.specs.Bool.{OnTrue, OnFalse};
 ghost use Rattle.exchange_driver.specs.Drives.{IsDownAtRest, IsUpAtRest};
 ghost use Rattle.exchange_driver.specs.Wires.{Wire, is_still_at};
-ghost use Rattle.exchange_machine.specs.Histories.{ExchangeHistory};
+ghost use Rattle.exchange_machine.specs.Histories.{ExchangeHistory, granted};
+ghost use Rattle.exchange_machine.specs.Stages.{IsWaiting};
 ghost use Rattle.exchange_machine.specs.Wholes.{Whole};
 ghost use Rattle.exchange_events.specs.Chains as chains;
 ghost use Rattle.exchange_events.specs.Passes.{held_by};
 ghost use Rattle.exchange_events.specs.Steps as steps;
-ghost use Rattle.exchange_seated.specs.Connections.{IsOn, IsBehind, IsLeft, IsFor, IsUnsentYet};
+ghost use Rattle.exchange_events.specs.declared.exchange.Exchange.{Exchange};
+ghost use Rattle.exchange_events.specs.declared.exchange.Outcome as outcomes;
+ghost use Rattle.exchange_seated.specs.Connections.{IsOn, IsBehind, IsLeft, IsFor, IsUnsentYet, WantsNone};
 ghost use Rattle.relay_http.specs.States.{Serves};
-ghost use Rattle.exchange_seated.specs.Seats.{is_waiting, server_of};
+ghost use Rattle.exchange_seated.specs.Seats.{is_waiting, server_of, IsDialingAt};
+ghost use Rattle.exchange_seated.specs.Notices.{event_of};
+ghost use Rattle.exchange_seated.specs.declared.notice.Notice.{Notice};
 
 use crate::notice::Notice;
-use crate::queued::Queued;
+use crate::queued::WaitingExchange;
 use crate::seated::{Given, Posting, Seated, Served, Stage};
 use crate::unused::Unused;
 use base_verdict::Ending;
@@ -50,23 +55,26 @@ impl<N: BoardName + Ledger, S: Socket> Linked<N, S> {
     /// Makes the exchange of a new client.
     pub fn new(alloc: Global) -> Linked<N, S>
         ensures none { held_by result.seated.exchange ≡ [] }
+        ensures silent { chains.is_silent result.seated.exchange ≡ true }
         ensures unlinked { result.line.there ≡ false }
     {
         Linked::without_line(alloc, Seated::new(alloc))
     }
 
     /// Continues the exchange with its pass, which is for a slot of a server: it has no connection yet.
-    pub fn granted(alloc: Global, queued: Queued, taken: Taken<N>) -> Linked<N, S>
+    pub fn granted(alloc: Global, queued: WaitingExchange, taken: Taken<N>) -> Linked<N, S>
         requires { Serves taken.held.pass.verdict }
         ensures pass { held_by result.seated.exchange ≡ taken.held.pass ∷ [] }
+        ensures dials { (h : ExchangeHistory) → IsWaiting queued.waiting h → IsDialingAt result.seated.exchange (granted h taken.held.pass) }
         ensures unlinked { result.line.there ≡ false }
     {
         Linked::without_line(alloc, queued.grant(taken))
     }
 
     /// Continues the exchange without a pass: its client is told why.
-    pub fn unseated(alloc: Global, queued: Queued) -> Linked<N, S>
+    pub fn unseated(alloc: Global, queued: WaitingExchange) -> Linked<N, S>
         ensures none { held_by result.seated.exchange ≡ [] }
+        ensures waits { result.seated.exchange ≡ Exchange.Waiting queued.waiting }
         ensures unlinked { result.line.there ≡ false }
     {
         Linked::without_line(alloc, queued.unseated())
@@ -92,7 +100,9 @@ impl<N: BoardName + Ledger, S: Socket> Linked<N, S> {
     }
 
     /// Returns the socket of its connection, where it has one.
-    pub fn socket(&self) -> Option<&S> {
+    pub fn socket(&self) -> Option<&S>
+        ensures { is_some result ≡ self.now.line.there }
+    {
         self.line.socket()
     }
 
@@ -116,6 +126,7 @@ impl<N: BoardName + Ledger, S: Socket> Linked<N, S> {
         ensures its { OnTrue result (server_of (held_by self.old.seated.exchange) ≡ Some self.new.server) }
         ensures on { OnTrue result (IsOn self.new.line [] self.new.seated.exchange self.new.line) }
         ensures refused { OnFalse result (self.new ≡ self.old) }
+        ensures cause { OnFalse result (WantsNone self.old.seated.exchange self.old.line) }
     {
         let Some(server) = self.wanted() else {
             return false;
@@ -157,6 +168,7 @@ impl<N: BoardName + Ledger, S: Socket> Linked<N, S> {
     // Returns the server that it waits for a connection to.
     fn wanted(&self) -> Option<usize>
         ensures wanted { IfSome result (λ server. (server_of (held_by self.now.seated.exchange) ≡ Some server) × (self.now.line.there ≡ false)) }
+        ensures none { IfNone result (WantsNone self.now.seated.exchange self.now.line) }
     {
         if self.line.socket().is_some() {
             return None;
@@ -216,6 +228,11 @@ impl<N: BoardName + Ledger, S: Socket> Linked<N, S> {
 
     /// Reports an event to it. Where it asks for another connection, the old one is closed.
     pub fn notify(self, settings: Settings, notice: Notice) -> Carried<N, S>
+        ensures event { (h : ExchangeHistory) → steps.IsAtItsStage self.seated.exchange h → (used : ℕ) × (outcome : outcomes.Outcome)
+            × steps.IsAtItsStage result.linked.seated.exchange (steps.history_after self.seated.exchange (event_of notice) used outcome h) }
+        ensures leaves { notice ≡ Notice.ClientEnd → steps.is_left settings.rules.aborts self.seated.exchange ≡ true → result.linked.seated.exchange ≡ Exchange.Over }
+        ensures same { notice ≡ Notice.ClientEnd → steps.is_left settings.rules.aborts self.seated.exchange ≡ false → result.linked.seated.exchange ≡ self.seated.exchange }
+        ensures rest { result.rest ≡ Rest.Again }
         ensures server { result.linked.line.there ≡ true → (self.line.there ≡ true) × (result.linked.server ≡ self.server) }
         ensures on { result.linked.line.there ≡ true → (opened : Wire) (before : List Whole) → IsOn opened before self.seated.exchange self.line
             → IsOn opened before result.linked.seated.exchange result.linked.line }
@@ -232,7 +249,8 @@ impl<N: BoardName + Ledger, S: Socket> Linked<N, S> {
     }
 
     /// Returns the exchange that waits for a pass, if it does.
-    pub fn into_queued(self) -> Result<Queued, Linked<N, S>>
+    pub fn into_queued(self) -> Result<WaitingExchange, Linked<N, S>>
+        ensures waits { IfOk result (λ queued. self.seated.exchange ≡ Exchange.Waiting queued.waiting) }
         ensures same { IfErr result (λ linked. (linked ≡ self) × (is_waiting self.seated.exchange ≡ false)) }
     {
         if !self.seated.is_waiting() {
@@ -300,6 +318,7 @@ fn linked_anew<N: BoardName + Ledger, S: Socket>(
     requires empty { line.there ≡ false → line.waits ≡ [] }
     ensures seated { result.linked.seated ≡ served.seated }
     ensures rest { (result.rest ≡ served.rest) × (result.given ≡ served.given) }
+    ensures moved { (result.client ≡ served.client) × (result.server ≡ served.server) }
     ensures retries { served.given ≡ Given.Retries → result.linked.line.there ≡ false }
     ensures stays { served.given ≢ Given.Retries → (result.linked.line ≡ line) × (result.linked.server ≡ server) }
 {

@@ -4,8 +4,9 @@ ghost use Rattle.exchange_events.specs.Passes.{came_with};
 ghost use Rattle.exchange_events.specs.Steps.{IsOwn, IsOwnOf, heard};
 ghost use Rattle.exchange_events.specs.declared.exchange.Exchange.{Exchange};
 ghost use Rattle.exchange_events.specs.declared.exchange.Outcome.{Outcome};
+ghost use Rattle.exchange_seated.specs.Notices.{event_of};
 
-use exchange_events::{Clock, Event};
+use exchange_events::{Event, TimeoutKind};
 use exchange_machine::Terms;
 
 /// An event of an exchange without bytes and passes.
@@ -22,11 +23,12 @@ pub enum Notice {
     /// The client's connection broke.
     ClientFailed,
     /// A timeout expired.
-    TimeOver(Clock),
+    TimeOver(TimeoutKind),
 }
 
 impl Notice {
     pub(crate) fn event(self) -> Event<'static>
+        ensures of { result ≡ event_of self }
         ensures none { (used : ℕ) → came_with result used ≡ [] }
         ensures own { (outcome : Outcome) → IsOwnOf result outcome → IsOwn outcome }
         ensures sent { (x : Exchange) (used : ℕ) (h : ExchangeHistory) → (heard x result used h).to_server ≡ h.to_server }

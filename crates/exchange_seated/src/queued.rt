@@ -1,8 +1,10 @@
 ghost use Rattle.std.specs.Prelude.{◌≡◌, ◌∷◌, []};
+ghost use Rattle.exchange_machine.specs.Histories.{ExchangeHistory, granted};
+ghost use Rattle.exchange_machine.specs.Stages.{IsWaiting};
 ghost use Rattle.exchange_events.specs.Passes.{held_by};
 ghost use Rattle.relay_http.specs.States.{Serves};
 ghost use Rattle.exchange_seated.specs.Connections.{IsUnsentYet};
-ghost use Rattle.exchange_seated.specs.Seats.{HasWaited};
+ghost use Rattle.exchange_seated.specs.Seats.{HasWaited, IsDialingAt};
 
 use crate::seated::Seated;
 use board_seats::Taken;
@@ -14,17 +16,17 @@ use std::sync::ledger::Ledger;
 
 /// An exchange that waits for a pass: it holds none, so it may be dropped.
 #[derive(Drop)]
-pub struct Queued {
+pub struct WaitingExchange {
     waiting: Waiting,
     ghost waited: { HasWaited waiting },
 }
 
-impl Queued {
-    pub(crate) fn of(waiting: Waiting) -> Queued
+impl WaitingExchange {
+    pub(crate) fn of(waiting: Waiting) -> WaitingExchange
         requires { HasWaited waiting }
         ensures { result.waiting ≡ waiting }
     {
-        Queued { waiting }
+        WaitingExchange { waiting }
     }
 
     /// Returns its request.
@@ -36,9 +38,10 @@ impl Queued {
     pub fn grant<N: BoardName + Ledger>(self, taken: Taken<N>) -> Seated<N>
         requires { Serves taken.held.pass.verdict }
         ensures pass { held_by result.exchange ≡ taken.held.pass ∷ [] }
+        ensures dials { (h : ExchangeHistory) → IsWaiting self.waiting h → IsDialingAt result.exchange (granted h taken.held.pass) }
         ensures unsent { IsUnsentYet result.exchange }
     {
-        let Queued { waiting } = self;
+        let WaitingExchange { waiting } = self;
         let (seat, pass, out) = taken.into_parts();
         let seat = Some(seat);
         Seated::of(Exchange::Dialing(waiting.grant(pass)), seat, Some(out))
@@ -47,8 +50,9 @@ impl Queued {
     /// Continues the exchange without a pass: its client is told why.
     pub fn unseated<N: BoardName + Ledger>(self) -> Seated<N>
         ensures none { held_by result.exchange ≡ [] }
+        ensures waits { result.exchange ≡ Exchange.Waiting self.waiting }
     {
-        let Queued { waiting } = self;
+        let WaitingExchange { waiting } = self;
         Seated::of(Exchange::Waiting(waiting), None, None)
     }
 }

@@ -1,4 +1,4 @@
-ghost use Rattle.std.specs.Prelude.{◌≡◌, ◌<◌, ◌≤◌, ◌++◌, ◌∷◌, [], true, false, length, is_some, IfOk, IfErr, IfSome, IsTrue, MatchOption};
+ghost use Rattle.std.specs.Prelude.{◌≡◌, ◌↔◌, ℕ, None, ◌<◌, ◌≤◌, ◌++◌, ◌∷◌, [], true, false, length, is_some, IfOk, IfErr, IfSome, IsTrue, MatchOption};
 ghost use Rattle.exchange_driver.specs.Drives.{Drives, IsDownAtRest, IsUpAtRest};
 ghost use Rattle.grant_board.specs.RelayCalls.{post_after};
 ghost use Rattle.exchange_machine.specs.Histories.{ExchangeHistory};
@@ -6,17 +6,20 @@ ghost use Rattle.exchange_machine.specs.Wholes.{EndsClean};
 ghost use Rattle.exchange_events.specs.Chains as chains;
 ghost use Rattle.exchange_events.specs.Passes.{held_by, gone_with};
 ghost use Rattle.exchange_events.specs.Steps as steps;
+ghost use Rattle.exchange_events.specs.declared.exchange.Exchange.{Exchange};
 ghost use Rattle.exchange_events.specs.declared.exchange.Outcome as outcomes;
 ghost use Rattle.exchange_events.specs.Steps.{HasHistory};
 ghost use Rattle.exchange_seated.specs.Connections.{StillHolds};
-ghost use Rattle.exchange_seated.specs.Seats.{is_waiting, passes_at, board_at, terms_at, is_taken, all_serve, server_of, served_by, may_end};
+ghost use Rattle.exchange_seated.specs.Seats.{is_waiting, passes_at, board_at, terms_at, is_taken, all_serve, server_of, served_by, may_end, stage_of, has_asked};
+ghost use Rattle.exchange_seated.specs.Notices.{event_of};
+ghost use Rattle.exchange_seated.specs.declared.notice.Notice.{Notice};
 
 use crate::notice::Notice;
-use crate::queued::Queued;
+use crate::queued::WaitingExchange;
 use base_verdict::{Ending, Verdict};
-use board_seats::{Lent, Out, Taken};
+use board_seats::{Lent, LentThing, Taken};
 use exchange_driver::{Driven, Line, Moved, Rest, Settings, Socket, drive};
-use exchange_events::{Clock, Exchange, Outcome, Step};
+use exchange_events::{Exchange, Outcome, Step, TimeoutKind};
 use grant_board::{Board, BoardName, Pass, RelaySeat};
 use std::alloc::Global;
 use std::marker::PhantomData;
@@ -27,7 +30,7 @@ use std::sync::ledger::Ledger;
 pub struct Seated<N: BoardName + Ledger> {
     exchange: Exchange,
     seat: Option<RelaySeat>,
-    out: Option<Out<N>>,
+    out: Option<LentThing<N>>,
     name: PhantomData<N>,
     ghost named: { board_at N.board seat ≡ N.board },
     ghost terms: { terms_at N.terms seat ≡ N.terms },
@@ -44,7 +47,7 @@ pub enum Stage {
     Asking,
     Waiting,
     Dialing,
-    Passing,
+    Forwarding,
     /// Its pass was posted, and its client is still to be sent bytes.
     Telling,
     Over,
@@ -103,11 +106,16 @@ impl<N: BoardName + Ledger> Seated<N> {
     /// Makes the exchange of a new client.
     pub fn new(alloc: Global) -> Seated<N>
         ensures none { held_by result.exchange ≡ [] }
+        ensures silent { chains.is_silent result.exchange ≡ true }
     {
         Seated::of(Exchange::new(alloc), None, None)
     }
 
-    pub(crate) fn of(exchange: Exchange, seat: Option<RelaySeat>, out: Option<Out<N>>) -> Seated<N>
+    pub(crate) fn of(
+        exchange: Exchange,
+        seat: Option<RelaySeat>,
+        out: Option<LentThing<N>>,
+    ) -> Seated<N>
         requires named { board_at N.board seat ≡ N.board }
         requires terms { terms_at N.terms seat ≡ N.terms }
         requires holds { passes_at seat ≡ held_by exchange }
@@ -126,16 +134,18 @@ impl<N: BoardName + Ledger> Seated<N> {
     }
 
     /// Returns its stage.
-    pub fn stage(&self) -> Stage {
+    pub fn stage(&self) -> Stage
+        ensures { result ≡ stage_of self.now.exchange }
+    {
         match &self.exchange {
             Exchange::Asking(_) => Stage::Asking,
             Exchange::Waiting(_) => Stage::Waiting,
             Exchange::Dialing(_) => Stage::Dialing,
-            Exchange::Passing(passing) => {
-                if passing.is_dialing() {
+            Exchange::Forwarding(forwarding) => {
+                if forwarding.is_dialing() {
                     Stage::Dialing
                 } else {
-                    Stage::Passing
+                    Stage::Forwarding
                 }
             }
             Exchange::Settling(_) | Exchange::Leaving(_) | Exchange::Telling(_) => Stage::Telling,
@@ -149,7 +159,7 @@ impl<N: BoardName + Ledger> Seated<N> {
     {
         match &self.exchange {
             Exchange::Dialing(dialing) => served_by(dialing.pass().verdict()),
-            Exchange::Passing(passing) => served_by(passing.pass().verdict()),
+            Exchange::Forwarding(forwarding) => served_by(forwarding.pass().verdict()),
             Exchange::Asking(_)
             | Exchange::Waiting(_)
             | Exchange::Settling(_)
@@ -160,10 +170,12 @@ impl<N: BoardName + Ledger> Seated<N> {
     }
 
     /// Says whether its request was read whole, or isn't read before a pass is there.
-    pub fn has_asked(&self) -> bool {
+    pub fn has_asked(&self) -> bool
+        ensures { result ≡ has_asked self.now.exchange }
+    {
         match &self.exchange {
             Exchange::Waiting(_) | Exchange::Dialing(_) => true,
-            Exchange::Passing(passing) => passing.is_asked(),
+            Exchange::Forwarding(forwarding) => forwarding.is_asked(),
             Exchange::Asking(_)
             | Exchange::Settling(_)
             | Exchange::Leaving(_)
@@ -173,7 +185,7 @@ impl<N: BoardName + Ledger> Seated<N> {
     }
 
     /// Returns the timeout that runs.
-    pub fn clock(&self) -> Option<Clock>
+    pub fn clock(&self) -> Option<TimeoutKind>
         ensures { result ≡ steps.clock_of self.now.exchange }
     {
         self.exchange.wants().clock
@@ -187,7 +199,9 @@ impl<N: BoardName + Ledger> Seated<N> {
     }
 
     /// Says whether its client was sent all its bytes.
-    pub fn has_told(&self) -> bool {
+    pub fn has_told(&self) -> bool
+        ensures { IsTrue result ↔ (steps.to_client self.now.exchange ≡ []) }
+    {
         self.exchange.to_client().is_empty()
     }
 
@@ -256,7 +270,8 @@ impl<N: BoardName + Ledger> Seated<N> {
     }
 
     /// Returns the exchange that waits for a pass, if it does.
-    pub fn into_queued(self) -> Result<Queued, Seated<N>>
+    pub fn into_queued(self) -> Result<WaitingExchange, Seated<N>>
+        ensures waits { IfOk result (λ queued. self.exchange ≡ Exchange.Waiting queued.waiting) }
         ensures same { IfErr result (λ seated. (seated ≡ self) × (is_waiting self.exchange ≡ false)) }
     {
         if !self.is_waiting() {
@@ -270,7 +285,7 @@ impl<N: BoardName + Ledger> Seated<N> {
         } = self;
         match exchange {
             Exchange::Waiting(waiting) => match out {
-                None => Ok(Queued::of(waiting)),
+                None => Ok(WaitingExchange::of(waiting)),
                 Some(_) => unreachable!(),
             },
             _exchange => unreachable!(),
@@ -285,7 +300,7 @@ impl<N: BoardName + Ledger> Seated<N> {
             Exchange::Waiting(_) => true,
             Exchange::Asking(_)
             | Exchange::Dialing(_)
-            | Exchange::Passing(_)
+            | Exchange::Forwarding(_)
             | Exchange::Settling(_)
             | Exchange::Leaving(_)
             | Exchange::Telling(_)
@@ -340,6 +355,11 @@ impl<N: BoardName + Ledger> Seated<N> {
             × (now.to_server ≡ h.to_server) × (now.server_in ≡ h.server_in) × steps.IsAtItsStage result.seated.exchange (steps.ended outcome now)
             × (outcome ≡ outcomes.Outcome.Retries → result.given ≡ Given.Retries)
             × (result.given ≡ Given.Retries → outcome ≡ outcomes.Outcome.Retries) }
+        ensures event { (h : ExchangeHistory) → steps.IsAtItsStage self.exchange h → (used : ℕ) × (outcome : outcomes.Outcome)
+            × steps.IsAtItsStage result.seated.exchange (steps.history_after self.exchange (event_of notice) used outcome h) }
+        ensures leaves { notice ≡ Notice.ClientEnd → steps.is_left settings.rules.aborts self.exchange ≡ true → result.seated.exchange ≡ Exchange.Over }
+        ensures stays { notice ≡ Notice.ClientEnd → steps.is_left settings.rules.aborts self.exchange ≡ false → result.seated.exchange ≡ self.exchange }
+        ensures rest { (result.rest ≡ Rest.Again) × (result.client ≡ None) × (result.server ≡ None) }
         ensures holds { StillHolds (held_by self.exchange) (held_by result.seated.exchange) }
     {
         let Seated {
@@ -376,7 +396,7 @@ impl<N: BoardName + Ledger> Seated<N> {
         } = self;
         let pass = match exchange {
             Exchange::Dialing(dialing) => dialing.abandon(),
-            Exchange::Passing(passing) => passing.abandon(),
+            Exchange::Forwarding(forwarding) => forwarding.abandon(),
             Exchange::Asking(_)
             | Exchange::Waiting(_)
             | Exchange::Settling(_)
@@ -405,7 +425,7 @@ fn served_by(verdict: Verdict) -> Option<usize>
 fn part<N: BoardName + Ledger>(
     exchange: Exchange,
     seat: Option<RelaySeat>,
-    out: Option<Out<N>>,
+    out: Option<LentThing<N>>,
     outcome: Outcome,
 ) -> Parted<N>
     requires named { board_at N.board seat ≡ N.board }
@@ -453,7 +473,7 @@ fn posts<N: BoardName + Ledger>(exchange: Exchange, posting: Posting<N>) -> Part
 
 fn with_seat<N: BoardName + Ledger>(
     seat: Option<RelaySeat>,
-    out: Option<Out<N>>,
+    out: Option<LentThing<N>>,
     pass: Pass,
     ending: Ending,
 ) -> Posting<N>

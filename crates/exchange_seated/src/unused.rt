@@ -1,7 +1,7 @@
 ghost use Rattle.std.specs.Prelude.{◌≡◌, ◌<◌, [], true, length, IfSome};
 ghost use Rattle.std.specs.Io.KnownBytes.{Consumes};
 
-use exchange_driver::{Heard, Socket};
+use exchange_driver::{ReadResult, Socket};
 
 /// A server's connection between two exchanges. Only an exchange that ended clean leaves one: both
 /// messages are at their ends, and both sides agreed to keep the connection open (RFC 9112, section
@@ -46,8 +46,8 @@ impl<S: Socket> Unused<S> {
         let Unused { server: _, socket } = self;
         let mut socket = socket;
         match socket.read_now(buffer) {
-            Heard::Nothing => Some(socket),
-            Heard::Bytes(_) | Heard::Ended { well: _ } => None,
+            ReadResult::Nothing => Some(socket),
+            ReadResult::Bytes(_) | ReadResult::Ended { well: _ } => None,
         }
     }
 }

@@ -21,7 +21,7 @@ use Rattle.grant_board.specs.BoardWords.{encode_of, IsWord, IsAmong, IsWordAmong
 use Rattle.base_lists.specs.Weights.{total}
 use Rattle.grant_board.specs.Views.{Grant, grant, Terms, KeeperView, KeeperPart, RelayView, Sighting}
 use Rattle.grant_board.specs.Views.{return_of, at_place, serves_at, count_at, count_of, grants_without}
-use Rattle.grant_board.specs.Rule.{Slot, BoardState, standing_weight, posted_weight, of_keepers, of_relays, Orderly}
+use Rattle.grant_board.specs.Rule.{NoTableSlots, BoardState, standing_weight, posted_weight, of_keepers, of_relays, Orderly}
 use Rattle.grant_board.specs.Ruled.{view, at_rest}
 use Rattle.grant_board.specs.KeeperCalls.{keeper_looked, offer_after, collect_after, MayLimit, limit_after}
 use Rattle.grant_board.specs.RelayCalls.{relay_looked, take_after, post_after}
@@ -36,7 +36,7 @@ use Rattle.grant_board.proofs.Finding.{one, one-same, has_one, one_sight, one_si
 use Rattle.grant_board.proofs.Finding.{bound_at, taken_there, posted_there, out_at, passes_at, passes_out, passes_once, passes_room, passes_bounded}
 
 abbrev Goes : Terms → BoardState → ℕ → ℕ → Seated → (ℕ → Seated → Type 0) → ℕ → Type 0
-Goes t s i id m then n = (w : View) × (a : Act Slot) × Valid s.homes m.1 a × Orderly t (stepped s i n id m.1 w a)
+Goes t s i id m then n = (w : View) × (a : Act NoTableSlots) × Valid s.homes m.1 a × Orderly t (stepped s i n id m.1 w a)
     × then (get_or s.words i 0) (w, carried_after m.1 a)
 
 -- the grant of a word, and its sighting

@@ -13,13 +13,13 @@ use Rattle.grant_board.specs.declared.view.View.{View}
 use Rattle.grant_board.specs.BoardWords.{encode_of, IsWord, IsWordAmong}
 use Rattle.base_lists.specs.Weights.{total, along}
 use Rattle.grant_board.specs.Views.{Grant, Terms, KeeperPart, RelayView, Sighting, count_of}
-use Rattle.grant_board.specs.Rule.{Slot, BoardState, standing_weight, offered, taken, posted_weight, as_return, of_keepers}
+use Rattle.grant_board.specs.Rule.{NoTableSlots, BoardState, standing_weight, offered, taken, posted_weight, as_return, of_keepers}
 use Rattle.grant_board.specs.Rule.{of_relays, is_first, is_other, split_off, joined_in, KeeperAgrees, Agrees, Orderly}
 use Rattle.base_lists.proofs.Totals.{total-set}
 use Rattle.base_lists.proofs.Positions.{along-set}
 use Rattle.base_lists.proofs.Each.{all_set, item_in}
 
-abbrev pub board : List ℕ → List (Option Slot) → List View → BoardState
+abbrev pub board : List ℕ → List (Option NoTableSlots) → List View → BoardState
 board words homes views = record { words = words; homes = homes; views = views }
 
 -- a weighing of words, with their places
@@ -57,7 +57,7 @@ pub record IsRow (t : Terms) (numbers : List ℕ) (cells : List Word) (bounds : 
   pub valid : AllByRecursion IsWord cells
   pub among : AllByRecursion (IsWordAmong (length t.limits)) cells
 
-shifted : (t : Terms) (s : BoardState) (o : Orderly t s) (j : ℕ) (v w : View) (homes : List (Option Slot)) (cells : List Word) (bounds words : List ℕ)
+shifted : (t : Terms) (s : BoardState) (o : Orderly t s) (j : ℕ) (v w : View) (homes : List (Option NoTableSlots)) (cells : List Word) (bounds words : List ℕ)
     (gone come : Weighing → ℕ)
     → get_elem? s.views j ≡ some v → IsRow t words cells bounds
     → ((f : Weighing) → along f 0 cells + gone f ≡ along f 0 o.cells + come f)
@@ -90,7 +90,7 @@ shifted t s o j v w homes cells bounds words gone come me row turns others owes 
     }
 
 -- the word of the place p goes from c to d
-pub moved : (t : Terms) (s : BoardState) (o : Orderly t s) (j p new : ℕ) (v w : View) (homes : List (Option Slot)) (c d : Word)
+pub moved : (t : Terms) (s : BoardState) (o : Orderly t s) (j p new : ℕ) (v w : View) (homes : List (Option NoTableSlots)) (c d : Word)
     → get_elem? s.views j ≡ some v → get_elem? o.cells p ≡ some c → new ≡ encode_of d → IsWord d → IsWordAmong (length t.limits) d
     → Owes t s o o.bounds v w (λ f. f p c) (λ f. f p d) → Orderly t (board (set s.words p new) homes (set s.views j w))
 moved t s o j p new v w homes c d me there is valid among owes =
@@ -110,7 +110,7 @@ moved t s o j p new v w homes c d me there is valid among owes =
     (λ f. along-set f o.cells 0 p p c d (omega arith) there) (λ i u other. o.agree i u) owes
 
 -- a word is loaded, and no word changes
-pub unmoved : (t : Terms) (s : BoardState) (o : Orderly t s) (j i : ℕ) (v w : View) (homes : List (Option Slot))
+pub unmoved : (t : Terms) (s : BoardState) (o : Orderly t s) (j i : ℕ) (v w : View) (homes : List (Option NoTableSlots))
     → get_elem? s.views j ≡ some v → Owes t s o o.bounds v w (λ f. 0) (λ f. 0) → Orderly t (board (set s.words i (get_or s.words i 0)) homes (set s.views j w))
 unmoved t s o j i v w homes me owes =
     shifted t s o j v w homes o.cells o.bounds (set s.words i (get_or s.words i 0)) (λ f. 0) (λ f. 0) me
@@ -118,7 +118,7 @@ unmoved t s o j i v w homes me owes =
     (λ j u other. o.agree j u) owes
 
 -- a server's word is set, which the keeper alone has to agree with
-pub rebounded : (t : Terms) (s : BoardState) (o : Orderly t s) (j server new : ℕ) (v w : View) (homes : List (Option Slot))
+pub rebounded : (t : Terms) (s : BoardState) (o : Orderly t s) (j server new : ℕ) (v w : View) (homes : List (Option NoTableSlots))
     → get_elem? s.views j ≡ some v → ((i : ℕ) (u : View) → i ≢ j → get_elem? s.views i ≡ some u → length u.keepers ≡ 0)
     → Owes t s o (set o.bounds server new) v w (λ f. 0) (λ f. 0) → Orderly t (board (set s.words (t.places + server) new) homes (set s.views j w))
 rebounded t s o j server new v w homes me alone owes =

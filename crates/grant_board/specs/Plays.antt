@@ -11,16 +11,16 @@ use Rattle.grant_board.specs.BoardWords.{encode_of, IsWord, IsAmong, IsUnposted}
 use Rattle.base_lists.specs.Weights.{total}
 use Rattle.grant_board.specs.Views.{Grant, grant, Terms, RelayView, KeeperPart, count_at, count_of, grants_without}
 use Rattle.grant_board.specs.Names.{no_terms}
-use Rattle.grant_board.specs.Rule.{Slot}
+use Rattle.grant_board.specs.Rule.{NoTableSlots}
 use Rattle.grant_board.specs.Ruled.{view, at_rest, MeetsRule, MeetsRuleWith}
 use Rattle.grant_board.specs.KeeperCalls.{new_keeper, keeper_looked, offer_after, collect_after, limit_after}
 use Rattle.grant_board.specs.RelayCalls.{new_relay, relay_looked, take_after, post_after, split_after, join_after}
 
 abbrev pub Seated : Type 0
-Seated = Me Slot View
+Seated = Me NoTableSlots View
 
 abbrev pub Telling : Type 1
-Telling = Step Slot → Seated → ℕ → Seated → Type 0
+Telling = Step NoTableSlots → Seated → ℕ → Seated → Type 0
 
 -- the view of a seat that was joined into another one
 abbrev pub blank : View
@@ -101,7 +101,7 @@ vouches st m r n =
 abbrev pub glances : Telling
 glances st m r n = n ≡ relay_seat (relay_looked (relay_of m.0.relays) st.word r)
 
--- a relay takes an offer by one exchange, or only looks
+-- a relay takes an offer by one compare-exchange, or only looks
 abbrev pub takes : Telling
 takes st m r n =
     let q = relay_of m.0.relays in

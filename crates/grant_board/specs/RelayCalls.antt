@@ -42,7 +42,7 @@ pub record FindsNoOffer (r r' : RelayView) (place ticket : ℕ) : Type 0 where
   pub after : r' ≡ relay_looked r place word
   pub other : OffersNot ticket word
 
--- the seat looked and found this ticket offered with some verdict, but its exchange found another word
+-- the seat looked and found this ticket offered with some verdict, but its compare-exchange found another word
 pub record IsTooLate (r r' : RelayView) (place ticket : ℕ) : Type 0 where
   pub verdict : Verdict
   pub word : ℕ

@@ -19,11 +19,11 @@ abbrev pub terms_of : Plan → Terms
 terms_of plan = record { places = plan.places; limits = take plan.servers plan.limits }
 
 -- the table has no slots
-abbrev pub Slot : Type 0
-Slot = Unit {0}
+abbrev pub NoTableSlots : Type 0
+NoTableSlots = Unit {0}
 
 abbrev pub BoardState : Type 0
-BoardState = State Slot View
+BoardState = State NoTableSlots View
 
 -- the weight of the grant in a place's word
 abbrev pub standing_weight : (Grant → ℕ) → ℕ → Word → ℕ

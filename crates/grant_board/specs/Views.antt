@@ -6,7 +6,7 @@ use Rattle.base_verdict.specs.declared.Ending.{Ending}
 use Rattle.grant_board.specs.declared.returned.Return.{Return}
 use Rattle.base_lists.specs.Weights.{total}
 
--- a verdict for a ticket, at a place
+-- what a pass grants: a verdict for a ticket, at a place
 pub record Grant : Type 0 where
   pub place : ℕ
   pub ticket : ℕ
@@ -23,7 +23,7 @@ pub record Terms : Type 0 where
 abbrev pub terms : ℕ → List ℕ → Terms
 terms places limits = record { places = places; limits = limits }
 
--- the number that a load or a failed exchange found in a word: a place's, or after these a server's
+-- the number that a load or a failed compare-exchange found in a word: a place's, or after these a server's
 pub record Look : Type 0 where
   pub place : ℕ
   pub word : ℕ

@@ -49,8 +49,8 @@ impl RelaySeat {
         self.first
     }
 
-    /// Takes the pass of the ticket, where it is offered at the place. One load, and one exchange
-    /// where the load found the offer; the exchange fails where another thread's step came between.
+    /// Takes the pass of the ticket, where it is offered at the place. One load, and one
+    /// compare-exchange where the load found the offer; that fails where another thread's step came between.
     /// Allocates nothing.
     pub fn try_take(&mut self, board: &Board, place: usize, ticket: u64) -> Taking
         requires same_board { self.old.board ≡ board.now }

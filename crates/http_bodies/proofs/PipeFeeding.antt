@@ -52,32 +52,32 @@ feed_moves p0 p input n s w same hands rest turns =
     (take n input, hands.given, hands.feeds, moves_feed p0 p s w (take n input) hands.given held hands.waits turns)
 
 -- what a coding used of a body, from its first byte on, and the text that it gave for it
-pub record Passing (framing : Framing) (framed : Bool) (c : Coding) (a b : Ends) : Type 0 where
+pub record Forwarding (framing : Framing) (framed : Bool) (c : Coding) (a b : Ends) : Type 0 where
   pub used : List ℕ
   pub text : List ℕ
   pub feeds : Feeds (start_of framing framed) c used text
   pub moves : Moves a b used text
 
-pub passing_start : (framing : Framing) (framed : Bool) (c : Coding) (e : Ends) → c ≡ start_of framing framed → Passing framing framed c e e
-passing_start framing framed c e is = record {
+pub forwarding_start : (framing : Framing) (framed : Bool) (c : Coding) (e : Ends) → c ≡ start_of framing framed → Forwarding framing framed c e e
+forwarding_start framing framed c e is = record {
   used = [];
   text = [];
   feeds = subst (λ (d : Coding). Feeds (start_of framing framed) d [] []) (sym is) (feeds_nil (start_of framing framed));
   moves = moves_none e;
 }
 
-pub passing_feed : {framing : Framing} {framed : Bool} {c d : Coding} {a b e : Ends} → Passing framing framed c a b
-    → (used : List ℕ) × (text : List ℕ) × Feeds c d used text × Moves b e used text → Passing framing framed d a e
-passing_feed p fed = record {
+pub forwarding_feed : {framing : Framing} {framed : Bool} {c d : Coding} {a b e : Ends} → Forwarding framing framed c a b
+    → (used : List ℕ) × (text : List ℕ) × Feeds c d used text × Moves b e used text → Forwarding framing framed d a e
+forwarding_feed p fed = record {
   used = p.used ++ fed.0;
   text = p.text ++ fed.1;
   feeds = feeds_trans p.feeds fed.2;
   moves = moves_trans p.moves fed.3;
 }
 
-pub passing_on : {framing : Framing} {framed : Bool} {c : Coding} {a b e : Ends} → Passing framing framed c a b → Moves b e [] []
-    → Passing framing framed c a e
-passing_on p moves = record {
+pub forwarding_on : {framing : Framing} {framed : Bool} {c : Coding} {a b e : Ends} → Forwarding framing framed c a b → Moves b e [] []
+    → Forwarding framing framed c a e
+forwarding_on p moves = record {
   used = p.used;
   text = p.text;
   feeds = p.feeds;
@@ -96,7 +96,7 @@ never_done : (c : Coding) (used text : List ℕ) → Feeds ToEnd c used text →
 never_done c used text f =
     ap (λ (q : Reading). is_done q.coding) (sym (read_nothing c)) ∙ sym (ap (λ (q : Reading). is_done q.coding) (f.goes_on []))
 
-module _ {framing : Framing} {framed : Bool} {c : Coding} {a b : Ends} (p : Passing framing framed c a b) where
+module _ {framing : Framing} {framed : Bool} {c : Coding} {a b : Ends} (p : Forwarding framing framed c a b) where
   pub never_whole : framing ≡ Framed.ToEnd → is_done c ≡ true → ⊥
   never_whole e is =
       let none = subst (λ (f : Framing). Feeds (start_of f framed) c p.used p.text → is_done c ≡ false) (sym e) (never_done c p.used p.text) p.feeds in

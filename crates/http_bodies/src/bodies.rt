@@ -12,7 +12,7 @@ use base_streams::{Sink, Source};
 impl Pipe {
     /// Hands on a body. A chunked body is written in chunks, or for an HTTP/1.0 client as its data
     /// alone. The last bytes may still wait in the pipe.
-    pub fn pass_body<S: Source, K: Sink>(
+    pub fn forward_body<S: Source, K: Sink>(
         &mut self,
         source: &mut S,
         sink: &mut K,
@@ -27,7 +27,7 @@ impl Pipe {
             × Breaks (ends self.old (S.stream source.old) (K.stream sink.old)) (ends self.new (S.stream source.new) (K.stream sink.new)) used text (LacksBody framing) fault) }
     {
         let mut coding = Coding::new(framing, framed);
-        'passing: loop {
+        'forwarding: loop {
             let whole = self.feed(&mut coding)?;
             if whole {
                 return Ok(());

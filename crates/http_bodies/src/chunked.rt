@@ -106,8 +106,8 @@ pub(crate) fn after_all(framed: bool, part: Part, input: &[u8]) -> Part
     ensures { (read_parts framed part input.now).coding ≡ Coding.Chunked framed result }
 {
     let mut at = part;
-    'reading: for place in 0..input.len() {
-        at = next(at, input[place]);
+    'reading: for index in 0..input.len() {
+        at = next(at, input[index]);
     }
     at
 }

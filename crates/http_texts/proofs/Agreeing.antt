@@ -17,7 +17,7 @@ use Rattle.http_texts.specs.Texts.{request_text, answer_text, interim_text}
 use Rattle.http_texts.specs.declared.additions.Additions.{Additions}
 use Rattle.http_texts.specs.declared.persistence.Persistence.{Persistence}
 use Rattle.http_texts.specs.declared.plans.Plan.{Plan}
-use Rattle.http_texts.proofs.Passing.{body_part}
+use Rattle.http_texts.proofs.Forwarding.{body_part}
 use Rattle.req_view.specs.Answer.{answer_of}
 use Rattle.req_view.specs.Request.{Request}
 
@@ -142,8 +142,8 @@ module _ (says : Persistence) where
   pub answered_part : {method : List ℕ} {framed : Bool} {used text : List ℕ} → IsAnswered says method framed used text
       → PartOfAnswered says method framed used text
   answered_part {method} {framed} {used} {text} w =
-      let part = answer w.interims w.head w.plan w.body w.passed w.are w.final (body_part w.plan.body framed w.body w.passed w.passes) in
+      let part = answer w.interims w.head w.plan w.body w.sent_on w.are w.final (body_part w.plan.body framed w.body w.sent_on w.passes) in
       subst (λ (l : List ℕ). PartOfAnswered says method framed used l) (sym w.text_is)
       (subst (λ (l : List ℕ). PartOfAnswered says method framed l (interims_text framed w.interims ++ (answer_text says framed (answer_of w.head) w.plan
-      ++ w.passed)))
+      ++ w.sent_on)))
       (sym w.used_is) part)

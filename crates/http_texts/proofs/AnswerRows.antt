@@ -138,7 +138,7 @@ answered = record {
   plan = record { body = Length 2; stated = Length 2 };
   final = ok_is_final;
   body = codes "ab";
-  passed = codes "ab";
+  sent_on = codes "ab";
   passes = (refl, refl);
   used_is = sym answered_used;
   text_is = refl;
@@ -156,7 +156,7 @@ answered_to_old = record {
   plan = record { body = Length 2; stated = Length 2 };
   final = ok_is_final;
   body = codes "ab";
-  passed = codes "ab";
+  sent_on = codes "ab";
   passes = (refl, refl);
   used_is = sym answered_used;
   text_is = refl;
@@ -184,7 +184,7 @@ first_is_ok (k ∷ ks) h plan body text each final passes e =
     ok_not_interim (subst (λ (j : ResponseHead). IsInterim (codes "GET") j) (sym same.0) each.0)
 
 not_yet_answered : (text : List ℕ) → ¬ (IsAnswered Close (codes "GET") true (print_response ok ++ codes "a") text)
-not_yet_answered text w = first_is_ok w.interims w.head w.plan w.body w.passed w.are.each w.final w.passes w.used_is
+not_yet_answered text w = first_is_ok w.interims w.head w.plan w.body w.sent_on w.are.each w.final w.passes w.used_is
 
 -- but it is a part of one
 part_answered : PartOfAnswered Close (codes "GET") true (codes "HTTP/1.1 200 OK\r\nContent-Length: 2\r\n\r\na")

@@ -14,8 +14,8 @@ use Rattle.proxy_words.specs.Parts.{parts, trimmed, is_comma}
 use Rattle.http_bodies.specs.declared.framing.Framing.{Framing}
 use Rattle.http_bodies.specs.declared.framing.Framing.TheVariants as Framed
 use Rattle.http_texts.specs.Framings.{is_number, common, is_chunked, by_fields}
-use Rattle.http_texts.specs.Summaries.{coding_of, count_or_fault, stated_of, framing_of}
-use Rattle.http_texts.specs.declared.framings.Coding.TheVariants as Coded
+use Rattle.http_texts.specs.Summaries.{stated_coding, count_or_fault, stated_of, framing_of}
+use Rattle.http_texts.specs.declared.framings.StatedCoding.TheVariants as Coded
 use Rattle.http_texts.specs.declared.framings.Stated.{Stated}
 use Rattle.http_texts.specs.declared.framings.Stated.TheVariants.{Absent, Count, Faulty}
 use Rattle.req_view.specs.declared.version.Version.{Version}
@@ -104,8 +104,8 @@ others Http11 unstated Absent = refl
 others Http11 unstated (Count n) = refl
 others Http11 unstated Faulty = refl
 
-pub framing_same : (version : Version) (unstated : Framing) (codings lengths : List (List ℕ))
-    → framing_of version unstated (coding_of codings) (stated_of lengths) ≡ by_fields version unstated codings lengths
+pub framing_same : (version : Version) (unstated : Framing) (transfer_codings lengths : List (List ℕ))
+    → framing_of version unstated (stated_coding transfer_codings) (stated_of lengths) ≡ by_fields version unstated transfer_codings lengths
 framing_same Http10 unstated [] [] = refl
 framing_same Http11 unstated [] [] = refl
 framing_same Http10 unstated [] (part ∷ more) = counted Http10 unstated (common (part ∷ more))
@@ -114,7 +114,7 @@ framing_same Http11 unstated (coding ∷ []) [] = coded unstated (is_chunked cod
 framing_same Http10 unstated (coding ∷ []) [] = coded_old unstated (is_chunked coding)
 framing_same Http11 unstated (coding ∷ []) (part ∷ more) = coded_too Http11 unstated (is_chunked coding) (common (part ∷ more))
 framing_same Http10 unstated (coding ∷ []) (part ∷ more) = coded_too Http10 unstated (is_chunked coding) (common (part ∷ more))
-framing_same Http11 unstated (coding ∷ other ∷ codings) [] = others Http11 unstated (stated_of [])
-framing_same Http10 unstated (coding ∷ other ∷ codings) [] = others Http10 unstated (stated_of [])
-framing_same Http11 unstated (coding ∷ other ∷ codings) (part ∷ more) = others Http11 unstated (stated_of (part ∷ more))
-framing_same Http10 unstated (coding ∷ other ∷ codings) (part ∷ more) = others Http10 unstated (stated_of (part ∷ more))
+framing_same Http11 unstated (coding ∷ other ∷ transfer_codings) [] = others Http11 unstated (stated_of [])
+framing_same Http10 unstated (coding ∷ other ∷ transfer_codings) [] = others Http10 unstated (stated_of [])
+framing_same Http11 unstated (coding ∷ other ∷ transfer_codings) (part ∷ more) = others Http11 unstated (stated_of (part ∷ more))
+framing_same Http10 unstated (coding ∷ other ∷ transfer_codings) (part ∷ more) = others Http10 unstated (stated_of (part ∷ more))

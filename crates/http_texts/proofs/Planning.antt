@@ -7,9 +7,9 @@ use Rattle.http_texts.specs.Fields.{parts_of}
 use Rattle.http_texts.specs.Framings as framings
 use Rattle.http_texts.specs.Framings.{common, is_chunked, bare, is_interim, by_status, answer_plan}
 use Rattle.http_texts.specs.Summaries as summaries
-use Rattle.http_texts.specs.Summaries.{coding_of, count_or_fault, stated_of, same_plan, plan_of}
-use Rattle.http_texts.specs.declared.framings.Coding.{Coding}
-use Rattle.http_texts.specs.declared.framings.Coding.TheVariants as Coded
+use Rattle.http_texts.specs.Summaries.{stated_coding, count_or_fault, stated_of, same_plan, plan_of}
+use Rattle.http_texts.specs.declared.framings.StatedCoding.{StatedCoding}
+use Rattle.http_texts.specs.declared.framings.StatedCoding.TheVariants as Coded
 use Rattle.http_texts.specs.declared.framings.Stated.{Stated}
 use Rattle.http_texts.specs.declared.plans.Plan.{Plan}
 use Rattle.http_texts.proofs.Lengths.{framing_same}
@@ -26,12 +26,12 @@ stating_same : (lengths : List (List ℕ)) → summaries.stating (stated_of leng
 stating_same [] = refl
 stating_same (part ∷ more) = stating_option (common (part ∷ more))
 
-plan_same : (status : ℕ) (to_head : Bool) (version : Version) (codings lengths : List (List ℕ))
-    → plan_of status to_head version (coding_of codings) (stated_of lengths) ≡ by_status status to_head version codings lengths
-plan_same status to_head version codings lengths = λ i.
+plan_same : (status : ℕ) (to_head : Bool) (version : Version) (transfer_codings lengths : List (List ℕ))
+    → plan_of status to_head version (stated_coding transfer_codings) (stated_of lengths) ≡ by_status status to_head version transfer_codings lengths
+plan_same status to_head version transfer_codings lengths = λ i.
     cond (is_interim status) (Some bare)
     (cond (status == 204) (Some bare)
-    (cond (to_head || (status == 304)) (stating_same lengths i) (option_map same_plan (framing_same version Framed.ToEnd codings lengths i))))
+    (cond (to_head || (status == 304)) (stating_same lengths i) (option_map same_plan (framing_same version Framed.ToEnd transfer_codings lengths i))))
 
 refused_old : (status : ℕ) (b : Bool) → summaries.is_refused status Http10 (cond b Coded.Chunked Coded.Other) ≡ true
 refused_old status true = refl
@@ -41,27 +41,27 @@ refused_new : (status : ℕ) (b : Bool) → summaries.is_refused status Http11 (
 refused_new status true = refl
 refused_new status false = refl
 
-refused_same : (status : ℕ) (version : Version) (codings : List (List ℕ))
-    → summaries.is_refused status version (coding_of codings) ≡ framings.is_refused status version codings
+refused_same : (status : ℕ) (version : Version) (transfer_codings : List (List ℕ))
+    → summaries.is_refused status version (stated_coding transfer_codings) ≡ framings.is_refused status version transfer_codings
 refused_same status Http10 [] = refl
 refused_same status Http11 [] = refl
 refused_same status Http10 (coding ∷ []) = refused_old status (is_chunked coding)
 refused_same status Http11 (coding ∷ []) = refused_new status (is_chunked coding)
-refused_same status Http10 (coding ∷ other ∷ codings) = refl
-refused_same status Http11 (coding ∷ other ∷ codings) = refl
+refused_same status Http10 (coding ∷ other ∷ transfer_codings) = refl
+refused_same status Http11 (coding ∷ other ∷ transfer_codings) = refl
 
-pub plan_is : (method : List ℕ) (a : Answer) (result : Option Plan) (status other : ℕ) (to_head : Bool) (version later : Version) (coding : Coding)
+pub plan_is : (method : List ℕ) (a : Answer) (result : Option Plan) (status other : ℕ) (to_head : Bool) (version later : Version) (coding : StatedCoding)
     (stated : Stated)
-    → status ≡ a.status → version ≡ a.version → coding ≡ coding_of (values_of (codes "Transfer-Encoding") a.fields)
+    → status ≡ a.status → version ≡ a.version → coding ≡ stated_coding (values_of (codes "Transfer-Encoding") a.fields)
     → false ≡ summaries.is_refused status version coding
     → other ≡ a.status → later ≡ a.version → to_head ≡ bytes_eq method (codes "HEAD") → stated ≡ stated_of (parts_of (codes "Content-Length") a.fields)
     → result ≡ plan_of other to_head later coding stated → result ≡ answer_plan method a
 plan_is method a result status other to_head version later coding stated s v c taken o l h d is =
-    let codings = values_of (codes "Transfer-Encoding") a.fields in
+    let transfer_codings = values_of (codes "Transfer-Encoding") a.fields in
     let lengths = parts_of (codes "Content-Length") a.fields in
-    let not_refused : framings.is_refused a.status a.version codings ≡ false =
-    sym (taken ∙ (λ i. summaries.is_refused (s i) (v i) (c i)) ∙ refused_same a.status a.version codings) in
+    let not_refused : framings.is_refused a.status a.version transfer_codings ≡ false =
+    sym (taken ∙ (λ i. summaries.is_refused (s i) (v i) (c i)) ∙ refused_same a.status a.version transfer_codings) in
     is
     ∙ (λ i. plan_of (o i) (h i) (l i) (c i) (d i))
-    ∙ plan_same a.status (bytes_eq method (codes "HEAD")) a.version codings lengths
-    ∙ sym (ap (λ b. cond b None (by_status a.status (bytes_eq method (codes "HEAD")) a.version codings lengths)) not_refused)
+    ∙ plan_same a.status (bytes_eq method (codes "HEAD")) a.version transfer_codings lengths
+    ∙ sym (ap (λ b. cond b None (by_status a.status (bytes_eq method (codes "HEAD")) a.version transfer_codings lengths)) not_refused)

@@ -31,7 +31,7 @@ abbrev pub by_fields : Version → Framing → List (List ℕ) → List (List �
 by_fields version unstated [] [] = Some unstated
 by_fields version unstated [] (part ∷ more) = option_map Length (common (part ∷ more))
 by_fields Http11 unstated (coding ∷ []) [] = if is_chunked coding then Some Chunked else None
-by_fields version unstated codings lengths = None
+by_fields version unstated transfer_codings lengths = None
 
 -- the framing of a request; none where it is unsound
 abbrev pub request_framing : Request → Option Framing
@@ -53,21 +53,21 @@ is_interim status = nat_lt 99 status && nat_lt status 200
 
 -- the plan by the status, where no rule forbids the head as a whole
 abbrev pub by_status : ℕ → Bool → Version → List (List ℕ) → List (List ℕ) → Option Plan
-by_status status to_head version codings lengths =
+by_status status to_head version transfer_codings lengths =
     if is_interim status then Some bare
     else if status == 204 then Some bare
     else if to_head || (status == 304) then stating lengths
-    else option_map (λ framing. record { body = framing; stated = framing }) (by_fields version ToEnd codings lengths)
+    else option_map (λ framing. record { body = framing; stated = framing }) (by_fields version ToEnd transfer_codings lengths)
 
 -- a transfer coding in an answer of version 1.0 is unsound, and so is a change of protocol
 abbrev pub is_refused : ℕ → Version → List (List ℕ) → Bool
-is_refused status Http10 (coding ∷ codings) = true
-is_refused status version codings = status == 101
+is_refused status Http10 (coding ∷ transfer_codings) = true
+is_refused status version transfer_codings = status == 101
 
 -- the plan for an answer to a request with this method; none where the framing is unsound
 abbrev pub answer_plan : List ℕ → Answer → Option Plan
 answer_plan method a =
-    let codings = values_of (codes "Transfer-Encoding") a.fields in
+    let transfer_codings = values_of (codes "Transfer-Encoding") a.fields in
     let lengths = parts_of (codes "Content-Length") a.fields in
-    if is_refused a.status a.version codings then None
-    else by_status a.status (bytes_eq method (codes "HEAD")) a.version codings lengths
+    if is_refused a.status a.version transfer_codings then None
+    else by_status a.status (bytes_eq method (codes "HEAD")) a.version transfer_codings lengths

@@ -86,18 +86,18 @@ pub record IsAnswered (says : Persistence) (method : List ℕ) (framed : Bool) (
   pub plan : Plan
   pub final : IsFinal method head plan
   pub body : List ℕ
-  pub passed : List ℕ
-  pub passes : IsBody plan.body framed body passed
+  pub sent_on : List ℕ
+  pub passes : IsBody plan.body framed body sent_on
   pub used_is : used ≡ print_heads interims ++ (print_response head ++ body)
-  pub text_is : text ≡ interims_text framed interims ++ (answer_text says framed (answer_of head) plan ++ passed)
+  pub text_is : text ≡ interims_text framed interims ++ (answer_text says framed (answer_of head) plan ++ sent_on)
 
 -- `used` is a part of such an answer, and `text` is what it becomes
 pub data PartOfAnswered (says : Persistence) (method : List ℕ) (framed : Bool) : List ℕ → List ℕ → Type 0 where
   some_heads : (hs : List ResponseHead) → AreInterims method hs → PartOfAnswered says method framed (print_heads hs) (interims_text framed hs)
-  head_and_body : (hs : List ResponseHead) (h : ResponseHead) (plan : Plan) (used passed : List ℕ) → AreInterims method hs → IsFinal method h plan
-      → PartOfBody plan.body framed used passed
+  head_and_body : (hs : List ResponseHead) (h : ResponseHead) (plan : Plan) (used sent_on : List ℕ) → AreInterims method hs → IsFinal method h plan
+      → PartOfBody plan.body framed used sent_on
       → PartOfAnswered says method framed (print_heads hs ++ (print_response h ++ used)) (interims_text framed hs ++ (answer_text says framed
-      (answer_of h) plan ++ passed))
+      (answer_of h) plan ++ sent_on))
 
 -- after these interim heads the input ends too early
 pub data EndsEarly (method : List ℕ) : List ℕ → Type 0 where

@@ -3,8 +3,8 @@ use Rattle.std.specs.Prelude.{ℕ, Bool, true, ◌==◌, ◌||◌, List, [], ◌
 use Rattle.http_bodies.specs.declared.framing.Framing.{Framing}
 use Rattle.http_bodies.specs.declared.framing.Framing.TheVariants as Framed
 use Rattle.http_texts.specs.Framings.{is_chunked, common, bare, is_interim}
-use Rattle.http_texts.specs.declared.framings.Coding.{Coding}
-use Rattle.http_texts.specs.declared.framings.Coding.TheVariants as Coded
+use Rattle.http_texts.specs.declared.framings.StatedCoding.{StatedCoding}
+use Rattle.http_texts.specs.declared.framings.StatedCoding.TheVariants as Coded
 use Rattle.http_texts.specs.declared.framings.Stated.{Stated}
 use Rattle.http_texts.specs.declared.framings.Stated.TheVariants.{Absent, Count, Faulty}
 use Rattle.http_texts.specs.declared.plans.Plan.{Plan}
@@ -12,10 +12,10 @@ use Rattle.req_view.specs.declared.version.Version.{Version}
 use Rattle.req_view.specs.declared.version.Version.TheVariants.{Http10, Http11}
 
 -- the values of Transfer-Encoding, summarized
-abbrev pub coding_of : List (List ℕ) → Coding
-coding_of [] = Coded.Absent
-coding_of (coding ∷ []) = if is_chunked coding then Coded.Chunked else Coded.Other
-coding_of (coding ∷ other ∷ codings) = Coded.Other
+abbrev pub stated_coding : List (List ℕ) → StatedCoding
+stated_coding [] = Coded.Absent
+stated_coding (coding ∷ []) = if is_chunked coding then Coded.Chunked else Coded.Other
+stated_coding (coding ∷ other ∷ transfer_codings) = Coded.Other
 
 abbrev pub count_or_fault : Option ℕ → Stated
 count_or_fault None = Faulty
@@ -27,7 +27,7 @@ stated_of [] = Absent
 stated_of (part ∷ more) = count_or_fault (common (part ∷ more))
 
 -- the framing by both
-abbrev pub framing_of : Version → Framing → Coding → Stated → Option Framing
+abbrev pub framing_of : Version → Framing → StatedCoding → Stated → Option Framing
 framing_of version unstated Coded.Absent Absent = Some unstated
 framing_of version unstated Coded.Absent (Count count) = Some (Framed.Length count)
 framing_of Http11 unstated Coded.Chunked Absent = Some Framed.Chunked
@@ -43,7 +43,7 @@ abbrev pub same_plan : Framing → Plan
 same_plan framing = record { body = framing; stated = framing }
 
 -- an answer's plan
-abbrev pub plan_of : ℕ → Bool → Version → Coding → Stated → Option Plan
+abbrev pub plan_of : ℕ → Bool → Version → StatedCoding → Stated → Option Plan
 plan_of status to_head version coding stated =
     if is_interim status then Some bare
     else if status == 204 then Some bare
@@ -51,7 +51,7 @@ plan_of status to_head version coding stated =
     else option_map same_plan (framing_of version Framed.ToEnd coding stated)
 
 -- a head that the proxy refuses
-abbrev pub is_refused : ℕ → Version → Coding → Bool
+abbrev pub is_refused : ℕ → Version → StatedCoding → Bool
 is_refused status Http10 Coded.Chunked = true
 is_refused status Http10 Coded.Other = true
 is_refused status version coding = status == 101

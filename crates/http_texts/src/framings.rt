@@ -11,7 +11,7 @@ use req_view::{Values, Version, View};
 
 /// The values of Transfer-Encoding, summarized.
 #[derive(Clone, Copy)]
-pub(crate) enum Coding {
+pub(crate) enum StatedCoding {
     Absent,
     Chunked,
     Other,
@@ -30,7 +30,7 @@ pub(crate) enum Stated {
 pub fn request_framing(view: &View) -> Option<Framing>
     ensures { result ≡ framings.request_framing view.now }
 {
-    let coding = coding_of(view.values(b"Transfer-Encoding"));
+    let coding = stated_coding(view.values(b"Transfer-Encoding"));
     let stated = stated_of(view.values(b"Content-Length"));
     framing_of(view.version(), Framing::Empty, coding, stated)
 }
@@ -38,15 +38,15 @@ pub fn request_framing(view: &View) -> Option<Framing>
 pub(crate) fn framing_of(
     version: Version,
     unstated: Framing,
-    coding: Coding,
+    coding: StatedCoding,
     stated: Stated,
 ) -> Option<Framing>
     ensures { result ≡ summaries.framing_of version unstated coding stated }
 {
     match (coding, stated) {
-        (Coding::Absent, Stated::Absent) => Some(unstated),
-        (Coding::Absent, Stated::Count(count)) => Some(Framing::Length(count)),
-        (Coding::Chunked, Stated::Absent) => match version {
+        (StatedCoding::Absent, Stated::Absent) => Some(unstated),
+        (StatedCoding::Absent, Stated::Count(count)) => Some(Framing::Length(count)),
+        (StatedCoding::Chunked, Stated::Absent) => match version {
             Version::Http10 => None,
             Version::Http11 => Some(Framing::Chunked),
         },
@@ -80,19 +80,19 @@ fn rest_are(count: u64, mut values: Values<'_>) -> bool
     values.all(|value| all_are(count, value))
 }
 
-pub(crate) fn coding_of(mut values: Values<'_>) -> Coding
-    ensures { result ≡ summaries.coding_of values.entry }
+pub(crate) fn stated_coding(mut values: Values<'_>) -> StatedCoding
+    ensures { result ≡ summaries.stated_coding values.entry }
 {
     let Some(first) = values.next() else {
-        return Coding::Absent;
+        return StatedCoding::Absent;
     };
     match values.next() {
-        Some(_) => Coding::Other,
+        Some(_) => StatedCoding::Other,
         None => {
             if first.eq_ignore_ascii_case(b"chunked") {
-                Coding::Chunked
+                StatedCoding::Chunked
             } else {
-                Coding::Other
+                StatedCoding::Other
             }
         }
     }

@@ -2,7 +2,7 @@ ghost use Rattle.std.specs.Prelude.{◌≡◌, option_map};
 ghost use Rattle.http_texts.specs.Framings as framings;
 ghost use Rattle.http_texts.specs.Summaries as summaries;
 
-use crate::framings::{Coding, Stated, coding_of, framing_of, stated_of};
+use crate::framings::{Stated, StatedCoding, framing_of, stated_coding, stated_of};
 use http_bodies::Framing;
 use req_view::{AnswerHead, Version};
 
@@ -18,7 +18,7 @@ pub struct Plan {
 pub fn answer_plan(method: &[u8], head: &AnswerHead) -> Option<Plan>
     ensures { result ≡ framings.answer_plan method.now head.now }
 {
-    let coding = coding_of(head.values(b"Transfer-Encoding"));
+    let coding = stated_coding(head.values(b"Transfer-Encoding"));
     let stated = stated_of(head.values(b"Content-Length"));
     let to_head = *method == *b"HEAD".as_slice();
     if is_refused(head.status(), head.version(), coding) {
@@ -27,11 +27,11 @@ pub fn answer_plan(method: &[u8], head: &AnswerHead) -> Option<Plan>
     plan_of(head.status(), to_head, head.version(), coding, stated)
 }
 
-fn is_refused(status: u16, version: Version, coding: Coding) -> bool
+fn is_refused(status: u16, version: Version, coding: StatedCoding) -> bool
     ensures { result ≡ summaries.is_refused status version coding }
 {
     match (version, coding) {
-        (Version::Http10, Coding::Chunked | Coding::Other) => true,
+        (Version::Http10, StatedCoding::Chunked | StatedCoding::Other) => true,
         _ => status == 101,
     }
 }
@@ -40,7 +40,7 @@ fn plan_of(
     status: u16,
     to_head: bool,
     version: Version,
-    coding: Coding,
+    coding: StatedCoding,
     stated: Stated,
 ) -> Option<Plan>
     ensures { result ≡ summaries.plan_of status to_head version coding stated }

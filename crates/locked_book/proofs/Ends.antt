@@ -25,6 +25,7 @@ use Rattle.log_entries.specs.declared.row.Row.{Row}
 use Rattle.log_entries.specs.declared.setup.ServerSet.{ServerSet}
 use Rattle.log_entries.specs.Dispatch.{bound_from}
 use Rattle.log_entries.specs.Histories.{History, state_of, next_window, refuses_limit}
+use Rattle.log_entries.specs.declared.setup.Setup.{Setup}
 use Rattle.log_entries.specs.Legal.{IsLegal, AddsEvent}
 use Rattle.log_entries.specs.Refusals.{first_of, lacks_room, is_waiting, has_a_slot}
 use Rattle.log_entries.specs.Rows.{row_of, is_served_by, served}
@@ -202,11 +203,12 @@ room_made (Ok None) old new R Full A B none some err = inl none.1
 room_made (Ok (Some it)) old new R Full A B none some err = inr some.3
 room_made (Err e) old new R Full A B none some err = inl err
 
-pub roomy_book : (board : TableId) (terms : Terms) (old new : History) (keeper : Keeper) → IsKeptBook board terms old keeper
-    → (new ≡ old) ⊎ (new ≡ next_window old) → IsKeptBook board terms new keeper
-roomy_book board terms old new keeper is (inl same) = subst (λ h. IsKeptBook board terms h keeper) (sym same) is
-roomy_book board terms old new keeper is (inr next) = subst (λ h. IsKeptBook board terms h keeper) (sym next) (record {
+pub roomy_book : (board : TableId) (terms : Terms) (setup : Setup) (old new : History) (keeper : Keeper) → IsKeptBook board terms setup old keeper
+    → (new ≡ old) ⊎ (new ≡ next_window old) → IsKeptBook board terms setup new keeper
+roomy_book board terms setup old new keeper is (inl same) = subst (λ h. IsKeptBook board terms setup h keeper) (sym same) is
+roomy_book board terms setup old new keeper is (inr next) = subst (λ h. IsKeptBook board terms setup h keeper) (sym next) (record {
   named = is.named;
   of_terms = is.of_terms;
+  of_setup = is.of_setup;
   book = rolled_book old keeper.view is.book;
 })

@@ -73,15 +73,15 @@ pub added_is : (h new : History) (e : Entry) (adds : AddsEvent h new e) → adde
 added_is h new e adds = ap (drop (length h.log)) adds.log ∙ drop-append_seam h.log (e ∷ adds.brought)
 
 -- an event that sets no limit and ends nothing
-abbrev pub is_plain : Entry → Bool
-is_plain (Arrive moment arrival) = true
-is_plain (Abort moment ticket) = true
-is_plain (Tick moment) = true
-is_plain (Check moment server ok) = true
-is_plain entry = false
+abbrev pub is_plain_entry : Entry → Bool
+is_plain_entry (Arrive moment arrival) = true
+is_plain_entry (Abort moment ticket) = true
+is_plain_entry (Tick moment) = true
+is_plain_entry (Check moment server ok) = true
+is_plain_entry entry = false
 
 -- what such an event of a dispatcher becomes is one
-pub plain_entry : (h : History) (event : Event) → IsTrue (ends.is_plain event) → is_plain (entry_of h event) ≡ true
+pub plain_entry : (h : History) (event : Event) → IsTrue (ends.neither_ends_nor_limits event) → is_plain_entry (entry_of h event) ≡ true
 plain_entry h (events.Done moment ticket) plain = false_true plain
 plain_entry h (events.Fail moment ticket) plain = false_true plain
 plain_entry h (events.Abort moment ticket) plain = refl
@@ -94,41 +94,42 @@ pub sets_none : (h new : History) (e : Entry) (adds : AddsEvent h new e) → (af
 sets_none h new e adds same = ap (λ (s : State). s.limits) (state_on h new e adds)
     ∙ limits_kept h.setup (after h.setup (state_of h) e) adds.brought adds.one_event ∙ same
 
-pub plain_owes : (h new : History) (view : KeeperView) (e : Entry) → IsLegal h → IsBook h view → is_plain e ≡ true → AddsEvent h new e
+pub plain_owes : (h new : History) (view : KeeperView) (e : Entry) → IsLegal h → IsBook h view → is_plain_entry e ≡ true → AddsEvent h new e
     → IsOwing new view (added h new)
 plain_owes h new view e legal is plain adds =
     subst (IsOwing new view) (sym (added_is h new e adds))
     (owes h new view view.bounds e legal is (by_event e plain) adds (by_ending e plain) (λ weight. by_back weight e plain)
     (is.bounds ∙ ap (map mark_by) (sym (sets_none h new e adds (by_limits e plain)))))
   where
-    by_event : (x : Entry) → is_plain x ≡ true → begins_event x ≡ true
+    by_event : (x : Entry) → is_plain_entry x ≡ true → begins_event x ≡ true
     by_event (Arrive m a) p = refl
     by_event (Abort m t) p = refl
     by_event (Tick m) p = refl
     by_event (Check m v ok) p = refl
     by_event x p = false_true p
 
-    by_ending : (x : Entry) → is_plain x ≡ true → ending_in x ≡ None
+    by_ending : (x : Entry) → is_plain_entry x ≡ true → ending_in x ≡ None
     by_ending (Done m t) p = false_true p
     by_ending (Fail m t) p = false_true p
     by_ending x p = refl
 
-    by_back : (weight : Grant → ℕ) (x : Entry) → is_plain x ≡ true → back weight x (state_of h).rows ≡ 0
+    by_back : (weight : Grant → ℕ) (x : Entry) → is_plain_entry x ≡ true → back weight x (state_of h).rows ≡ 0
     by_back weight (Done m t) p = false_true p
     by_back weight (Fail m t) p = false_true p
     by_back weight x p = refl
 
-    by_limits : (x : Entry) → is_plain x ≡ true → (after h.setup (state_of h) x).limits ≡ (state_of h).limits
+    by_limits : (x : Entry) → is_plain_entry x ≡ true → (after h.setup (state_of h) x).limits ≡ (state_of h).limits
     by_limits (Limit m v k) p = false_true p
     by_limits x p = refl
 
 -- a book that pays is one again
-module _ (board : TableId) (terms : Terms) (h new : History) (first now : Keeper) (es : List Entry) where
-  pub kept_again : IsOwing new first.view es → first.board ≡ board → first.view.terms ≡ terms
-      → now ≡ record first { view = with_offers first.view (grants_in new es) } → IsKeptBook board terms new now
-  kept_again owing named of_terms offers = record {
+module _ (board : TableId) (terms : Terms) (setup : Setup) (h new : History) (first now : Keeper) (es : List Entry) where
+  pub kept_again : IsOwing new first.view es → first.board ≡ board → first.view.terms ≡ terms → new.setup ≡ setup
+      → now ≡ record first { view = with_offers first.view (grants_in new es) } → IsKeptBook board terms setup new now
+  kept_again owing named of_terms of_setup offers = record {
     named = ap (λ (k : Keeper). k.board) offers ∙ named;
     of_terms = ap (λ (k : Keeper). k.view.terms) offers ∙ of_terms;
+    of_setup = of_setup;
     book = subst (λ (k : Keeper). IsBook new k.view) (sym offers) (all_paid new first.view es owing);
   }
 
@@ -171,9 +172,9 @@ first_book setup = record {
 }
 
 -- an arrival's place is one of the board's
-pub arrival_place : (board : TableId) (terms : Terms) (h new : History) (keeper : Keeper) (m : ℕ) (a : Arrival) → IsLegal h → IsKeptBook board terms h keeper
+pub arrival_place : (board : TableId) (terms : Terms) (setup : Setup) (h new : History) (keeper : Keeper) (m : ℕ) (a : Arrival) → IsLegal h → IsKeptBook board terms setup h keeper
     → AddsEvent h new (Arrive m a) → a.place < terms.places
-arrival_place board terms h new keeper m a legal is adds =
+arrival_place board terms setup h new keeper m a legal is adds =
     let low : a.place < length (state_of h).rows = slice_get_within (state_of h).rows a.place None adds.lawful.judged.0.1.vacant in
     let same : h.setup.places ≡ terms.places = ap (λ (t : Terms). t.places) (sym is.book.terms ∙ is.of_terms) in
     omega (arith, low, (within h legal).places, same)

@@ -18,8 +18,8 @@ abbrev pub IsAcceptable : History → Return → Type 0
 IsAcceptable history back = refuses_end history back.ending back.ticket ≡ None
 
 -- an event that ends no request and sets no limit
-abbrev pub is_plain : Event → Bool
-is_plain (events.Abort moment ticket) = true
-is_plain (events.Tick moment) = true
-is_plain (events.Check moment server answered) = true
-is_plain event = false
+abbrev pub neither_ends_nor_limits : Event → Bool
+neither_ends_nor_limits (events.Abort moment ticket) = true
+neither_ends_nor_limits (events.Tick moment) = true
+neither_ends_nor_limits (events.Check moment server answered) = true
+neither_ends_nor_limits event = false

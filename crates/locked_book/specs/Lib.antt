@@ -1,5 +1,6 @@
 pub mod Busy
 pub mod KeptBooks
+pub mod Names
 pub mod Ends
 pub mod Verdicts
 pub mod Outstanding

@@ -8,7 +8,7 @@ ghost use Rattle.base_lists.specs.Weights.{AreIn};
 ghost use Rattle.locked_book.specs.Outstanding.{outstanding};
 ghost use Rattle.locked_book.specs.Turns.{VisitsFrom, VisitsSome, Walks, Turns};
 ghost use Rattle.dispatch_core.specs.Occurrences.{refuses, entry_of};
-ghost use Rattle.locked_book.specs.Ends.{is_plain, IsAcceptable};
+ghost use Rattle.locked_book.specs.Ends.{neither_ends_nor_limits, IsAcceptable};
 ghost use Rattle.log_entries.specs.Histories.{first_window, next_window, state_of, effective, refuses_arrival, refuses_abort, refuses_tick, refuses_check, refuses_limit, SomeExpires, RefusedOrNoMemory};
 ghost use Rattle.log_entries.specs.Legal.{AddsEvent, IsLegal};
 ghost use Rattle.dispatch_state.specs.Histories.{scene_of, HasEntryRoom};
@@ -22,14 +22,15 @@ ghost use Rattle.locked_book.specs.Books.{terms_for, mark_by, IsBook};
 ghost use Rattle.locked_book.specs.Calls.{event_of, CarriesOut, TakesBack, SetsBound};
 
 use crate::keeping::Keeping;
+use crate::name::DeskName;
 use crate::offering::offer_from;
 use base_places::PlaceSet;
 use base_verdict::Ending;
 use dispatch_core::{Core, Event};
-use dispatch_reports::{ReportingCore, ServerLine, Window};
+use dispatch_reports::{EndedWindow, ReportingCore, ServerLine};
 use dispatch_state::Ticketed;
 use due_key::{Class, Due, Key, Moment, Offset};
-use grant_board::{Board, BoardName, KeeperSeat, RelaySeat, Return};
+use grant_board::{Board, KeeperSeat, RelaySeat, Return};
 use late_cert::{Reports, Running};
 use log_entries::{Entry, Intake, Queue, Refusal};
 use pend_queue::PendQueue;
@@ -37,18 +38,19 @@ use queue_outside::remaining;
 use std::alloc::{AllocError, Global};
 use std::marker::{Model, PhantomData};
 
-/// A dispatcher beside the keeper's seat of the board that N names. Each call makes the
-/// dispatcher's event and then offers the verdicts that followed, so that between calls the
-/// verdicts that are out at the board are those that are outstanding in the log. The places of a
-/// call's offers are added to the caller's set, so that it can wake whoever waits there.
+/// A dispatcher of the setup that N names, beside the keeper's seat of the board that N names.
+/// Each call makes the dispatcher's event and then offers the verdicts that followed, so that
+/// between calls the verdicts that are out at the board are those that are outstanding in the log.
+/// The places of a call's offers are added to the caller's set, so that it can wake whoever waits
+/// there.
 #[derive(Drop)]
-pub struct Book<Q: PendQueue<Key, usize>, N: BoardName> {
+pub struct Book<Q: PendQueue<Key, usize>, N: DeskName> {
     core: ReportingCore<Q>,
     keeping: Keeping,
     of: PhantomData<N>,
 }
 
-impl<Q: PendQueue<Key, usize>, N: BoardName> Model for Book<Q, N> {
+impl<Q: PendQueue<Key, usize>, N: DeskName> Model for Book<Q, N> {
     ghost use Rattle.locked_book.specs.Calls.{Booked};
     ghost use Rattle.locked_book.specs.KeptBooks.{IsKeptBook};
 
@@ -56,7 +58,7 @@ impl<Q: PendQueue<Key, usize>, N: BoardName> Model for Book<Q, N> {
 
     ghost view = { λ book. record { history = book.core; view = book.keeping.view } };
 
-    ghost invariant = { λ book. IsKeptBook N.board N.terms book.core book.keeping };
+    ghost invariant = { λ book. IsKeptBook N.board N.terms N.setup book.core book.keeping };
 }
 
 /// The wish of an arrival: its class and offset, and the server that it is pinned to.
@@ -76,14 +78,15 @@ pub struct Deferred {
     pub pin: Option<usize>,
 }
 
-impl<Q: PendQueue<Key, usize>, N: BoardName> Book<Q, N> {
-    /// Makes a book of a fresh dispatcher and a fresh keeper's seat, where the board was opened for
-    /// the dispatcher's places and limits, and of an empty running worst for the dispatcher's
-    /// servers.
+impl<Q: PendQueue<Key, usize>, N: DeskName> Book<Q, N> {
+    /// Makes a book of a fresh dispatcher of the setup that N names and a fresh keeper's seat,
+    /// where the board was opened for the dispatcher's places and limits, and of an empty running
+    /// worst for the dispatcher's servers.
     pub fn new(core: Core<Q>, seat: KeeperSeat, running: Running) -> Book<Q, N>
         requires first { core ≡ first_window core.setup [] }
         requires board { seat.board ≡ N.board }
         requires terms { N.terms ≡ terms_for core.setup }
+        requires setup { N.setup ≡ core.setup }
         requires seat { seat.view ≡ new_keeper N.terms }
         requires running { IsNew running (length core.setup.servers) }
         ensures { result ≡ record { history = core; view = seat.view } }
@@ -205,7 +208,7 @@ impl<Q: PendQueue<Key, usize>, N: BoardName> Book<Q, N> {
     // An event that ends no request and sets no limit.
     fn apply(&mut self, board: &Board, event: Event, woken: &mut PlaceSet) -> Result<(), Refusal>
         requires board { board.now ≡ N.board }
-        requires plain { IsTrue (is_plain event) }
+        requires plain { IsTrue (neither_ends_nor_limits event) }
         ensures ok { OnOk result (AddsEvent self.old.history self.new.history (entry_of self.old.history event)) }
         ensures err { IfErr result (λ refusal. refuses self.old.history event ≡ Some refusal) }
         ensures carried { OnOk result (CarriesOut self.old self.new woken.old woken.new) }
@@ -329,7 +332,7 @@ impl<Q: PendQueue<Key, usize>, N: BoardName> Book<Q, N> {
     /// Begins the next window where the log has no room for an event, and returns what is told of
     /// the one that ended; `None` where it has room. Where memory is refused nothing changes, and
     /// the board never does.
-    pub fn make_room(&mut self, alloc: Global) -> Result<Option<Window>, AllocError>
+    pub fn make_room(&mut self, alloc: Global) -> Result<Option<EndedWindow>, AllocError>
         ensures none { IfOk result (λ found. IfNone found (HasEntryRoom self.old.history × (self.new ≡ self.old))) }
         ensures some { IfOk result (λ found. IfSome found (λ window. (HasEntryRoom self.old.history → ⊥) × IsCertified self.old.history window.reports × AreLines self.old.history window.servers.items × (self.new ≡ record self.old { history = next_window self.old.history }))) }
         ensures err { OnErr result (self.new ≡ self.old) }
@@ -441,11 +444,12 @@ impl<Q: PendQueue<Key, usize>, N: BoardName> Book<Q, N> {
     }
 
     /// Returns the most live requests. Its contract states every book's invariant: the log is
-    /// legal, and the verdicts that are out at the board are those that are outstanding in it.
-    /// `O(1)`.
+    /// legal and of the setup that N names, and the verdicts that are out at the board are those
+    /// that are outstanding in it. `O(1)`.
     pub fn places(&self) -> usize
         ensures places { result ≡ N.terms.places }
         ensures of_terms { self.now.view.terms ≡ N.terms }
+        ensures of_setup { self.now.history.setup ≡ N.setup }
         ensures legal { IsLegal self.now.history }
         ensures book { IsBook self.now.history self.now.view }
     {

@@ -8,8 +8,10 @@
 
 mod book;
 mod keeping;
+mod name;
 mod offering;
 mod verdicts;
 
 pub use book::{Book, Deferred, Wanted};
+pub use name::DeskName;
 pub use verdicts::verdict_in;

@@ -12,14 +12,14 @@ use Rattle.log_entries.specs.Rows.{same_queue}
 use Rattle.log_reading.specs.Grants.{moment_of}
 use Rattle.log_stretches.specs.Courses.{came_in, later}
 use Rattle.log_stretches.specs.declared.course.Came.{Came}
-use Rattle.log_lines.specs.declared.numbers.Given.{Given}
-use Rattle.log_lines.specs.declared.numbers.Stay.{Stay}
+use Rattle.log_lines.specs.declared.numbers.GrantNumbers.{GrantNumbers}
+use Rattle.log_lines.specs.declared.numbers.StayNumbers.{StayNumbers}
 use Rattle.log_lines.specs.declared.numbers.Numbers.{Numbers}
 
 -- a window so far: its number, and the grants to requests that waited, in order
 pub record WindowSoFar : Type 0 where
   pub number : ℕ
-  pub given : List Given
+  pub given : List GrantNumbers
 
 -- the knowledge after some entries: their last moment, the present window, and the numbers of requests by ticket
 pub record Following : Type 0 where
@@ -32,20 +32,20 @@ abbrev pub known : Following → ℕ → Option Numbers
 known following ticket = lookup (is_at (nat_cmp ticket)) following.numbers
 
 -- a grant went to a request that came later than this one, from this queue and of its class
-abbrev pub overtakes : Queue → Came → Given → Bool
+abbrev pub overtakes : Queue → Came → GrantNumbers → Bool
 overtakes queue came given =
     same_queue queue given.queue && (int_eq came.arrival.class given.class && nat_lt came.arrival.ticket given.ticket)
 
 -- the grants of the present window since a stay began; all of them, where it began in an earlier window
-abbrev pub grants_since : WindowSoFar → Stay → List Given
+abbrev pub grants_since : WindowSoFar → StayNumbers → List GrantNumbers
 grants_since window stay = if stay.window == window.number then drop stay.since window.given else window.given
 
 -- the number of slots that requests of the same queue got during a stay, and of those among them
 -- that were of the same class and came later
-abbrev pub ahead : WindowSoFar → Stay → ℕ
+abbrev pub ahead : WindowSoFar → StayNumbers → ℕ
 ahead window stay = length (filter (λ given. same_queue stay.queue given.queue) (grants_since window stay))
 
-abbrev pub overtakers : WindowSoFar → Came → Stay → ℕ
+abbrev pub overtakers : WindowSoFar → Came → StayNumbers → ℕ
 overtakers window came stay = length (filter (overtakes stay.queue came) (grants_since window stay))
 
 -- a counter that saturates at its greatest value
@@ -57,7 +57,7 @@ abbrev pub new_numbers : Came → Numbers
 new_numbers came = record { came = came; failures = 0; slots = 0; stay = None; slot = None; cause = None }
 
 -- it is given a slot at this moment: after this stay in a queue, or without one
-abbrev pub given_slot : ℕ → WindowSoFar → ℕ → Option Stay → Numbers → Numbers
+abbrev pub given_slot : ℕ → WindowSoFar → ℕ → Option StayNumbers → Numbers → Numbers
 given_slot moment window server stay before = record before {
   slots = one_more before.slots;
   stay = None;
@@ -112,7 +112,7 @@ known_after ticket moment window before entry =
     (told_after ticket moment window before entry)
 
 -- the grant of an entry, if it is one to a request that waited and whose arrival is known
-abbrev pub given_by : (ℕ → Option Numbers) → Entry → List Given
+abbrev pub given_by : (ℕ → Option Numbers) → Entry → List GrantNumbers
 given_by numbers (Granted ticket queue server) =
     option_map_or (λ it. record { queue = queue; class = it.came.arrival.class; ticket = ticket } ∷ []) (numbers ticket) []
 given_by numbers entry = []

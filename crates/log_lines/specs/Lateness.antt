@@ -30,8 +30,8 @@ with_slot second lateness = record second {
 }
 
 -- the position of a second among sixty
-abbrev pub place_of : ℕ → ℕ
-place_of number = number % 60
+abbrev pub second_index : ℕ → ℕ
+second_index number = number % 60
 
 -- the contents for a second at its position: nothing, where they belong to another second
 abbrev pub held_of : ℕ → Second → Second
@@ -39,4 +39,4 @@ held_of number second = if second.number == number then second else no_slot numb
 
 -- the second at a position
 abbrev pub second_at : List Second → ℕ → Second
-second_at seconds place = get_or seconds place (no_slot 0)
+second_at seconds index = get_or seconds index (no_slot 0)

@@ -2,18 +2,18 @@
 use Rattle.std.specs.Prelude.{ℕ}
 use Rattle.base_verdict.specs.declared.cause.Cause.{Cause}
 use Rattle.base_verdict.specs.declared.cause.Cause.TheVariants.{Aborted, Timeout, Retries, NoServer}
-use Rattle.log_lines.specs.declared.letters.By.{By}
-use Rattle.log_lines.specs.declared.letters.By.TheVariants.{Nobody, Client, ClientTime, Server, ServerTime, Proxy, Shortage}
+use Rattle.log_lines.specs.declared.letters.EndedBy.{EndedBy}
+use Rattle.log_lines.specs.declared.letters.EndedBy.TheVariants.{Nobody, Client, ClientTime, Server, ServerTime, Proxy, Shortage}
 use Rattle.log_lines.specs.declared.letters.During.{During}
 use Rattle.log_lines.specs.declared.letters.During.TheVariants.{Nothing, Request, Queue, Connect, Head, Data, Last}
-use Rattle.log_lines.specs.declared.letters.Ended.{Ended}
+use Rattle.log_lines.specs.declared.letters.ExchangeEnd.{ExchangeEnd}
 
 -- an exchange that came to its proper end
-abbrev pub well : Ended
+abbrev pub well : ExchangeEnd
 well = record { by = Nobody; during = Nothing }
 
 -- '-', 'C', 'c', 'S', 's', 'P' or 'R', as character codes
-abbrev pub by_letter : By → ℕ
+abbrev pub by_letter : EndedBy → ℕ
 by_letter Nobody = 45
 by_letter Client = 67
 by_letter ClientTime = 99
@@ -33,7 +33,7 @@ during_letter Data = 68
 during_letter Last = 76
 
 -- a request that was aborted because its time was over has timed out
-abbrev pub if_aborted : By → Cause
+abbrev pub if_aborted : EndedBy → Cause
 if_aborted ServerTime = Timeout
 if_aborted Nobody = Aborted
 if_aborted Client = Aborted
@@ -43,7 +43,7 @@ if_aborted Proxy = Aborted
 if_aborted Shortage = Aborted
 
 -- why a request wasn't served, by the cause in the dispatcher's log and by what ended its exchange
-abbrev pub cause_told : Cause → By → Cause
+abbrev pub cause_told : Cause → EndedBy → Cause
 cause_told Aborted by = if_aborted by
 cause_told Timeout by = Timeout
 cause_told Retries by = Retries

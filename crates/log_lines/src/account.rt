@@ -1,4 +1,4 @@
-use crate::letters::{By, During, Ended};
+use crate::letters::{During, EndedBy, ExchangeEnd};
 use due_key::{Class, Moment, Offset};
 use std::net::SocketAddr;
 
@@ -46,7 +46,7 @@ pub struct Account {
     /// The number of bytes that were read from its client, and written to it.
     pub received: u64,
     pub sent: u64,
-    pub ended: Ended,
+    pub ended: ExchangeEnd,
     /// The number of clients when it ended.
     pub clients: u64,
     /// No byte of it has come yet.
@@ -55,9 +55,9 @@ pub struct Account {
 
 impl Account {
     /// Notes that it ended early, unless a cause is noted already.
-    pub fn end_by(&mut self, by: By, during: During) {
-        if self.ended.by == By::Nobody && by != By::Nobody {
-            self.ended = Ended { by, during };
+    pub fn end_by(&mut self, by: EndedBy, during: During) {
+        if self.ended.by == EndedBy::Nobody && by != EndedBy::Nobody {
+            self.ended = ExchangeEnd { by, during };
         }
     }
 
@@ -79,10 +79,10 @@ impl Account {
 
     /// Notes that its client was sent 400 though its server answered nothing: the request was at fault.
     pub fn blame_request(&mut self) {
-        let told_nothing = self.ended.by == By::Server && self.ended.during == During::Head;
+        let told_nothing = self.ended.by == EndedBy::Server && self.ended.during == During::Head;
         if told_nothing && self.status == Some(400) {
-            self.ended = Ended {
-                by: By::Proxy,
+            self.ended = ExchangeEnd {
+                by: EndedBy::Proxy,
                 during: During::Request,
             };
         }
@@ -91,7 +91,7 @@ impl Account {
     /// Notes the server that it is given to, whatever was noted of an earlier one.
     pub fn grant(&mut self, server: usize, now: Moment) {
         self.server = Some(server);
-        self.ended = Ended::well();
+        self.ended = ExchangeEnd::well();
         self.moments.granted = Some(now);
         self.moments.connected = None;
         self.moments.answered = None;
@@ -116,7 +116,7 @@ impl Account {
             status: None,
             received: 0,
             sent: 0,
-            ended: Ended::well(),
+            ended: ExchangeEnd::well(),
             clients: 0,
             is_silent: true,
         }

@@ -62,9 +62,9 @@ fn push_histogram(
     histogram: &Histogram,
 ) -> Result<(), AllocError> {
     let mut sum = 0u64;
-    for (place, count) in histogram.bins().iter().enumerate() {
+    for (number, count) in histogram.bins().iter().enumerate() {
         sum = sum.saturating_add(*count);
-        let bound = histogram.bounds().get(place).copied();
+        let bound = histogram.bounds().get(number).copied();
         push_bin(text, name, class, (bound, sum))?;
     }
     let labels = [class_label(class)];

@@ -21,7 +21,7 @@ pub enum CheckFailure {
 
 /// An event of the proxy.
 #[derive(Clone, Copy, Debug, PartialEq, Eq)]
-pub enum Event {
+pub enum ProxyEvent {
     /// The program started.
     Started,
     /// Clients may connect to this address.
@@ -61,7 +61,7 @@ pub fn push_event(
     dates: &mut Dates,
     names: &Names,
     moment: u64,
-    event: Event,
+    event: ProxyEvent,
 ) -> Result<(), AllocError> {
     dates.push_now(text, signed(moment))?;
     text.push_str(" dueproxy ")?;
@@ -69,11 +69,11 @@ pub fn push_event(
     text.push('\n')
 }
 
-fn push_words(text: &mut String, names: &Names, event: Event) -> Result<(), AllocError> {
+fn push_words(text: &mut String, names: &Names, event: ProxyEvent) -> Result<(), AllocError> {
     match event {
-        Event::Started => text.push_str("started"),
-        Event::Listening(address) => write!(text, "listening {address}"),
-        Event::Health {
+        ProxyEvent::Started => text.push_str("started"),
+        ProxyEvent::Listening(address) => write!(text, "listening {address}"),
+        ProxyEvent::Health {
             server,
             up: true,
             checks,
@@ -82,23 +82,23 @@ fn push_words(text: &mut String, names: &Names, event: Event) -> Result<(), Allo
             let name = names.of(server);
             write!(text, "server {name} up: {checks} checks answered in a row")
         }
-        Event::Health {
+        ProxyEvent::Health {
             server,
             up: false,
             checks,
             failure,
         } => push_down(text, names.of(server), checks, failure),
-        Event::Fills(queue) => write!(text, "queue {} fills", name_of(names, queue)),
-        Event::Empties(queue) => write!(text, "queue {} is empty", name_of(names, queue)),
-        Event::Limit { server, intake } => match intake {
+        ProxyEvent::Fills(queue) => write!(text, "queue {} fills", name_of(names, queue)),
+        ProxyEvent::Empties(queue) => write!(text, "queue {} is empty", name_of(names, queue)),
+        ProxyEvent::Limit { server, intake } => match intake {
             Intake::Open(limit) => write!(text, "limit {} {limit}", names.of(server)),
             Intake::Closed => write!(text, "limit {} closed", names.of(server)),
         },
-        Event::Window(number) => write!(text, "window {number} ended"),
-        Event::Lost(lines) => write!(text, "lost {lines}"),
-        Event::Gap => text.push_str("dispatcher's log: entries not read"),
-        Event::Stopping => text.push_str("stopping"),
-        Event::Stopped => text.push_str("stopped"),
+        ProxyEvent::Window(number) => write!(text, "window {number} ended"),
+        ProxyEvent::Lost(lines) => write!(text, "lost {lines}"),
+        ProxyEvent::Gap => text.push_str("dispatcher's log: entries not read"),
+        ProxyEvent::Stopping => text.push_str("stopping"),
+        ProxyEvent::Stopped => text.push_str("stopped"),
     }
 }
 

@@ -88,20 +88,20 @@ pub fn push_metrics(
 
 // A number of a server.
 #[derive(Clone, Copy)]
-enum Told {
+enum ServerGauge {
     Served,
     Up,
     Failures,
     Retries,
 }
 
-impl Told {
+impl ServerGauge {
     fn of(self, server: &ServerNumbers) -> u64 {
         match self {
-            Told::Served => server.served,
-            Told::Up => u64::from(server.up),
-            Told::Failures => server.failures,
-            Told::Retries => server.retries,
+            ServerGauge::Served => server.served,
+            ServerGauge::Up => u64::from(server.up),
+            ServerGauge::Failures => server.failures,
+            ServerGauge::Retries => server.retries,
         }
     }
 }
@@ -111,10 +111,10 @@ fn push_of_servers(
     names: &Names,
     numbers: &ProxyNumbers,
 ) -> Result<(), AllocError> {
-    push_of_each(text, names, numbers, (&FAILURES, Told::Failures))?;
-    push_of_each(text, names, numbers, (&RETRIES, Told::Retries))?;
-    push_of_each(text, names, numbers, (&SERVED, Told::Served))?;
-    push_of_each(text, names, numbers, (&UP, Told::Up))?;
+    push_of_each(text, names, numbers, (&FAILURES, ServerGauge::Failures))?;
+    push_of_each(text, names, numbers, (&RETRIES, ServerGauge::Retries))?;
+    push_of_each(text, names, numbers, (&SERVED, ServerGauge::Served))?;
+    push_of_each(text, names, numbers, (&UP, ServerGauge::Up))?;
     push_limits(text, names, numbers)
 }
 
@@ -122,12 +122,12 @@ fn push_of_each(
     text: &mut String,
     names: &Names,
     numbers: &ProxyNumbers,
-    of: (&Family, Told),
+    of: (&Family, ServerGauge),
 ) -> Result<(), AllocError> {
     let (family, told) = of;
     push_family(text, family)?;
-    for (place, server) in numbers.servers.iter().enumerate() {
-        let labels = [server_label(names.of(place))];
+    for (number, server) in numbers.servers.iter().enumerate() {
+        let labels = [server_label(names.of(number))];
         push_count(text, (family.name, ""), &labels, told.of(server))?;
     }
     Ok(())
@@ -135,8 +135,8 @@ fn push_of_each(
 
 fn push_limits(text: &mut String, names: &Names, numbers: &ProxyNumbers) -> Result<(), AllocError> {
     push_family(text, &LIMITS)?;
-    for (place, server) in numbers.servers.iter().enumerate() {
-        let labels = [server_label(names.of(place))];
+    for (number, server) in numbers.servers.iter().enumerate() {
+        let labels = [server_label(names.of(number))];
         match server.intake {
             Intake::Open(0) => push_endless(text, (LIMITS.name, ""), &labels)?,
             Intake::Open(limit) => {
@@ -154,8 +154,8 @@ fn push_requests(
     numbers: &ProxyNumbers,
 ) -> Result<(), AllocError> {
     push_family(text, &REQUESTS)?;
-    for (place, server) in numbers.servers.iter().enumerate() {
-        push_statuses(text, names.of(place), &server.statuses)?;
+    for (number, server) in numbers.servers.iter().enumerate() {
+        push_statuses(text, names.of(number), &server.statuses)?;
     }
     push_statuses(text, NO_SERVER, &numbers.unserved)
 }
@@ -181,8 +181,8 @@ fn push_statuses(text: &mut String, server: &str, statuses: &Tally) -> Result<()
 
 fn push_slots(text: &mut String, names: &Names, numbers: &ProxyNumbers) -> Result<(), AllocError> {
     push_family(text, &SLOTS)?;
-    for (place, server) in numbers.servers.iter().enumerate() {
-        let name = names.of(place);
+    for (number, server) in numbers.servers.iter().enumerate() {
+        let name = names.of(number);
         push_slots_of(text, name, "direct", server.direct)?;
         push_slots_of(text, name, "granted", server.granted)?;
     }
@@ -218,8 +218,8 @@ fn push_waiting(
     numbers: &ProxyNumbers,
 ) -> Result<(), AllocError> {
     push_family(text, &WAITING)?;
-    for (place, queue) in numbers.queues.iter().enumerate() {
-        push_waiting_in(text, queue_name(names, place), queue.classes())?;
+    for (number, queue) in numbers.queues.iter().enumerate() {
+        push_waiting_in(text, queue_name(names, number), queue.classes())?;
     }
     Ok(())
 }
@@ -239,8 +239,8 @@ fn push_waiting_in(text: &mut String, queue: &str, classes: &Tally) -> Result<()
 }
 
 /// Returns the name of the queue at this position: the backend's first, then those of the servers.
-pub(crate) fn queue_name(names: &Names, place: usize) -> &str {
-    match place.checked_sub(1) {
+pub(crate) fn queue_name(names: &Names, number: usize) -> &str {
+    match number.checked_sub(1) {
         None => BACKEND,
         Some(server) => names.of(server),
     }

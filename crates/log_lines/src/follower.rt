@@ -5,7 +5,7 @@ ghost use Rattle.log_stretches.specs.Courses.{later};
 ghost use Rattle.log_lines.specs.Following as following;
 ghost use Rattle.log_lines.specs.Following.{Follows, FollowsLog, came_by, given_by, known, known_after, grants_since, named_in, numbers_after, overtakes, new_numbers, given_slot, put_into};
 
-use crate::numbers::{Given, Numbers, SlotNumbers, Stay};
+use crate::numbers::{GrantNumbers, Numbers, SlotNumbers, StayNumbers};
 use due_key::Moment;
 use log_entries::{Entry, Queue};
 use log_stretches::Came;
@@ -18,7 +18,7 @@ use std::marker::Model;
 pub struct Follower {
     moment: Moment,
     window: u64,
-    given: Vec<Given>,
+    given: Vec<GrantNumbers>,
     numbers: BTreeMap<u64, Numbers>,
 }
 
@@ -140,14 +140,14 @@ impl Follower {
     }
 
     // Returns the grant of an entry, if it is one.
-    fn given_by(&self, entry: &Entry) -> Option<Given>
+    fn given_by(&self, entry: &Entry) -> Option<GrantNumbers>
         ensures { option_to_list result ≡ given_by (known self.now) entry.now }
     {
         let Entry::Granted(ticket, queue, _) = *entry else {
             return None;
         };
         let it = self.numbers.get(&ticket)?;
-        Some(Given {
+        Some(GrantNumbers {
             queue,
             class: it.came.arrival.class,
             ticket,
@@ -207,7 +207,7 @@ impl Follower {
     fn queued(&self, before: Numbers, queue: Queue) -> Numbers
         ensures { result ≡ put_into self.now.window queue before }
     {
-        let stay = Stay {
+        let stay = StayNumbers {
             queue,
             window: self.window,
             since: self.given.len(),
@@ -218,7 +218,13 @@ impl Follower {
         }
     }
 
-    fn served(&self, moment: Moment, before: Numbers, server: usize, stay: Option<Stay>) -> Numbers
+    fn served(
+        &self,
+        moment: Moment,
+        before: Numbers,
+        server: usize,
+        stay: Option<StayNumbers>,
+    ) -> Numbers
         ensures { result ≡ given_slot moment self.now.window server stay before }
     {
         let (ahead, overtakers) = match stay {
@@ -242,7 +248,7 @@ impl Follower {
     }
 
     // Returns the grants of this window since a stay began.
-    fn grants_since(&self, stay: Stay) -> &[Given]
+    fn grants_since(&self, stay: StayNumbers) -> &[GrantNumbers]
         ensures { result.now ≡ grants_since self.now.window stay }
     {
         let given = self.given.as_slice();
@@ -254,7 +260,7 @@ impl Follower {
         }
     }
 
-    fn ahead(&self, stay: Stay) -> usize
+    fn ahead(&self, stay: StayNumbers) -> usize
         ensures { result ≡ following.ahead self.now.window stay }
     {
         self.grants_since(stay)
@@ -263,7 +269,7 @@ impl Follower {
             .count()
     }
 
-    fn overtakers(&self, came: Came, stay: Stay) -> usize
+    fn overtakers(&self, came: Came, stay: StayNumbers) -> usize
         ensures { result ≡ following.overtakers self.now.window came stay }
     {
         self.grants_since(stay)
@@ -288,7 +294,7 @@ impl Numbers {
     }
 }
 
-fn overtakes(queue: Queue, came: Came, given: &Given) -> bool
+fn overtakes(queue: Queue, came: Came, given: &GrantNumbers) -> bool
     ensures { result ≡ overtakes queue came given.now }
 {
     queue == given.queue && came.arrival.class == given.class && came.arrival.ticket < given.ticket

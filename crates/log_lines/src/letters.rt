@@ -7,7 +7,7 @@ use base_verdict::Cause;
 
 /// What ended an exchange early.
 #[derive(Clone, Copy, Debug, PartialEq, Eq)]
-pub enum By {
+pub enum EndedBy {
     /// Nothing: it came to its proper end.
     Nobody,
     /// Its client left, or its connection broke.
@@ -45,18 +45,18 @@ pub enum During {
 
 /// How an exchange ended.
 #[derive(Clone, Copy, Debug, PartialEq, Eq)]
-pub struct Ended {
-    pub by: By,
+pub struct ExchangeEnd {
+    pub by: EndedBy,
     pub during: During,
 }
 
-impl Ended {
+impl ExchangeEnd {
     /// Makes the proper end.
-    pub fn well() -> Ended
+    pub fn well() -> ExchangeEnd
         ensures { result ≡ letters.well }
     {
-        Ended {
-            by: By::Nobody,
+        ExchangeEnd {
+            by: EndedBy::Nobody,
             during: During::Nothing,
         }
     }
@@ -72,27 +72,27 @@ impl Ended {
 /// Returns why a request wasn't served, where its exchange ended so. The loops abort a request
 /// whose `timeout queue` expires and which began to wait before it had a place; it counts as timed
 /// out.
-pub fn cause_told(cause: Cause, ended: Ended) -> Cause
+pub fn cause_told(cause: Cause, ended: ExchangeEnd) -> Cause
     ensures { result ≡ letters.cause_told cause ended.by }
 {
-    if cause == Cause::Aborted && ended.by == By::ServerTime {
+    if cause == Cause::Aborted && ended.by == EndedBy::ServerTime {
         Cause::Timeout
     } else {
         cause
     }
 }
 
-fn by_letter(by: By) -> char
+fn by_letter(by: EndedBy) -> char
     ensures { result ≡ letters.by_letter by }
 {
     match by {
-        By::Nobody => '-',
-        By::Client => 'C',
-        By::ClientTime => 'c',
-        By::Server => 'S',
-        By::ServerTime => 's',
-        By::Proxy => 'P',
-        By::Shortage => 'R',
+        EndedBy::Nobody => '-',
+        EndedBy::Client => 'C',
+        EndedBy::ClientTime => 'c',
+        EndedBy::Server => 'S',
+        EndedBy::ServerTime => 's',
+        EndedBy::Proxy => 'P',
+        EndedBy::Shortage => 'R',
     }
 }
 

@@ -27,13 +27,13 @@ mod totals_json;
 
 pub use account::{Account, Asked, Moments};
 pub use dates::Dates;
-pub use events::{CheckFailure, Event, push_event};
+pub use events::{CheckFailure, ProxyEvent, push_event};
 pub use families::push_metrics;
 pub use fields::{Line, Load};
 pub use follower::Follower;
 pub use json::push_json;
-pub use letters::{By, During, Ended, cause_told};
-pub use numbers::{Given, Numbers, SlotNumbers, Stay};
+pub use letters::{During, EndedBy, ExchangeEnd, cause_told};
+pub use numbers::{GrantNumbers, Numbers, SlotNumbers, StayNumbers};
 pub use text::{Format, push_line, push_lost, push_text};
 pub use totals::{Lost, Proportions, ProxyNumbers};
 pub use totals_json::state_of;

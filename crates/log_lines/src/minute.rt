@@ -1,6 +1,6 @@
 ghost use Rattle.std.specs.Prelude.{◌≡◌, ◌+◌, ◌/◌, ◌<◌, Some, IfOk, replicate, slice_set};
 ghost use Rattle.std.specs.Option.{option_map_or};
-ghost use Rattle.log_lines.specs.Lateness.{capped, no_slot, with_slot, greater_lateness, held_of, place_of, second_at};
+ghost use Rattle.log_lines.specs.Lateness.{capped, no_slot, with_slot, greater_lateness, held_of, second_index, second_at};
 
 use std::alloc::{AllocError, Global};
 use std::marker::Model;
@@ -94,26 +94,26 @@ impl Minute {
 
     /// Counts a slot that was given at this moment, in milliseconds, this many milliseconds late.
     pub fn add(&mut self, moment: u64, lateness: i64)
-        ensures { self.new ≡ slice_set self.old (place_of (moment / 1000)) (with_slot (held_of (moment / 1000) (second_at self.old (place_of (moment / 1000)))) lateness) }
+        ensures { self.new ≡ slice_set self.old (second_index (moment / 1000)) (with_slot (held_of (moment / 1000) (second_at self.old (second_index (moment / 1000)))) lateness) }
     {
         let number = moment / 1000;
-        let place = place_of(number);
-        let second = self.at(place);
-        self.put(place, held_of(number, second).with(lateness));
+        let index = second_index(number);
+        let second = self.at(index);
+        self.put(index, held_of(number, second).with(lateness));
     }
 
-    fn at(&self, place: usize) -> Second
-        requires { place < 60 }
-        ensures { result ≡ second_at self.now place }
+    fn at(&self, index: usize) -> Second
+        requires { index < 60 }
+        ensures { result ≡ second_at self.now index }
     {
-        self.seconds[place]
+        self.seconds[index]
     }
 
-    fn put(&mut self, place: usize, second: Second)
-        requires { place < 60 }
-        ensures { self.new ≡ slice_set self.old place second }
+    fn put(&mut self, index: usize, second: Second)
+        requires { index < 60 }
+        ensures { self.new ≡ slice_set self.old index second }
     {
-        self.seconds[place] = second;
+        self.seconds[index] = second;
     }
 
     /// Returns the sum of the sixty seconds up to this moment, in milliseconds.
@@ -126,8 +126,8 @@ impl Minute {
 }
 
 // Returns the position of a second among sixty.
-fn place_of(number: u64) -> usize
-    ensures place { result ≡ place_of number }
+fn second_index(number: u64) -> usize
+    ensures index { result ≡ second_index number }
     ensures in_range { result < 60 }
 {
     (number % SECONDS as u64) as usize

@@ -8,7 +8,7 @@ use crate::account::Account;
 use crate::follower::Follower;
 use crate::letters::cause_told;
 use crate::numbers::{Numbers, SlotNumbers};
-use crate::queued::Queued;
+use crate::queued::QueueKeys;
 use crate::totals::{ClassNumbers, Lost, ProxyNumbers, Refused};
 use base_verdict::Cause;
 use due_key::Key;
@@ -206,7 +206,7 @@ impl ProxyNumbers {
         }
     }
 
-    fn queue(&mut self, queue: Queue) -> Option<&mut Queued> {
+    fn queue(&mut self, queue: Queue) -> Option<&mut QueueKeys> {
         let number = match queue {
             Queue::Backend => 0,
             Queue::Server(server) => server.saturating_add(1),

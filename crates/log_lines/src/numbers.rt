@@ -9,7 +9,7 @@ use log_stretches::Came;
 
 /// A grant of a slot to a request that waited.
 #[derive(Clone, Copy, Debug, PartialEq, Eq)]
-pub struct Given {
+pub struct GrantNumbers {
     pub queue: Queue,
     pub class: Class,
     pub ticket: u64,
@@ -17,7 +17,7 @@ pub struct Given {
 
 /// A stay in a queue.
 #[derive(Clone, Copy, Debug, PartialEq, Eq)]
-pub struct Stay {
+pub struct StayNumbers {
     pub queue: Queue,
     /// The number of the window in which it began.
     pub window: u64,
@@ -33,7 +33,7 @@ pub struct SlotNumbers {
     /// The number of the window in which it was given.
     pub window: u64,
     /// The stay that it ended; `None` where the request didn't wait for it.
-    pub stay: Option<Stay>,
+    pub stay: Option<StayNumbers>,
     /// The number of slots that requests of the same queue got during the stay, within the window of the slot.
     pub ahead: usize,
     /// The number of those among them that were of the same class and came later.
@@ -49,7 +49,7 @@ pub struct Numbers {
     /// The number of slots that it was given: more than one only by redispatch.
     pub slots: u32,
     /// Its present stay, where it waits.
-    pub stay: Option<Stay>,
+    pub stay: Option<StayNumbers>,
     /// The last slot that it was given.
     pub slot: Option<SlotNumbers>,
     /// Why it wasn't served.

@@ -5,15 +5,15 @@ use std::collections::BTreeSet;
 
 /// The waiting requests of a queue in its order, and how many of each class.
 #[derive(Drop)]
-pub(crate) struct Queued {
+pub(crate) struct QueueKeys {
     keys: BTreeSet<Key>,
     classes: Tally,
 }
 
-impl Queued {
+impl QueueKeys {
     /// Makes an empty queue.
-    pub fn new(alloc: Global) -> Queued {
-        Queued {
+    pub fn new(alloc: Global) -> QueueKeys {
+        QueueKeys {
             keys: BTreeSet::new(alloc),
             classes: Tally::new(alloc),
         }

@@ -2,7 +2,7 @@ ghost use Rattle.std.specs.Prelude.{◌≡◌, true};
 
 use crate::histogram::{Histogram, LATENESS, WAITS};
 use crate::minute::Minute;
-use crate::queued::Queued;
+use crate::queued::QueueKeys;
 use crate::server::ServerNumbers;
 use crate::tally::Tally;
 use log_entries::Intake;
@@ -62,7 +62,7 @@ pub struct ProxyNumbers {
     /// In file order.
     pub(crate) servers: Vec<ServerNumbers>,
     /// The backend's queue, then those of the servers.
-    pub(crate) queues: Vec<Queued>,
+    pub(crate) queues: Vec<QueueKeys>,
     pub(crate) classes: BTreeMap<i64, ClassNumbers>,
     /// The exchanges without a server, by status; -1 for none.
     pub(crate) unserved: Tally,
@@ -90,10 +90,10 @@ impl ProxyNumbers {
     ) -> Result<ProxyNumbers, AllocError> {
         let mut servers = Vec::with_capacity(alloc, limits.len())?;
         let mut queues = Vec::new(alloc);
-        queues.push(Queued::new(alloc))?;
+        queues.push(QueueKeys::new(alloc))?;
         for limit in limits {
             servers.push(ServerNumbers::new(alloc, Intake::Open(*limit)))?;
-            queues.push(Queued::new(alloc))?;
+            queues.push(QueueKeys::new(alloc))?;
         }
         Ok(ProxyNumbers {
             alloc,

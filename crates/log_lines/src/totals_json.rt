@@ -2,7 +2,7 @@
 
 use crate::families::queue_name;
 use crate::minute::Second;
-use crate::queued::Queued;
+use crate::queued::QueueKeys;
 use crate::server::ServerNumbers;
 use crate::totals::{ClassNumbers, ProxyNumbers};
 use due_key::Moment;
@@ -16,7 +16,7 @@ const MOST_SHOWN: usize = 50;
 
 /// A server. `None` as the limit: it is closed; 0: no limit.
 #[derive(Drop, Serialize)]
-struct Server<'a> {
+struct ServerObject<'a> {
     name: &'a str,
     up: bool,
     limit: Option<u32>,
@@ -34,7 +34,7 @@ struct Waiter {
 }
 
 #[derive(Drop, Serialize)]
-struct Queue<'a> {
+struct QueueObject<'a> {
     name: &'a str,
     waiting: usize,
     next: Vec<Waiter>,
@@ -42,7 +42,7 @@ struct Queue<'a> {
 
 /// The slots of a class in the last minute.
 #[derive(Drop, Serialize)]
-struct Class {
+struct ClassObject {
     class: i64,
     slots: u64,
     late: u64,
@@ -59,9 +59,9 @@ struct State<'a> {
     entries: u64,
     most_entries: usize,
     windows: u64,
-    servers: Vec<Server<'a>>,
-    queues: Vec<Queue<'a>>,
-    minute: Vec<Class>,
+    servers: Vec<ServerObject<'a>>,
+    queues: Vec<QueueObject<'a>>,
+    minute: Vec<ClassObject>,
 }
 
 /// Returns the numbers at this moment as one JSON value, on one line. It has the first fifty
@@ -99,16 +99,16 @@ fn servers_of<'a>(
     alloc: Global,
     names: &'a Names,
     numbers: &ProxyNumbers,
-) -> Result<Vec<Server<'a>>, AllocError> {
+) -> Result<Vec<ServerObject<'a>>, AllocError> {
     let mut servers = Vec::with_capacity(alloc, numbers.servers.len())?;
-    for (place, server) in numbers.servers.iter().enumerate() {
-        servers.push(server_of(names.of(place), server))?;
+    for (number, server) in numbers.servers.iter().enumerate() {
+        servers.push(server_of(names.of(number), server))?;
     }
     Ok(servers)
 }
 
-fn server_of<'a>(name: &'a str, server: &ServerNumbers) -> Server<'a> {
-    Server {
+fn server_of<'a>(name: &'a str, server: &ServerNumbers) -> ServerObject<'a> {
+    ServerObject {
         name,
         up: server.up,
         limit: match server.intake {
@@ -125,11 +125,11 @@ fn queues_of<'a>(
     alloc: Global,
     names: &'a Names,
     numbers: &ProxyNumbers,
-) -> Result<Vec<Queue<'a>>, AllocError> {
+) -> Result<Vec<QueueObject<'a>>, AllocError> {
     let mut queues = Vec::with_capacity(alloc, numbers.queues.len())?;
-    for (place, queue) in numbers.queues.iter().enumerate() {
-        queues.push(Queue {
-            name: queue_name(names, place),
+    for (number, queue) in numbers.queues.iter().enumerate() {
+        queues.push(QueueObject {
+            name: queue_name(names, number),
             waiting: queue.keys().len(),
             next: next_of(alloc, queue)?,
         })?;
@@ -137,7 +137,7 @@ fn queues_of<'a>(
     Ok(queues)
 }
 
-fn next_of(alloc: Global, queue: &Queued) -> Result<Vec<Waiter>, AllocError> {
+fn next_of(alloc: Global, queue: &QueueKeys) -> Result<Vec<Waiter>, AllocError> {
     let mut next = Vec::new(alloc);
     for key in queue.keys().iter().take(MOST_SHOWN) {
         next.push(Waiter {
@@ -153,7 +153,7 @@ fn minute_of(
     alloc: Global,
     numbers: &ProxyNumbers,
     moment: Moment,
-) -> Result<Vec<Class>, AllocError> {
+) -> Result<Vec<ClassObject>, AllocError> {
     let mut classes = Vec::new(alloc);
     for (class, told) in numbers.classes.iter() {
         classes.push(class_of(*class, told, moment))?;
@@ -161,14 +161,14 @@ fn minute_of(
     Ok(classes)
 }
 
-fn class_of(class: i64, told: &ClassNumbers, moment: Moment) -> Class {
+fn class_of(class: i64, told: &ClassNumbers, moment: Moment) -> ClassObject {
     let Second {
         slots,
         late,
         worst,
         ..
     } = told.minute.sum(moment.get());
-    Class {
+    ClassObject {
         class,
         slots,
         late,

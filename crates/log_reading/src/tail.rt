@@ -42,7 +42,8 @@ impl Model for Tail {
 impl Batch {
     /// Makes an empty batch for a tail with room for this number of entries.
     pub fn with_room(alloc: Global, room: usize) -> Result<Batch, AllocError>
-        ensures { IfOk result (λ batch. (batch.entries.items ≡ []) × (room ≤ vec_capacity batch.entries)) }
+        ensures none { IfOk result (λ batch. (batch.entries.items ≡ []) × (batch.end ≡ None) × (batch.lost ≡ None)) }
+        ensures room { IfOk result (λ batch. room ≤ vec_capacity batch.entries) }
     {
         Ok(Batch {
             entries: Vec::with_capacity(alloc, room)?,

@@ -9,6 +9,6 @@ mod tallies;
 #[cfg(test)]
 mod tests;
 
-pub use log::{Access, Extent, Logs, RequestLog, Teller};
+pub use log::{Access, Extent, Logs, RecordSink, RequestLog};
 pub use log_lines::CheckFailure;
-pub use scribe::{Scribe, Site, base_of};
+pub use scribe::{LogSubject, Scribe, base_of};

@@ -43,7 +43,7 @@ pub struct RequestLog {
     pub(crate) access: Option<Access>,
     pub(crate) events: Option<Arc<Sink>>,
     numbers: Option<Mutex<ProxyNumbers>>,
-    rings: Mutex<Vec<Producer<Told>>>,
+    rings: Mutex<Vec<Producer<NumberedRecord>>>,
     /// The number of records so far, with those that found no room.
     told: AtomicU64,
     scribe: Mutex<Option<Scribe>>,
@@ -62,18 +62,18 @@ pub struct RequestLog {
 
 /// A record of an ended exchange, and the number of records before it, by any loop.
 #[derive(Drop)]
-pub(crate) struct Told {
+pub(crate) struct NumberedRecord {
     pub(crate) number: u64,
     pub(crate) account: Box<Account>,
 }
 
 /// The receiving ends of the rings.
-pub(crate) type Ends = Vec<Consumer<Told>>;
+pub(crate) type Ends = Vec<Consumer<NumberedRecord>>;
 
 /// The sink for a loop's records.
 #[derive(Drop)]
-pub struct Teller<'a> {
-    ring: Producer<Told>,
+pub struct RecordSink<'a> {
+    ring: Producer<NumberedRecord>,
     log: &'a RequestLog,
 }
 
@@ -124,10 +124,10 @@ impl RequestLog {
     }
 
     /// Takes the sink for a loop's records. `None` where no lines are wanted, or all are taken.
-    pub fn teller<R: Wait>(&self, rt: &R) -> Option<Teller<'_>> {
+    pub fn teller<R: Wait>(&self, rt: &R) -> Option<RecordSink<'_>> {
         let popped = self.rings.lock(rt).pop();
         let ring = popped?;
-        Some(Teller { ring, log: self })
+        Some(RecordSink { ring, log: self })
     }
 
     /// Returns the counters, where they are wanted. The counting thread waits while the guard is held.
@@ -230,17 +230,20 @@ impl RequestLog {
     }
 }
 
-impl Teller<'_> {
+impl RecordSink<'_> {
     /// Hands on the record of an ended exchange. Where its ring is full it is only counted; no thread waits.
     pub fn account_for(&mut self, account: Box<Account>) {
         let number = self.log.told.fetch_add(1, Ordering::SeqCst);
-        if self.ring.push(Told { number, account }).is_err() {
+        if self.ring.push(NumberedRecord { number, account }).is_err() {
             self.log.lost.fetch_add(1, Ordering::SeqCst);
         }
     }
 }
 
-fn rings_of(alloc: Global, count: usize) -> Result<(Vec<Producer<Told>>, Ends), AllocError> {
+fn rings_of(
+    alloc: Global,
+    count: usize,
+) -> Result<(Vec<Producer<NumberedRecord>>, Ends), AllocError> {
     let mut rings = Vec::new(alloc);
     let mut ends = Vec::new(alloc);
     for _ in 0..count {

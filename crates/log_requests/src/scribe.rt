@@ -1,9 +1,10 @@
 use crate::log::{Access, Ends, Extent, RequestLog};
 use crate::tallies::Tallies;
-use grant_board::BoardName;
+use locked_book::DeskName;
 use log_entries::Entry;
 use log_lines::{
-    Account, Dates, Event, Follower, Line, Load, Lost, Numbers, push_event, push_line, push_lost,
+    Account, Dates, Follower, Line, Load, Lost, Numbers, ProxyEvent, push_event, push_line,
+    push_lost,
 };
 use log_reading::Batch;
 use log_texts::Names;
@@ -63,7 +64,7 @@ pub fn base_of<R: Clock>(rt: &R, start: Instant) -> i64 {
 
 /// The proxy that the logs are about.
 #[derive(Clone, Copy)]
-pub struct Site<'a> {
+pub struct LogSubject<'a> {
     /// The names of its servers.
     pub names: &'a Names,
     /// The address where clients connect.
@@ -90,21 +91,21 @@ impl Scribe {
     }
 
     /// Writes the lines of a desk's log, until all loops have ended and all is written.
-    pub fn write_all<N: BoardName, R: Clock + Wait>(
+    pub fn write_all<N: DeskName, R: Clock + Wait>(
         self,
         rt: &R,
         log: &RequestLog,
         desk: &Desk<N>,
-        site: Site<'_>,
+        site: LogSubject<'_>,
     ) {
-        let Site { names, address } = site;
+        let LogSubject { names, address } = site;
         let mut scribe = self;
         if desk.follow(rt, scribe.alloc, TAIL).is_err() {
             return;
         }
-        scribe.say(rt, log, names, Event::Started);
+        scribe.say(rt, log, names, ProxyEvent::Started);
         if let Some(address) = address {
-            scribe.say(rt, log, names, Event::Listening(address));
+            scribe.say(rt, log, names, ProxyEvent::Listening(address));
         }
         for _ in rt.forever() {
             let is_last = log.is_over();
@@ -118,12 +119,12 @@ impl Scribe {
             }
             thread::sleep(rt, Duration::from_millis(PAUSE));
         }
-        scribe.say(rt, log, names, Event::Stopped);
+        scribe.say(rt, log, names, ProxyEvent::Stopped);
         log.note_untold(scribe.lost, scribe.unsaid);
     }
 
     // Writes what has happened since the last call. Returns true where there may be more already.
-    fn go_on<N: BoardName, R: Clock + Wait>(
+    fn go_on<N: DeskName, R: Clock + Wait>(
         &mut self,
         rt: &R,
         log: &RequestLog,
@@ -175,7 +176,7 @@ impl Scribe {
     }
 
     // Takes the new entries of the dispatcher's log.
-    fn take_in<N: BoardName, R: Clock + Wait>(
+    fn take_in<N: DeskName, R: Clock + Wait>(
         &mut self,
         rt: &R,
         log: &RequestLog,
@@ -185,14 +186,14 @@ impl Scribe {
         let end = self.batch.end;
         for number in 0..self.batch.entries.len() {
             if end == Some(number) {
-                self.turn(rt, log, names);
+                self.begin_next_window(rt, log, names);
             }
             if let Some(entry) = self.batch.entries.get(number).copied() {
                 self.take_entry(rt, log, names, &entry);
             }
         }
         if end == Some(self.batch.entries.len()) {
-            self.turn(rt, log, names);
+            self.begin_next_window(rt, log, names);
         }
         if let Some(ends) = self.batch.lost {
             self.forget(rt, log, ends);
@@ -200,7 +201,7 @@ impl Scribe {
                 self.follower.roll();
             }
             self.tallies.set_anew(rt, desk);
-            self.say(rt, log, names, Event::Gap);
+            self.say(rt, log, names, ProxyEvent::Gap);
         }
     }
 
@@ -212,13 +213,13 @@ impl Scribe {
         }
     }
 
-    fn turn<R: Clock + Wait>(&mut self, rt: &R, log: &RequestLog, names: &Names) {
+    fn begin_next_window<R: Clock + Wait>(&mut self, rt: &R, log: &RequestLog, names: &Names) {
         let number = self.follower.window();
         self.follower.roll();
         if let Some(mut numbers) = log.numbers(rt) {
             numbers.roll();
         }
-        self.say(rt, log, names, Event::Window(number));
+        self.say(rt, log, names, ProxyEvent::Window(number));
     }
 
     fn take_entry<R: Clock + Wait>(
@@ -242,7 +243,7 @@ impl Scribe {
             Entry::Health(server, up) => {
                 let checks = self.tallies.checks(server);
                 let failure = log.failure_of(rt, server);
-                let event = Event::Health {
+                let event = ProxyEvent::Health {
                     server,
                     up,
                     checks,
@@ -251,7 +252,7 @@ impl Scribe {
                 self.say(rt, log, names, event);
             }
             Entry::Limit(_, server, intake) => {
-                self.say(rt, log, names, Event::Limit { server, intake });
+                self.say(rt, log, names, ProxyEvent::Limit { server, intake });
             }
             _ => {}
         }
@@ -265,15 +266,15 @@ impl Scribe {
         let now = self.now(rt);
         if let Some((queue, waits)) = self.tallies.take_change(now) {
             let event = if waits {
-                Event::Fills(queue)
+                ProxyEvent::Fills(queue)
             } else {
-                Event::Empties(queue)
+                ProxyEvent::Empties(queue)
             };
             self.say(rt, log, names, event);
         }
         if !self.stopping && log.is_stopping() {
             self.stopping = true;
-            self.say(rt, log, names, Event::Stopping);
+            self.say(rt, log, names, ProxyEvent::Stopping);
         }
     }
 
@@ -295,7 +296,7 @@ impl Scribe {
         let before = self.lost;
         let untold = log.take_lost();
         match &log.access {
-            None => self.pass_over(rt),
+            None => self.drop_records(rt),
             Some(access) => {
                 let unwritten = access.sink.take_lost(rt);
                 self.lost = self.lost.saturating_add(unwritten).saturating_add(untold);
@@ -316,7 +317,7 @@ impl Scribe {
     }
 
     // Drops the records, where no lines of exchanges are wanted.
-    fn pass_over<R: Wait>(&mut self, rt: &R) {
+    fn drop_records<R: Wait>(&mut self, rt: &R) {
         for _ in rt.forever() {
             let Some(account) = self.accounts.pop_front() else {
                 break;
@@ -405,7 +406,7 @@ impl Scribe {
         }
     }
 
-    fn say<R: Clock + Wait>(&mut self, rt: &R, log: &RequestLog, names: &Names, event: Event) {
+    fn say<R: Clock + Wait>(&mut self, rt: &R, log: &RequestLog, names: &Names, event: ProxyEvent) {
         let Some(sink) = &log.events else {
             return;
         };
@@ -413,7 +414,7 @@ impl Scribe {
         self.unsaid = self.unsaid.saturating_add(missed);
         if self.unsaid != 0
             && !sink.is_failing(rt)
-            && self.makes(rt, names, Event::Lost(self.unsaid))
+            && self.makes(rt, names, ProxyEvent::Lost(self.unsaid))
         {
             if sink.add_tally(rt, self.text.as_str(), self.unsaid) {
                 self.unsaid = 0;
@@ -433,7 +434,7 @@ impl Scribe {
     }
 
     // Makes the line of an event. False where there is no memory for it.
-    fn makes<R: Clock>(&mut self, rt: &R, names: &Names, event: Event) -> bool {
+    fn makes<R: Clock>(&mut self, rt: &R, names: &Names, event: ProxyEvent) -> bool {
         let now = self.now(rt);
         self.text.clear();
         push_event(&mut self.text, &mut self.dates, names, now, event).is_ok()

@@ -1,6 +1,6 @@
 //! The counts that are kept while a dispatcher's log is read.
 
-use grant_board::BoardName;
+use locked_book::DeskName;
 use log_entries::{Entry, Queue};
 use log_lines::Follower;
 use shared_desk::Desk;
@@ -9,17 +9,17 @@ use std::sync::Wait;
 
 /// The last results of a server's checks, as far as they are equal.
 #[derive(Clone, Copy)]
-struct Run {
+struct ResultStreak {
     ok: bool,
     checks: u32,
 }
 
-/// The number of requests that wait in a queue, and the last report on it.
+/// The number of requests that wait in a queue, and the last line on it.
 #[derive(Clone, Copy)]
-struct Length {
+struct QueueLength {
     waiting: usize,
     told: bool,
-    /// When that report was made; `None` where there was none.
+    /// When that line was written; `None` where there was none.
     since: Option<u64>,
 }
 
@@ -27,12 +27,12 @@ struct Length {
 #[derive(Drop)]
 pub(crate) struct Tallies {
     served: Vec<usize>,
-    runs: Vec<Run>,
+    runs: Vec<ResultStreak>,
     /// The backend's queue, then those of the servers.
-    lengths: Vec<Length>,
+    lengths: Vec<QueueLength>,
 }
 
-/// The least time between two reports on a queue, in milliseconds.
+/// The least time between two lines on a queue, in milliseconds.
 const SELDOM: u64 = 1000;
 
 impl Tallies {
@@ -41,14 +41,14 @@ impl Tallies {
         let mut served = Vec::new(alloc);
         let mut runs = Vec::new(alloc);
         let mut lengths = Vec::new(alloc);
-        lengths.push(Length::new())?;
+        lengths.push(QueueLength::new())?;
         for _ in 0..servers {
             served.push(0)?;
-            runs.push(Run {
+            runs.push(ResultStreak {
                 ok: true,
                 checks: 0,
             })?;
-            lengths.push(Length::new())?;
+            lengths.push(QueueLength::new())?;
         }
         Ok(Tallies {
             served,
@@ -59,7 +59,7 @@ impl Tallies {
 
     /// Replaces the counts by what a desk says, where entries of its log weren't read. What the
     /// desk does at the same time may be counted twice or not at all.
-    pub(crate) fn set_anew<N: BoardName, R: Wait>(&mut self, rt: &R, desk: &Desk<N>) {
+    pub(crate) fn set_anew<N: DeskName, R: Wait>(&mut self, rt: &R, desk: &Desk<N>) {
         for (server, served) in self.served.as_mut_slice().iter_mut().enumerate() {
             *served = desk.served(rt, server);
         }
@@ -168,9 +168,9 @@ impl Tallies {
     }
 }
 
-impl Length {
-    fn new() -> Length {
-        Length {
+impl QueueLength {
+    fn new() -> QueueLength {
+        QueueLength {
             waiting: 0,
             told: false,
             since: None,

@@ -12,7 +12,7 @@ pub struct Pending {
     waiting: u64,
     at_writer: u64,
     /// The line that reports lost lines, where the text has one, and its position there.
-    tally: Option<Tally>,
+    tally: Option<LostNotice>,
     lost: u64,
     fails: bool,
     reopens: bool,
@@ -22,7 +22,7 @@ pub struct Pending {
 
 /// A line that reports how many lines were lost: where it is lost itself, that many are lost again.
 #[derive(Clone, Copy, Debug, PartialEq, Eq)]
-pub struct Tally {
+pub struct LostNotice {
     /// Its position in the text, in bytes.
     pub at: usize,
     pub lost: u64,
@@ -33,8 +33,8 @@ pub struct Tally {
 pub enum Next {
     /// It opens its file again.
     Reopens,
-    /// It writes; the text may contain a report of lost lines.
-    Writes(Option<Tally>),
+    /// It writes; the text may contain a notice of lost lines.
+    Writes(Option<LostNotice>),
     /// It ends: no more lines come.
     Ends,
 }
@@ -83,7 +83,7 @@ impl Pending {
         let at = self.text.len();
         let added = self.add(line, 1);
         if added {
-            self.tally = Some(Tally { at, lost });
+            self.tally = Some(LostNotice { at, lost });
         }
         added
     }
@@ -159,7 +159,7 @@ impl Pending {
 }
 
 /// Returns how many lines of a text were lost, of which `kept` bytes, whole lines, were written.
-pub(crate) fn lost_of(lines: &str, kept: usize, tally: Option<Tally>) -> u64 {
+pub(crate) fn lost_of(lines: &str, kept: usize, tally: Option<LostNotice>) -> u64 {
     let rest = match lines.as_bytes().get(kept..) {
         Some(rest) => rest.iter().filter(|byte| **byte == b'\n').count() as u64,
         None => 0,

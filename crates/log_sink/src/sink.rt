@@ -77,10 +77,10 @@ impl Sink {
         let mut pending = self.pending.lock(rt);
         pending.end();
         self.bell.notify_all();
-        let limit = Duration::from_millis(PATIENCE);
+        let patience = Duration::from_millis(PATIENCE);
         let (pending, _) = self
             .through
-            .wait_timeout_while(rt, pending, limit, |pending| pending.is_writing());
+            .wait_timeout_while(rt, pending, patience, |pending| pending.is_writing());
         pending.unwritten()
     }
 

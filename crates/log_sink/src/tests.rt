@@ -1,5 +1,5 @@
 use crate::Pending;
-use crate::pending::{Next, Tally, lost_of};
+use crate::pending::{LostNotice, Next, lost_of};
 
 #[test]
 fn what_finds_no_room_is_left_out(rt: HostRuntime) {
@@ -34,7 +34,7 @@ fn a_count_that_is_lost_counts_again(rt: HostRuntime) {
     assert!(rt; pending.add("two\n", 1));
     assert_eq!(rt; pending.unwritten(), 9);
     let mut text = String::new(rt.alloc());
-    let tally = Some(Tally { at: 4, lost: 7 });
+    let tally = Some(LostNotice { at: 4, lost: 7 });
     assert_eq!(rt; pending.next(&mut text), Next::Writes(tally));
     assert_eq!(rt; lost_of(text.as_str(), 4, tally), 8);
     assert_eq!(rt; lost_of(text.as_str(), 11, tally), 1);

@@ -17,7 +17,7 @@ service_at log stretch (Server server) = option_map (λ came. record {
   class = came.arrival.class;
   due = came.arrival.due;
   came = came.moment;
-  slot = moment_at log stretch.from;
+  slot_moment = moment_at log stretch.from;
   server = server;
 }) (came_in log stretch.ticket)
 

@@ -17,7 +17,7 @@ pub struct Served {
     pub due: Due,
     pub came: Moment,
     /// When it got its slot.
-    pub slot: Moment,
+    pub slot_moment: Moment,
     pub server: usize,
 }
 
@@ -45,7 +45,7 @@ fn service_in(course: &Course, stretch: &Stretch) -> Option<Served>
         class: came.arrival.class,
         due: came.arrival.due,
         came: came.moment,
-        slot: course.moment(stretch.from),
+        slot_moment: course.moment(stretch.from),
         server,
     })
 }

@@ -9,7 +9,7 @@ use log_entries::{Entry, Queue};
 use std::alloc::{AllocError, Global};
 use std::collections::BTreeMap;
 
-/// The place of a request: a queue or a server.
+/// Where a request is: in a queue, or at a server.
 #[derive(Clone, Copy, Debug, PartialEq, Eq)]
 pub enum Lane {
     /// It waits in this queue.
@@ -29,11 +29,11 @@ pub struct Stretch {
     pub to: Option<usize>,
 }
 
-/// The place that an entry gives a request.
+/// The lane that an entry gives a request.
 #[derive(Clone, Copy)]
 pub(crate) struct Placing {
     pub(crate) ticket: u64,
-    /// The place from then on; `None` where there is none any more.
+    /// The lane from then on; `None` where there is none any more.
     pub(crate) lane: Option<Lane>,
 }
 

@@ -50,7 +50,7 @@ impl Names {
     pub fn find(&self, name: &Name) -> Option<usize>
         ensures { result ≡ position (bytes_eq name.now) self.now }
     {
-        place_of(&self.list, name.as_str())
+        name_index(&self.list, name.as_str())
     }
 
     /// Returns the number that a name means in a pin or in a check: its server's, and where no
@@ -78,7 +78,7 @@ impl Names {
     }
 }
 
-fn place_of(names: &[String], text: &str) -> Option<usize>
+fn name_index(names: &[String], text: &str) -> Option<usize>
     ensures { result ≡ position (λ name. bytes_eq text.now (string_bytes name)) names.now }
 {
     names.iter().position(|name| text == name.as_str())

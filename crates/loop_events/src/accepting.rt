@@ -4,7 +4,7 @@ use crate::guest::Visit;
 use crate::looping::Looper;
 use exchange_driver::{Line, Live};
 use exchange_seated::Linked;
-use grant_board::BoardName;
+use locked_book::DeskName;
 use std::io::ErrorKind;
 use std::net::{Net, SocketAddr, TcpListener, TcpStream};
 use std::sync::Wait;
@@ -16,10 +16,10 @@ const BURST: usize = 64;
 
 impl<
     'a,
-    N: BoardName + Ledger,
+    N: DeskName + Ledger,
     R: Net<Listener = TcpListener, Stream = TcpStream> + Clock + Print + Wait,
 > Looper<'a, N, R> {
-    /// Accepts clients that wait at the listener. Where descriptors, slots or memory are short it
+    /// Accepts clients that wait at the listener. Where descriptors, cells or memory are short it
     /// stops, and tries again soon.
     pub(crate) fn accept_some(&mut self) {
         for _ in 0..BURST {
@@ -65,7 +65,7 @@ impl<
         let mut presence = presence;
         self.begin_account(&mut presence, &line, Some(address));
         let visit = Visit::new(presence, line);
-        let then = self.seat(Linked::new(alloc), visit, hole);
+        let then = self.as_guest(Linked::new(alloc), visit, hole);
         self.go(then);
         self.go_on();
     }

@@ -5,10 +5,10 @@ use crate::looping::Looper;
 use base_verdict::Cause;
 use dispatch_state::Ticketed;
 use exchange_driver::{Line, Live};
-use exchange_events::Clock as Limit;
+use exchange_events::TimeoutKind;
 use exchange_seated::{Notice, Stage};
-use grant_board::BoardName;
-use log_lines::{Account, Asked, By, During};
+use locked_book::DeskName;
+use log_lines::{Account, Asked, During, EndedBy};
 use loop_shared::{Gate, Presence};
 use prio_rules::Wish;
 use req_view::{Version, View};
@@ -20,7 +20,7 @@ use std::time::Clock;
 
 impl<
     'a,
-    N: BoardName + Ledger,
+    N: DeskName + Ledger,
     R: Net<Listener = TcpListener, Stream = TcpStream> + Clock + Print + Wait,
 > Looper<'a, N, R> {
     /// Begins the record of an exchange at this client, on this line. There is none where no lines
@@ -88,13 +88,19 @@ impl<
         };
         match notice {
             Notice::Connected(_) => account.moments.connected = Some(self.gate.moment()),
-            Notice::Unserved => account.end_by(By::Shortage, During::Queue),
-            Notice::Unreachable => account.end_by(By::Server, During::Connect),
-            Notice::ClientEnd | Notice::ClientFailed => account.end_by(By::Client, during),
-            Notice::TimeOver(Limit::Client) => account.end_by(By::ClientTime, during),
-            Notice::TimeOver(Limit::Queue) => account.end_by(By::ServerTime, During::Queue),
-            Notice::TimeOver(Limit::Connect) => account.end_by(By::ServerTime, During::Connect),
-            Notice::TimeOver(Limit::Server) => account.end_by(By::ServerTime, during),
+            Notice::Unserved => account.end_by(EndedBy::Shortage, During::Queue),
+            Notice::Unreachable => account.end_by(EndedBy::Server, During::Connect),
+            Notice::ClientEnd | Notice::ClientFailed => account.end_by(EndedBy::Client, during),
+            Notice::TimeOver(TimeoutKind::Client) => account.end_by(EndedBy::ClientTime, during),
+            Notice::TimeOver(TimeoutKind::Queue) => account.end_by(
+                EndedBy::ServerTime,
+                During::Queue,
+            ),
+            Notice::TimeOver(TimeoutKind::Connect) => account.end_by(
+                EndedBy::ServerTime,
+                During::Connect,
+            ),
+            Notice::TimeOver(TimeoutKind::Server) => account.end_by(EndedBy::ServerTime, during),
         }
     }
 
@@ -103,7 +109,7 @@ impl<
         &mut self,
         presence: &mut Presence,
         client: &Line<Live>,
-        by: By,
+        by: EndedBy,
         during: Option<During>,
     ) {
         let Some(mut account) = presence.account.take() else {
@@ -119,7 +125,7 @@ impl<
         self.tell_of(account);
     }
 
-    /// Ends the records of all exchanges in this loop's slots, when the proxy ends.
+    /// Ends the records of all exchanges in this loop's cells, when the proxy ends.
     pub(crate) fn tell_of_rest(&mut self) {
         if self.teller.is_none() {
             return;
@@ -139,7 +145,7 @@ impl<
         let mut resident = resident;
         if let Resident::Guest(guest) = &mut resident {
             let Guest { visit, .. } = &mut **guest;
-            self.tell_end(&mut visit.presence, &visit.client, By::Proxy, None);
+            self.tell_end(&mut visit.presence, &visit.client, EndedBy::Proxy, None);
         }
         self.lay(resident, hole);
     }
@@ -151,7 +157,7 @@ impl<
             return;
         }
         if account.asked.is_none() && account.status == Some(400) {
-            account.end_by(By::Proxy, During::Request);
+            account.end_by(EndedBy::Proxy, During::Request);
         }
         account.moments.ended = self.gate.moment();
         account.clients = self.shared.clients();
@@ -188,10 +194,13 @@ pub(crate) fn note_ticket(presence: &mut Presence, at: Ticketed) {
 pub(crate) fn note_cause(presence: &mut Presence, cause: Cause, gone: bool, stops: bool) {
     if let Some(account) = &mut presence.account {
         match cause {
-            Cause::Aborted if gone => account.end_by(By::Client, During::Queue),
-            Cause::Aborted | Cause::Timeout if stops => account.end_by(By::Proxy, During::Queue),
-            Cause::Aborted | Cause::Timeout => account.end_by(By::ServerTime, During::Queue),
-            Cause::Retries | Cause::NoServer => account.end_by(By::Server, During::Connect),
+            Cause::Aborted if gone => account.end_by(EndedBy::Client, During::Queue),
+            Cause::Aborted | Cause::Timeout if stops => account.end_by(
+                EndedBy::Proxy,
+                During::Queue,
+            ),
+            Cause::Aborted | Cause::Timeout => account.end_by(EndedBy::ServerTime, During::Queue),
+            Cause::Retries | Cause::NoServer => account.end_by(EndedBy::Server, During::Connect),
         }
     }
 }
@@ -199,7 +208,11 @@ pub(crate) fn note_cause(presence: &mut Presence, cause: Cause, gone: bool, stop
 /// Notes that the request gets no place, since it waited too long, or since the proxy stops.
 pub(crate) fn note_refused(presence: &mut Presence, stops: bool) {
     if let Some(account) = &mut presence.account {
-        let by = if stops { By::Proxy } else { By::ServerTime };
+        let by = if stops {
+            EndedBy::Proxy
+        } else {
+            EndedBy::ServerTime
+        };
         account.end_by(by, During::Queue);
     }
 }
@@ -220,7 +233,7 @@ pub(crate) fn note_unanswered(visit: &mut Visit) {
     if let Some(account) = &mut presence.account {
         learn(account, client);
         let during = account.under_way();
-        account.end_by(By::Server, during);
+        account.end_by(EndedBy::Server, during);
     }
 }
 

@@ -7,9 +7,9 @@ use base_places::{MOST_PLACES, PlaceSet};
 use dispatch_state::Ticketed;
 use due_key::Moment;
 use exchange_seated::Linked;
-use grant_board::BoardName;
-use log_lines::{By, During};
-use loop_shared::{Gate, Outsider, Parked, Turn};
+use locked_book::DeskName;
+use log_lines::{During, EndedBy};
+use loop_shared::{Admission, Gate, Outsider, Parked};
 use loop_table::Token;
 use prio_rules::Wish;
 use std::net::{Net, TcpListener, TcpStream};
@@ -19,7 +19,7 @@ use std::time::Clock;
 
 impl<
     'a,
-    N: BoardName + Ledger,
+    N: DeskName + Ledger,
     R: Net<Listener = TcpListener, Stream = TcpStream> + Clock + Print + Wait,
 > Looper<'a, N, R> {
     /// Gives places to the requests that wait for one, in the order of those outside, as long as there are places.
@@ -29,9 +29,9 @@ impl<
                 return;
             }
             match self.shared.admit_first(self.rt, &mut self.gate) {
-                Turn::Rests => return,
-                Turn::Admitted(outsider, at) => self.lay_down(outsider, at),
-                Turn::Refused(outsider) => self.refuse(outsider),
+                Admission::Rests => return,
+                Admission::Admitted(outsider, at) => self.lay_down(outsider, at),
+                Admission::Refused(outsider) => self.refuse(outsider),
             }
         }
     }
@@ -85,12 +85,12 @@ impl<
         let mut presence = presence;
         note_refused(&mut presence, self.shared.is_refusing());
         let Some(hole) = self.guests.open() else {
-            self.tell_end(&mut presence, &client, By::Shortage, None);
+            self.tell_end(&mut presence, &client, EndedBy::Shortage, None);
             return self.shared.note_end(self.rt, presence);
         };
         let mut visit = Visit::new(presence, client);
         visit.task = Task::Refuse;
-        let then = self.seat(Linked::unseated(self.settings.alloc, queued), visit, hole);
+        let then = self.as_guest(Linked::unseated(self.settings.alloc, queued), visit, hole);
         self.go(then);
     }
 
@@ -110,7 +110,7 @@ impl<
             self.tell_end(
                 &mut outsider.presence,
                 &outsider.client,
-                By::Client,
+                EndedBy::Client,
                 Some(During::Queue),
             );
             self.shared.note_end(self.rt, outsider.leave());

@@ -3,12 +3,12 @@
 ghost use Rattle.std.specs.Prelude.{◌≡◌, IfSome, true};
 
 use crate::guest::{Guest, Task, Watch};
-use crate::keeping::Soon;
+use crate::keeping::NextLook;
 use crate::looping::Looper;
-use crate::serving::Then;
+use crate::serving::MoreToDo;
 use exchange_driver::Live;
 use exchange_seated::Notice;
-use grant_board::BoardName;
+use locked_book::DeskName;
 use loop_table::{Hole, Token};
 use mio::net::TcpStream as Dialing;
 use std::net::{Net, TcpListener, TcpStream};
@@ -21,7 +21,7 @@ const MOST_REDIALS: u32 = 1;
 
 /// The connection that a guest was given.
 #[derive(Clone, Copy, Debug, PartialEq, Eq)]
-enum Begun {
+enum ConnectionOrigin {
     /// A new one, which may still fail.
     Fresh,
     /// One that was used before.
@@ -30,14 +30,14 @@ enum Begun {
 
 impl<
     'a,
-    N: BoardName + Ledger,
+    N: DeskName + Ledger,
     R: Net<Listener = TcpListener, Stream = TcpStream> + Clock + Print + Wait,
 > Looper<'a, N, R> {
     /// Begins a connection to the server of a guest's pass, without waiting, where no used one is
     /// free. Where that server has just failed the guest, it waits a while first.
-    pub(crate) fn dial(&mut self, guest: Box<Guest<N>>, hole: Hole) -> Then<N> {
+    pub(crate) fn dial(&mut self, guest: Box<Guest<N>>, hole: Hole) -> MoreToDo<N> {
         if guest.visit.pauses || guest.linked.socket().is_some() {
-            return self.keep(guest, hole, Soon::Rests);
+            return self.keep(guest, hole, NextLook::Rests);
         }
         let mut guest = guest;
         match self.begin(&mut guest) {
@@ -46,11 +46,11 @@ impl<
                 if self.teller.is_some() {
                     count_anew(guest.linked.socket());
                 }
-                guest.visit.fresh = begun == Begun::Fresh;
+                guest.visit.fresh = begun == ConnectionOrigin::Fresh;
                 guest.visit.server_watch = self.watch_of(&guest, hole.token());
                 match begun {
-                    Begun::Fresh => self.look_at_connection(guest, hole, false),
-                    Begun::Used => self.tell_of_connection(guest, hole),
+                    ConnectionOrigin::Fresh => self.look_at_connection(guest, hole, false),
+                    ConnectionOrigin::Used => self.tell_of_connection(guest, hole),
                 }
             }
         }
@@ -59,16 +59,16 @@ impl<
     // Begins a connection, where the last look-up of the server's name found an address. `None`
     // where no connection can be had. By its type the guest's connection is one to the server of
     // its pass.
-    fn begin(&mut self, guest: &mut Guest<N>) -> Option<Begun>
+    fn begin(&mut self, guest: &mut Guest<N>) -> Option<ConnectionOrigin>
         ensures { IfSome result (λ _. guest.new.linked.line.there ≡ true) }
     {
         let server = guest.linked.seated().server()?;
         if self.takes_up(guest, server) {
-            return Some(Begun::Used);
+            return Some(ConnectionOrigin::Used);
         }
         let live = self.opened(server)?;
         if guest.linked.open(self.settings.alloc, live) {
-            Some(Begun::Fresh)
+            Some(ConnectionOrigin::Fresh)
         } else {
             None
         }
@@ -101,9 +101,9 @@ impl<
         guest: Box<Guest<N>>,
         hole: Hole,
         broken: bool,
-    ) -> Then<N> {
+    ) -> MoreToDo<N> {
         let is_there = match guest.linked.socket() {
-            None => return self.keep(guest, hole, Soon::Rests),
+            None => return self.keep(guest, hole, NextLook::Rests),
             Some(live) => live.stream().peer_addr().is_ok(),
         };
         if is_there {
@@ -111,18 +111,22 @@ impl<
         } else if broken {
             self.tell_of_no_connection(guest, hole)
         } else {
-            self.keep(guest, hole, Soon::Rests)
+            self.keep(guest, hole, NextLook::Rests)
         }
     }
 
-    fn tell_of_connection(&mut self, guest: Box<Guest<N>>, hole: Hole) -> Then<N> {
+    fn tell_of_connection(&mut self, guest: Box<Guest<N>>, hole: Hole) -> MoreToDo<N> {
         let fresh = guest.visit.fresh;
         let terms = self.shared.terms(&guest.visit.presence, fresh);
         self.tell(guest, hole, Notice::Connected(terms))
     }
 
     /// Handles the failure of a connection to a guest's server, whose name is looked up again.
-    pub(crate) fn tell_of_no_connection(&mut self, guest: Box<Guest<N>>, hole: Hole) -> Then<N> {
+    pub(crate) fn tell_of_no_connection(
+        &mut self,
+        guest: Box<Guest<N>>,
+        hole: Hole,
+    ) -> MoreToDo<N> {
         if let Some(number) = guest.linked.seated().server() {
             self.shared.front.addresses.look_again(self.rt, number);
         }
@@ -131,7 +135,7 @@ impl<
 
     /// Opens another connection in place of one that broke before it got a byte of the request, or
     /// was used before and broke before a byte of the answer came: once for each of the two causes.
-    pub(crate) fn redial(&mut self, guest: Box<Guest<N>>, hole: Hole) -> Then<N> {
+    pub(crate) fn redial(&mut self, guest: Box<Guest<N>>, hole: Hole) -> MoreToDo<N> {
         let mut guest = guest;
         let visit = &mut guest.visit;
         let fresh = visit.fresh;
@@ -145,7 +149,7 @@ impl<
         } else {
             Task::GiveUp
         };
-        Then::Goes(guest, hole)
+        MoreToDo::Goes(guest, hole)
     }
 }
 

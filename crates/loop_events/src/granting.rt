@@ -5,15 +5,15 @@ ghost use Rattle.loop_shared.specs.Looks.{OwesNoLook};
 
 use crate::accounting::note_cause;
 use crate::guest::{Guest, Task, Visit, Watch};
-use crate::keeping::Soon;
+use crate::keeping::NextLook;
 use crate::looping::Looper;
-use crate::serving::Then;
+use crate::serving::MoreToDo;
 use base_verdict::{Cause, Ending, Verdict};
 use board_seats::{Lent, Taken};
 use exchange_seated::{Linked, Posting, Stage};
-use grant_board::BoardName;
-use log_lines::{By, During};
-use loop_shared::{GrantedGuest, Looked, OwedLooks, Parked};
+use locked_book::DeskName;
+use log_lines::{During, EndedBy};
+use loop_shared::{GrantedRequest, Looked, OwedLooks, Parked};
 use loop_table::Hole;
 use std::net::{Net, TcpListener, TcpStream};
 use std::sync::Wait;
@@ -22,7 +22,7 @@ use std::time::Clock;
 
 impl<
     'a,
-    N: BoardName + Ledger,
+    N: DeskName + Ledger,
     R: Net<Listener = TcpListener, Stream = TcpStream> + Clock + Print + Wait,
 > Looper<'a, N, R> {
     /// Looks at each place that the gate reported, and goes on with the guests that are ready, until none is left.
@@ -86,7 +86,7 @@ impl<
 
     /// Looks at a place, and returns the request that waits there with its pass; `None` where no
     /// request waits there, or it waits on.
-    pub(crate) fn granted_at(&mut self, place: usize) -> Option<GrantedGuest<N>> {
+    pub(crate) fn granted_at(&mut self, place: usize) -> Option<GrantedRequest<N>> {
         match self.shared.look_at(self.rt, &self.registry, place) {
             Looked::Granted(granted) => return Some(granted),
             Looked::Waits | Looked::Nobody => {}
@@ -98,22 +98,22 @@ impl<
         None
     }
 
-    // Puts a request with its verdict into a slot of this loop.
-    fn take_in(&mut self, granted: GrantedGuest<N>) {
+    // Puts a request with its verdict into a cell of this loop.
+    fn take_in(&mut self, granted: GrantedRequest<N>) {
         match self.guests.open() {
             Some(hole) => {
                 let then = self.welcome(granted, hole, Watch::Nothing);
                 self.go(then);
             }
             None => {
-                // There is no free slot: a loop has as many as its clients may have descriptors.
-                let GrantedGuest { taken, parked } = granted;
+                // There is no free cell: a loop has as many as its clients may have descriptors.
+                let GrantedRequest { taken, parked } = granted;
                 let mut parked = parked;
                 self.give_back(taken);
                 self.tell_end(
                     &mut parked.presence,
                     &parked.client,
-                    By::Shortage,
+                    EndedBy::Shortage,
                     Some(During::Queue),
                 );
                 self.shared.note_end(self.rt, parked.leave());
@@ -122,14 +122,14 @@ impl<
     }
 
     /// Goes on with a request that has its verdict: with its pass, or with the reason why it has
-    /// none. Its client is watched under this slot's token.
+    /// none. Its client is watched under this cell's token.
     pub(crate) fn welcome(
         &mut self,
-        granted: GrantedGuest<N>,
+        granted: GrantedRequest<N>,
         hole: Hole,
         watch: Watch,
-    ) -> Then<N> {
-        let GrantedGuest { taken, parked } = granted;
+    ) -> MoreToDo<N> {
+        let GrantedRequest { taken, parked } = granted;
         let Parked {
             presence,
             queued,
@@ -151,7 +151,7 @@ impl<
                 visit.pauses = failed == Some(number);
                 visit.task = Task::Dial;
                 let linked = Linked::granted(self.settings.alloc, queued, taken);
-                self.seat(linked, visit, hole)
+                self.as_guest(linked, visit, hole)
             }
             Verdict::Told(cause) => {
                 let stops = self.shared.is_refusing();
@@ -162,7 +162,7 @@ impl<
                     return self.close_on(linked, visit, hole);
                 }
                 visit.task = Task::Refuse;
-                self.seat(linked, visit, hole)
+                self.as_guest(linked, visit, hole)
             }
         }
     }
@@ -173,7 +173,7 @@ impl<
         posting: Posting<N>,
         guest: Box<Guest<N>>,
         hole: Hole,
-    ) -> Then<N> {
+    ) -> MoreToDo<N> {
         match guest.stage() {
             Stage::Waiting => {
                 let Guest { linked, visit } = Box::into_inner(guest);
@@ -195,7 +195,7 @@ impl<
                 guest.visit.at = None;
                 guest.visit.task = Task::Serve;
                 self.post(posting);
-                self.keep(guest, hole, Soon::Next)
+                self.keep(guest, hole, NextLook::Next)
             }
         }
     }

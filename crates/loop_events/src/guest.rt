@@ -2,7 +2,7 @@
 //!
 //! A `Guest` is a client from its first byte to its last, except while its request waits: then it
 //! is `Parked` at its place, or an `Outsider`. A client whose exchange is over is `Lingering` until
-//! it closes its side. An unused connection of a server has a slot too, so that the poll can report
+//! it closes its side. An unused connection of a server has a cell too, so that the poll can report
 //! it.
 
 use crate::resetting::reset;
@@ -25,7 +25,7 @@ pub(crate) enum Keyword {
     /// `timeout server`.
     Server,
     /// The longest pause of a client between two requests.
-    Stay,
+    KeepAlive,
     /// How long a client lingers after its last answer.
     Linger,
     /// How long a request waits before it tries the server again that has just failed it.
@@ -47,7 +47,7 @@ pub(crate) struct Visit {
     /// The client sends no more.
     pub(crate) ended: bool,
     /// The client has had an earlier request on this connection.
-    pub(crate) stayed: bool,
+    pub(crate) asked_before: bool,
     /// It waits before it tries that server again.
     pub(crate) pauses: bool,
     /// The number of connections that were opened on its pass in place of ones that broke.
@@ -106,7 +106,7 @@ pub(crate) struct Lingering {
     pub(crate) since: Moment,
 }
 
-/// The occupant of a loop's slot. Each is boxed, so that it isn't copied from call to call.
+/// The occupant of a loop's cell. Each is boxed, so that it isn't copied from call to call.
 pub(crate) enum Resident<N: BoardName + Ledger> {
     Guest(Box<Guest<N>>),
     Lingering(Box<Lingering>),
@@ -126,7 +126,7 @@ impl<N: BoardName + Ledger> Resident<N> {
 
 impl<N: BoardName + Ledger> Guest<N> {
     fn is_silent(&self) -> bool {
-        self.visit.stayed && self.linked.seated().is_silent()
+        self.visit.asked_before && self.linked.seated().is_silent()
     }
 
     /// Returns the stage of its exchange.
@@ -148,7 +148,7 @@ impl Visit {
         self.at = None;
         self.tried = None;
         self.came = None;
-        self.stayed = true;
+        self.asked_before = true;
         self.pauses = false;
         self.redials = 0;
         self.spoilt = false;
@@ -164,7 +164,7 @@ impl Visit {
             tried: _,
             came: _,
             ended: _,
-            stayed: _,
+            asked_before: _,
             pauses: _,
             redials: _,
             fresh: _,
@@ -185,7 +185,7 @@ impl Visit {
             tried: None,
             came: None,
             ended: false,
-            stayed: false,
+            asked_before: false,
             pauses: false,
             redials: 0,
             fresh: true,

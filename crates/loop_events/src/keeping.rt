@@ -1,12 +1,12 @@
-//! Guests in their slots: they are kept until there is more to do, and closed.
+//! Guests in their cells: they are kept until there is more to do, and closed.
 
 use crate::guest::{Guest, Keyword, Resident, Visit, Watch, break_off};
 use crate::looping::Looper;
-use crate::serving::Then;
+use crate::serving::MoreToDo;
 use exchange_driver::{Live, Socket};
 use exchange_seated::{Linked, Stage};
-use grant_board::BoardName;
-use log_lines::{By, During};
+use locked_book::DeskName;
+use log_lines::{During, EndedBy};
 use loop_shared::{watch, watch_anew};
 use loop_table::{Hole, Subject, Token};
 use mio::Interest;
@@ -18,7 +18,7 @@ use std::time::Clock;
 
 /// When there is more to do for a guest.
 #[derive(Clone, Copy, Debug, PartialEq, Eq)]
-pub(crate) enum Soon {
+pub(crate) enum NextLook {
     /// At once.
     AtOnce,
     /// Once the places that a returned slot woke were looked at.
@@ -31,13 +31,18 @@ pub(crate) enum Soon {
 
 impl<
     'a,
-    N: BoardName + Ledger,
+    N: DeskName + Ledger,
     R: Net<Listener = TcpListener, Stream = TcpStream> + Clock + Print + Wait,
 > Looper<'a, N, R> {
     /// Makes a guest of an exchange and its visit. Where there is no memory for it, the exchange ends.
-    pub(crate) fn seat(&mut self, linked: Linked<N, Live>, visit: Visit, hole: Hole) -> Then<N> {
+    pub(crate) fn as_guest(
+        &mut self,
+        linked: Linked<N, Live>,
+        visit: Visit,
+        hole: Hole,
+    ) -> MoreToDo<N> {
         match Box::new(self.settings.alloc, Guest { linked, visit }) {
-            Ok(guest) => Then::Goes(guest, hole),
+            Ok(guest) => MoreToDo::Goes(guest, hole),
             Err(refused) => {
                 let Guest { linked, visit } = refused.value;
                 self.close_on(linked, visit, hole)
@@ -45,24 +50,24 @@ impl<
         }
     }
 
-    /// Puts a guest into its slot until there is more to do.
-    pub(crate) fn keep(&mut self, guest: Box<Guest<N>>, hole: Hole, soon: Soon) -> Then<N> {
+    /// Puts a guest into its cell until there is more to do.
+    pub(crate) fn keep(&mut self, guest: Box<Guest<N>>, hole: Hole, soon: NextLook) -> MoreToDo<N> {
         let mut guest = guest;
         let token = hole.token();
         let Guest { linked, visit } = &mut *guest;
         self.time(linked.seated(), visit, token.index());
         match soon {
-            Soon::AtOnce => return Then::Goes(guest, hole),
-            Soon::Next => self.agenda.note(token.index()),
-            Soon::Later => self.agenda.put_off(token.index()),
-            Soon::Rests => {
+            NextLook::AtOnce => return MoreToDo::Goes(guest, hole),
+            NextLook::Next => self.agenda.note(token.index()),
+            NextLook::Later => self.agenda.put_off(token.index()),
+            NextLook::Rests => {
                 if !self.is_watched(&mut guest, token) {
                     return self.close(guest, hole);
                 }
             }
         }
         self.lay(Resident::Guest(guest), hole);
-        Then::Rests
+        MoreToDo::Rests
     }
 
     // Registers its sockets with the poll. Says whether that succeeded.
@@ -108,7 +113,7 @@ impl<
         }
     }
 
-    /// Puts the occupant of a slot back there.
+    /// Puts the occupant of a cell back there.
     pub(crate) fn lay(&mut self, resident: Resident<N>, hole: Hole) {
         match self.guests.fill(hole, resident) {
             Ok(()) => {}
@@ -128,7 +133,7 @@ impl<
     }
 
     /// Ends a guest at any stage: its pass is posted, and its client's connection is closed.
-    pub(crate) fn close(&mut self, guest: Box<Guest<N>>, hole: Hole) -> Then<N> {
+    pub(crate) fn close(&mut self, guest: Box<Guest<N>>, hole: Hole) -> MoreToDo<N> {
         let Guest { linked, visit } = Box::into_inner(guest);
         self.close_on(linked, visit, hole)
     }
@@ -139,10 +144,10 @@ impl<
         linked: Linked<N, Live>,
         visit: Visit,
         hole: Hole,
-    ) -> Then<N> {
-        self.close_slot(hole, visit.timer);
+    ) -> MoreToDo<N> {
+        self.close_cell(hole, visit.timer);
         self.dismiss(linked, visit);
-        Then::Rests
+        MoreToDo::Rests
     }
 
     fn dismiss(&mut self, linked: Linked<N, Live>, visit: Visit) {
@@ -153,7 +158,7 @@ impl<
         };
         let (presence, client) = visit.into_client();
         let mut presence = presence;
-        self.tell_end(&mut presence, &client, By::Client, during);
+        self.tell_end(&mut presence, &client, EndedBy::Client, during);
         match linked.abandon() {
             Some(posting) => self.post(posting),
             None => {}
@@ -161,8 +166,8 @@ impl<
         self.shared.note_end(self.rt, presence);
     }
 
-    /// Frees a slot and stops its timeout.
-    pub(crate) fn close_slot(&mut self, hole: Hole, timer: Option<Keyword>) {
+    /// Frees a cell and stops its timeout.
+    pub(crate) fn close_cell(&mut self, hole: Hole, timer: Option<Keyword>) {
         self.untime(timer, hole.token().index());
         self.guests.close(hole);
     }

@@ -11,6 +11,7 @@
 mod accepting;
 mod accounting;
 mod admitting;
+mod asking_again;
 mod dialing;
 mod granting;
 mod guest;
@@ -21,14 +22,13 @@ mod parking;
 mod resetting;
 mod reusing;
 mod serving;
-mod staying;
 mod threads;
 mod timing;
 
-pub use threads::{Lends, Unbegun, loops_of, run_all};
+pub use threads::{Lends, UnstartedLoop, loops_of, run_all};
 
 // Whoever starts loops gets the items of the layers below from this crate.
 pub use loop_shared::{
     GateShared, Outside, Proxy, ServerConnections, Shared, SharedParts, Site, UnusedCounts,
-    empty_spots, join_all, most_connections, polls_of, split_off,
+    empty_cells, join_all, most_connections, polls_of, split_off,
 };

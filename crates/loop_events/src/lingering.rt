@@ -4,11 +4,11 @@
 
 use crate::guest::{Guest, Keyword, Lingering, Resident, Visit};
 use crate::looping::Looper;
-use crate::serving::Then;
-use exchange_driver::{Heard, Live, Socket};
+use crate::serving::MoreToDo;
+use exchange_driver::{Live, ReadResult, Socket};
 use exchange_seated::Linked;
-use grant_board::BoardName;
-use log_lines::By;
+use locked_book::DeskName;
+use log_lines::EndedBy;
 use loop_shared::{Gate, watch};
 use loop_table::{Hole, Subject};
 use mio::Interest;
@@ -29,11 +29,11 @@ const READS: usize = 64;
 
 impl<
     'a,
-    N: BoardName + Ledger,
+    N: DeskName + Ledger,
     R: Net<Listener = TcpListener, Stream = TcpStream> + Clock + Print + Wait,
 > Looper<'a, N, R> {
     /// Lets a guest linger whose answer was sent whole.
-    pub(crate) fn finish(&mut self, guest: Box<Guest<N>>, hole: Hole) -> Then<N> {
+    pub(crate) fn finish(&mut self, guest: Box<Guest<N>>, hole: Hole) -> MoreToDo<N> {
         let Guest { linked, visit } = Box::into_inner(guest);
         self.finish_on(linked, visit, hole)
     }
@@ -44,11 +44,11 @@ impl<
         linked: Linked<N, Live>,
         visit: Visit,
         hole: Hole,
-    ) -> Then<N> {
-        let key = hole.token().index();
+    ) -> MoreToDo<N> {
+        let cell = hole.token().index();
         let mut visit = visit;
-        self.tell_end(&mut visit.presence, &visit.client, By::Nobody, None);
-        self.untime(visit.timer, key);
+        self.tell_end(&mut visit.presence, &visit.client, EndedBy::Nobody, None);
+        self.untime(visit.timer, cell);
         match linked.abandon() {
             Some(posting) => self.post(posting),
             None => {}
@@ -66,7 +66,7 @@ impl<
                 match Box::new(self.settings.alloc, lingering) {
                     Ok(lingering) => {
                         self.lingering = self.lingering.saturating_add(1);
-                        self.begin_time(Some(Keyword::Linger), key);
+                        self.begin_time(Some(Keyword::Linger), cell);
                         self.listen(lingering, hole);
                     }
                     Err(_) => self.guests.close(hole),
@@ -74,7 +74,7 @@ impl<
             }
             _ => self.guests.close(hole),
         }
-        Then::Rests
+        MoreToDo::Rests
     }
 
     /// Reads and throws away what a lingering client sends.
@@ -82,15 +82,15 @@ impl<
         let mut lingering = lingering;
         for _ in 0..READS {
             match lingering.client.read_now(self.buffer.as_mut_slice()) {
-                Heard::Bytes(count) => {
+                ReadResult::Bytes(count) => {
                     self.linger_on(&lingering, hole.token().index());
                     lingering.left = lingering.left.saturating_sub(count);
                     if lingering.left == 0 {
                         return self.end_lingering(hole);
                     }
                 }
-                Heard::Nothing => return self.linger(lingering, hole),
-                Heard::Ended { .. } => return self.end_lingering(hole),
+                ReadResult::Nothing => return self.linger(lingering, hole),
+                ReadResult::Ended { .. } => return self.end_lingering(hole),
             }
         }
         self.agenda.put_off(hole.token().index());
@@ -98,15 +98,15 @@ impl<
     }
 
     // Restarts its timeout since it sent something, within a limit.
-    fn linger_on(&mut self, lingering: &Lingering, key: usize) {
+    fn linger_on(&mut self, lingering: &Lingering, cell: usize) {
         let now = self.gate.moment();
         if now.get().saturating_sub(lingering.since.get()) < MOST_MILLIS {
-            self.untime(Some(Keyword::Linger), key);
-            self.begin_time(Some(Keyword::Linger), key);
+            self.untime(Some(Keyword::Linger), cell);
+            self.begin_time(Some(Keyword::Linger), cell);
         }
     }
 
-    // Puts it into its slot until the poll reports more bytes. Where too many linger, it is closed at once.
+    // Puts it into its cell until the poll reports more bytes. Where too many linger, it is closed at once.
     fn linger(&mut self, lingering: Box<Lingering>, hole: Hole) {
         let connection = lingering.client.stream().as_raw_fd();
         let subject = Subject::Client(hole.token());
@@ -122,6 +122,6 @@ impl<
     /// Closes a lingering client.
     pub(crate) fn end_lingering(&mut self, hole: Hole) {
         self.lingering = self.lingering.saturating_sub(1);
-        self.close_slot(hole, Some(Keyword::Linger));
+        self.close_cell(hole, Some(Keyword::Linger));
     }
 }

@@ -2,15 +2,15 @@ ghost use Rattle.std.specs.Prelude.{◌≡◌, ◌<◌, [], false, vec_len};
 ghost use Rattle.loop_shared.specs.Looks.{OwesNoLook};
 
 use crate::guest::{Guest, Resident};
-use crate::reusing::Shelves;
-use crate::serving::Told;
+use crate::reusing::UnusedConnections;
+use crate::serving::SocketEvents;
 use crate::timing::Keywords;
 use due_key::Moment;
 use exchange_driver::Settings;
-use grant_board::BoardName;
-use log_requests::Teller;
+use locked_book::DeskName;
+use log_requests::RecordSink;
 use loop_shared::{Gate, Shared, SocketGate};
-use loop_table::{Agenda, Limits, Slots, Subject};
+use loop_table::{Agenda, Subject, Timers, TokenTable};
 use mio::{Events, Poll, Registry};
 use std::net::{Net, TcpListener, TcpStream};
 use std::sync::Wait;
@@ -23,7 +23,7 @@ const EVENTS: usize = 256;
 const BATCHES: u32 = 64;
 
 /// A loop: a thread's guests, and its tools.
-pub(crate) struct Looper<'a, N: BoardName + Ledger, R> {
+pub(crate) struct Looper<'a, N: DeskName + Ledger, R> {
     pub(crate) rt: &'a R,
     pub(crate) shared: &'a Shared<'a, N>,
     /// The number of its mailbox.
@@ -31,21 +31,21 @@ pub(crate) struct Looper<'a, N: BoardName + Ledger, R> {
     pub(crate) registry: Registry,
     pub(crate) gate: SocketGate<'a, R>,
     pub(crate) settings: Settings,
-    pub(crate) guests: Slots<Resident<N>>,
-    /// The number of slots.
+    pub(crate) guests: TokenTable<Resident<N>>,
+    /// The number of cells.
     pub(crate) room: usize,
-    pub(crate) limits: Limits,
+    pub(crate) timers: Timers,
     pub(crate) keywords: Keywords,
     /// The buffer for reads.
     pub(crate) buffer: Vec<u8>,
     /// The unused connections of servers.
-    pub(crate) shelves: Shelves,
-    /// The guests with more to do, by their slots: those for after the look at the woken places,
+    pub(crate) shelves: UnusedConnections,
+    /// The guests with more to do, by their cells: those for after the look at the woken places,
     /// and those for after the others' turn.
     pub(crate) agenda: Agenda,
     /// More clients may wait at the listener.
     pub(crate) more: bool,
-    /// Descriptors or slots were short.
+    /// Descriptors or cells were short.
     pub(crate) short: bool,
     /// When the loop last tried again after a shortage.
     pub(crate) tried: Moment,
@@ -55,13 +55,13 @@ pub(crate) struct Looper<'a, N: BoardName + Ledger, R> {
     pub(crate) lingering: usize,
     pub(crate) most_lingering: usize,
     /// The sink for records of ended exchanges, where lines of them are wanted.
-    pub(crate) teller: Option<Teller<'a>>,
+    pub(crate) teller: Option<RecordSink<'a>>,
     ghost buffered: { 0 < vec_len buffer },
 }
 
 impl<
     'a,
-    N: BoardName + Ledger,
+    N: DeskName + Ledger,
     R: Net<Listener = TcpListener, Stream = TcpStream> + Clock + Print + Wait,
 > Looper<'a, N, R> {
     /// Runs until all clients that may come were served. Then it ends what is still under way, and
@@ -79,7 +79,7 @@ impl<
             settings: _,
             guests,
             room: _,
-            limits: _,
+            timers: _,
             keywords: _,
             buffer: _,
             shelves: _,
@@ -115,7 +115,7 @@ impl<
             }
             self.sleep(&mut poll, &mut events, batches != 0);
             let now = self.gate.moment();
-            self.limits.look_at_clock(now);
+            self.timers.look_at_clock(now);
             let is_full = EVENTS <= events.iter().count();
             batches = if is_full && batches < BATCHES {
                 batches.saturating_add(1)
@@ -124,7 +124,7 @@ impl<
             };
             self.attend(&events);
             if batches == 0 {
-                self.look_at_limits();
+                self.look_at_timers();
             }
             self.go_on_with_places();
         }
@@ -157,7 +157,7 @@ impl<
         self.go_on_with_places();
         let mut has_mail = false;
         for event in events.iter() {
-            let told = Told::of(event);
+            let told = SocketEvents::of(event);
             match Subject::of(event.token().0) {
                 Some(Subject::Listener) => self.more = true,
                 Some(Subject::Mailbox) => has_mail = true,
@@ -194,11 +194,7 @@ impl<
 }
 
 // Ends a guest when the loop ends: its pass is posted, and its seat is returned.
-fn part_with<R: Wait, N: BoardName + Ledger>(
-    rt: &R,
-    shared: &Shared<'_, N>,
-    resident: Resident<N>,
-) {
+fn part_with<R: Wait, N: DeskName + Ledger>(rt: &R, shared: &Shared<'_, N>, resident: Resident<N>) {
     match resident {
         Resident::Lingering(_lingering) => {}
         Resident::Unused(_unused) => {}

@@ -2,14 +2,14 @@
 
 use crate::accounting::note_ticket;
 use crate::guest::{Guest, Task, Visit};
-use crate::keeping::Soon;
+use crate::keeping::NextLook;
 use crate::looping::Looper;
-use crate::serving::Then;
+use crate::serving::MoreToDo;
 use dispatch_state::Ticketed;
-use exchange_seated::{Linked, Posting, Queued};
-use grant_board::BoardName;
+use exchange_seated::{Linked, Posting, WaitingExchange};
+use locked_book::DeskName;
 use log_entries::Refusal;
-use log_lines::By;
+use log_lines::EndedBy;
 use loop_shared::{Gate, Outsider, Parked, arrive_as};
 use loop_table::Hole;
 use prio_rules::{Wish, decide};
@@ -20,11 +20,11 @@ use std::time::Clock;
 
 impl<
     'a,
-    N: BoardName + Ledger,
+    N: DeskName + Ledger,
     R: Net<Listener = TcpListener, Stream = TcpStream> + Clock + Print + Wait,
 > Looper<'a, N, R> {
     /// Asks for a place for a guest's request. Where there is none, or others wait for one, it waits outside.
-    pub(crate) fn arrive(&mut self, guest: Box<Guest<N>>, hole: Hole) -> Then<N> {
+    pub(crate) fn arrive(&mut self, guest: Box<Guest<N>>, hole: Hole) -> MoreToDo<N> {
         let Guest { linked, visit } = Box::into_inner(guest);
         match linked.into_queued() {
             Err(linked) => self.close_on(linked, visit, hole),
@@ -32,7 +32,7 @@ impl<
         }
     }
 
-    fn enter(&mut self, queued: Queued, visit: Visit, hole: Hole) -> Then<N> {
+    fn enter(&mut self, queued: WaitingExchange, visit: Visit, hole: Hole) -> MoreToDo<N> {
         let mut visit = visit;
         if self.shared.is_refusing() {
             self.note_asked(&mut visit, queued.view(), None);
@@ -51,14 +51,20 @@ impl<
     }
 
     // Ends a request that the dispatcher refuses for another cause than want of places.
-    fn turn_away(&mut self, queued: Queued, visit: Visit, hole: Hole) -> Then<N> {
+    fn turn_away(&mut self, queued: WaitingExchange, visit: Visit, hole: Hole) -> MoreToDo<N> {
         let mut visit = visit;
         visit.task = Task::Refuse;
-        self.seat(Linked::unseated(self.settings.alloc, queued), visit, hole)
+        self.as_guest(Linked::unseated(self.settings.alloc, queued), visit, hole)
     }
 
     // Lets a request wait for a place.
-    fn go_outside(&mut self, queued: Queued, visit: Visit, wish: &Wish, hole: Hole) -> Then<N> {
+    fn go_outside(
+        &mut self,
+        queued: WaitingExchange,
+        visit: Visit,
+        wish: &Wish,
+        hole: Hole,
+    ) -> MoreToDo<N> {
         self.untime(visit.timer, hole.token().index());
         let (presence, client) = visit.into_client();
         let mut client = client;
@@ -73,7 +79,7 @@ impl<
         match self.wait_outside(wish, outsider) {
             Ok(()) => {
                 self.guests.close(hole);
-                Then::Rests
+                MoreToDo::Rests
             }
             Err(outsider) => {
                 let Outsider {
@@ -90,7 +96,13 @@ impl<
     }
 
     // Puts the request at its place, and looks at the place afterwards.
-    fn park(&mut self, queued: Queued, visit: Visit, at: Ticketed, hole: Hole) -> Then<N> {
+    fn park(
+        &mut self,
+        queued: WaitingExchange,
+        visit: Visit,
+        at: Ticketed,
+        hole: Hole,
+    ) -> MoreToDo<N> {
         self.untime(visit.timer, hole.token().index());
         let watch = visit.client_watch;
         let (presence, client) = visit.into_client();
@@ -116,7 +128,7 @@ impl<
             None => {
                 self.guests.close(hole);
                 self.shared.note_wait();
-                Then::Rests
+                MoreToDo::Rests
             }
         }
     }
@@ -126,18 +138,18 @@ impl<
     pub(crate) fn fail(
         &mut self,
         posting: Posting<N>,
-        queued: Queued,
+        queued: WaitingExchange,
         visit: Visit,
         hole: Hole,
-    ) -> Then<N> {
-        self.close_slot(hole, visit.timer);
+    ) -> MoreToDo<N> {
+        self.close_cell(hole, visit.timer);
         let (at, tried, came) = (visit.at, visit.tried, visit.came);
         let (presence, client) = visit.into_client();
         let place = posting.place();
         match at {
             None => {
                 let mut presence = presence;
-                self.tell_end(&mut presence, &client, By::Client, None);
+                self.tell_end(&mut presence, &client, EndedBy::Client, None);
                 self.shared.note_end(self.rt, presence);
             }
             Some(at) => {
@@ -160,7 +172,7 @@ impl<
         self.post(posting);
         // Another thread that collected the failure before may have found no request here yet.
         self.look_later_at(place);
-        Then::Rests
+        MoreToDo::Rests
     }
 
     /// The poll reports a client whose request waits. Where it has left, its request is aborted.

@@ -1,6 +1,6 @@
 //! Connections of servers that stay open for further requests (`run --reuse`).
 //!
-//! A connection whose exchange ended clean gets a slot of its loop, and the poll watches it: bytes
+//! A connection whose exchange ended clean gets a cell of its loop, and the poll watches it: bytes
 //! or an end on it close it. The last one used is the first to be used again, once a read has found
 //! nothing on it.
 
@@ -12,7 +12,7 @@ use crate::guest::{Guest, Keyword, Resident, break_off};
 use crate::looping::Looper;
 use exchange_driver::Live;
 use exchange_seated::Unused;
-use grant_board::BoardName;
+use locked_book::DeskName;
 use loop_shared::watch_anew;
 use loop_table::{Hole, Subject, Token};
 use mio::Interest;
@@ -23,23 +23,27 @@ use std::sync::Wait;
 use std::sync::ledger::Ledger;
 use std::time::Clock;
 
-/// The unused connections of a loop: the slots of each server's, the last one used last.
+/// The unused connections of a loop: the cells of each server's, the last one used last.
 #[derive(Drop)]
-pub(crate) struct Shelves {
+pub(crate) struct UnusedConnections {
     shelves: Vec<Vec<Token>>,
     /// The number of all of them, and the most that there may be.
     count: usize,
     most: usize,
 }
 
-impl Shelves {
+impl UnusedConnections {
     /// Makes empty shelves for this number of servers and at most this number of connections.
-    pub(crate) fn empty(alloc: Global, servers: usize, most: usize) -> Result<Shelves, AllocError> {
+    pub(crate) fn empty(
+        alloc: Global,
+        servers: usize,
+        most: usize,
+    ) -> Result<UnusedConnections, AllocError> {
         let mut shelves = Vec::with_capacity(alloc, servers)?;
         for _ in 0..servers {
             shelves.push(Vec::new(alloc))?;
         }
-        Ok(Shelves {
+        Ok(UnusedConnections {
             shelves,
             count: 0,
             most,
@@ -90,7 +94,7 @@ impl Shelves {
 
 impl<
     'a,
-    N: BoardName + Ledger,
+    N: DeskName + Ledger,
     R: Net<Listener = TcpListener, Stream = TcpStream> + Clock + Print + Wait,
 > Looper<'a, N, R> {
     /// Takes the server's connection from a guest: it is kept where reuse is on and the exchange
@@ -203,7 +207,7 @@ impl<
         }
     }
 
-    // Takes the last used connection out of its slot.
+    // Takes the last used connection out of its cell.
     fn take_unused(&mut self, server: usize) -> Option<Unused<Live>> {
         for _ in self.rt.forever() {
             let token = self.shelves.take(server)?;
@@ -212,7 +216,7 @@ impl<
             };
             match resident {
                 Resident::Unused(unused) => {
-                    self.close_slot(hole, Some(Keyword::Unused));
+                    self.close_cell(hole, Some(Keyword::Unused));
                     self.shared.note_used(unused.server());
                     return Some(Box::into_inner(unused));
                 }
@@ -226,7 +230,7 @@ impl<
     pub(crate) fn end_unused(&mut self, unused: Box<Unused<Live>>, hole: Hole) {
         let server = unused.server();
         self.shelves.forget(server, hole.token());
-        self.close_slot(hole, Some(Keyword::Unused));
+        self.close_cell(hole, Some(Keyword::Unused));
         self.shared.note_used(server);
     }
 

@@ -2,11 +2,12 @@
 
 use crate::accounting::has_received;
 use crate::guest::{Guest, Keyword, Resident, Task, Visit};
-use crate::keeping::Soon;
+use crate::keeping::NextLook;
 use crate::looping::Looper;
 use exchange_driver::{Live, Rest};
 use exchange_seated::{Carried, Given, Notice, Stage};
 use grant_board::BoardName;
+use locked_book::DeskName;
 use loop_table::{Hole, Token};
 use mio::event::Event;
 use std::net::{Net, TcpListener, TcpStream};
@@ -15,16 +16,16 @@ use std::sync::ledger::Ledger;
 use std::time::Clock;
 
 /// Whether there is more to do for a guest.
-pub(crate) enum Then<N: BoardName + Ledger> {
+pub(crate) enum MoreToDo<N: BoardName + Ledger> {
     /// There is more to do at once.
     Goes(Box<Guest<N>>, Hole),
     /// It was put away, or is over.
     Rests,
 }
 
-/// The poll's report of a socket.
+/// What the poll tells of a socket.
 #[derive(Clone, Copy)]
-pub(crate) struct Told {
+pub(crate) struct SocketEvents {
     pub(crate) reads: bool,
     pub(crate) writes: bool,
     /// The other end sends no more.
@@ -33,11 +34,11 @@ pub(crate) struct Told {
     pub(crate) broken: bool,
 }
 
-impl Told {
-    pub(crate) fn of(event: &Event) -> Told {
+impl SocketEvents {
+    pub(crate) fn of(event: &Event) -> SocketEvents {
         let broken = event.is_error() || event.is_write_closed();
         let closed = event.is_read_closed();
-        Told {
+        SocketEvents {
             reads: broken || closed || event.is_readable(),
             writes: broken || event.is_writable(),
             closed,
@@ -48,12 +49,12 @@ impl Told {
 
 impl<
     'a,
-    N: BoardName + Ledger,
+    N: DeskName + Ledger,
     R: Net<Listener = TcpListener, Stream = TcpStream> + Clock + Print + Wait,
 > Looper<'a, N, R> {
     /// Handles the poll's report of a client. A reset ends its exchange at any stage; an end of its
     /// input only under `option abortonclose`.
-    pub(crate) fn hear_client(&mut self, token: Token, told: Told) {
+    pub(crate) fn hear_client(&mut self, token: Token, told: SocketEvents) {
         let Some((resident, hole)) = self.guests.lend(token) else {
             return;
         };
@@ -69,7 +70,7 @@ impl<
                 } else if self.has_left(&guest) {
                     self.tell(guest, hole, Notice::ClientEnd)
                 } else {
-                    Then::Goes(guest, hole)
+                    MoreToDo::Goes(guest, hole)
                 };
                 self.go(then);
             }
@@ -82,7 +83,7 @@ impl<
     }
 
     /// Handles the poll's report of a server's connection.
-    pub(crate) fn hear_server(&mut self, token: Token, told: Told) {
+    pub(crate) fn hear_server(&mut self, token: Token, told: SocketEvents) {
         let Some((resident, hole)) = self.guests.lend(token) else {
             return;
         };
@@ -94,14 +95,14 @@ impl<
                 guest.linked.wake(told.reads, told.writes);
                 let then = match guest.stage() {
                     Stage::Dialing => self.look_at_connection(guest, hole, told.broken),
-                    _ => Then::Goes(guest, hole),
+                    _ => MoreToDo::Goes(guest, hole),
                 };
                 self.go(then);
             }
         }
     }
 
-    /// Goes on with the occupant of a slot.
+    /// Goes on with the occupant of a cell.
     pub(crate) fn work(&mut self, token: Token) {
         let Some((resident, hole)) = self.guests.lend(token) else {
             return;
@@ -109,23 +110,23 @@ impl<
         match resident {
             Resident::Lingering(lingering) => self.listen(lingering, hole),
             Resident::Unused(unused) => self.lay(Resident::Unused(unused), hole),
-            Resident::Guest(guest) => self.go(Then::Goes(guest, hole)),
+            Resident::Guest(guest) => self.go(MoreToDo::Goes(guest, hole)),
         }
     }
 
     /// Goes on with a guest as long as there is more to do at once.
-    pub(crate) fn go(&mut self, then: Then<N>) {
+    pub(crate) fn go(&mut self, then: MoreToDo<N>) {
         let mut then = then;
         for _ in self.rt.forever() {
             match then {
-                Then::Rests => return,
-                Then::Goes(guest, hole) => then = self.act(guest, hole),
+                MoreToDo::Rests => return,
+                MoreToDo::Goes(guest, hole) => then = self.act(guest, hole),
             }
         }
         unreachable!()
     }
 
-    fn act(&mut self, guest: Box<Guest<N>>, hole: Hole) -> Then<N> {
+    fn act(&mut self, guest: Box<Guest<N>>, hole: Hole) -> MoreToDo<N> {
         match guest.visit.task {
             Task::Serve => self.serve(guest, hole),
             Task::Arrive => self.arrive(guest, hole),
@@ -137,25 +138,25 @@ impl<
     }
 
     // Reads and writes.
-    fn serve(&mut self, guest: Box<Guest<N>>, hole: Hole) -> Then<N> {
+    fn serve(&mut self, guest: Box<Guest<N>>, hole: Hole) -> MoreToDo<N> {
         let Guest { linked, visit } = Box::into_inner(guest);
         let mut visit = visit;
         let carried = linked.drive(self.settings, &mut visit.client, self.buffer.as_mut_slice());
         let soon = match carried.rest {
-            Rest::Waits => Soon::Rests,
-            Rest::Again => Soon::Later,
+            Rest::Waits => NextLook::Rests,
+            Rest::Again => NextLook::Later,
         };
         self.settle(carried, visit, hole, soon)
     }
 
     /// Reports an event to a guest's exchange.
-    pub(crate) fn tell(&mut self, guest: Box<Guest<N>>, hole: Hole, notice: Notice) -> Then<N> {
+    pub(crate) fn tell(&mut self, guest: Box<Guest<N>>, hole: Hole, notice: Notice) -> MoreToDo<N> {
         let Guest { linked, visit } = Box::into_inner(guest);
         let mut visit = visit;
         visit.task = Task::Serve;
         self.note_notice(&mut visit, linked.seated().stage(), &notice);
         let carried = linked.notify(self.settings, notice);
-        self.settle(carried, visit, hole, Soon::AtOnce)
+        self.settle(carried, visit, hole, NextLook::AtOnce)
     }
 
     fn settle(
@@ -163,8 +164,8 @@ impl<
         carried: Carried<N, Live>,
         visit: Visit,
         hole: Hole,
-        soon: Soon,
-    ) -> Then<N> {
+        soon: NextLook,
+    ) -> MoreToDo<N> {
         let Carried {
             linked,
             given,
@@ -172,24 +173,30 @@ impl<
             server,
             rest: _,
         } = carried;
-        let key = hole.token().index();
+        let cell = hole.token().index();
         let mut visit = visit;
         let answers = server.is_some() && has_received(linked.socket());
         self.note_bytes(&mut visit, client.is_some(), answers);
-        self.note_moved(&visit, key, client, Keyword::Client);
-        self.note_moved(&visit, key, server, Keyword::Server);
-        match self.seat(linked, visit, hole) {
-            Then::Goes(guest, hole) => self.give(given, guest, hole, soon),
-            Then::Rests => {
+        self.note_moved(&visit, cell, client, Keyword::Client);
+        self.note_moved(&visit, cell, server, Keyword::Server);
+        match self.as_guest(linked, visit, hole) {
+            MoreToDo::Goes(guest, hole) => self.give(given, guest, hole, soon),
+            MoreToDo::Rests => {
                 self.give_up_with(given);
-                Then::Rests
+                MoreToDo::Rests
             }
         }
     }
 
-    fn give(&mut self, given: Given<N>, guest: Box<Guest<N>>, hole: Hole, soon: Soon) -> Then<N> {
+    fn give(
+        &mut self,
+        given: Given<N>,
+        guest: Box<Guest<N>>,
+        hole: Hole,
+        soon: NextLook,
+    ) -> MoreToDo<N> {
         match given {
-            Given::Nothing => self.place(guest, hole, soon),
+            Given::Nothing => self.decide_next(guest, hole, soon),
             Given::Posts(posting) => self.part(posting, guest, hole),
             Given::Retries => self.redial(guest, hole),
         }
@@ -204,14 +211,14 @@ impl<
     }
 
     // Decides by its stage where a guest goes next.
-    fn place(&mut self, guest: Box<Guest<N>>, hole: Hole, soon: Soon) -> Then<N> {
+    fn decide_next(&mut self, guest: Box<Guest<N>>, hole: Hole, soon: NextLook) -> MoreToDo<N> {
         if self.has_left(&guest) {
             let mut guest = guest;
             guest.visit.ended = false;
             return next(guest, hole, Task::Leave);
         }
         match guest.stage() {
-            Stage::Asking | Stage::Passing => self.keep(guest, hole, soon),
+            Stage::Asking | Stage::Forwarding => self.keep(guest, hole, soon),
             Stage::Waiting => next(guest, hole, Task::Arrive),
             Stage::Dialing => next(guest, hole, Task::Dial),
             Stage::Telling => {
@@ -227,8 +234,8 @@ impl<
 }
 
 // Sets the guest's next task.
-fn next<N: BoardName + Ledger>(guest: Box<Guest<N>>, hole: Hole, task: Task) -> Then<N> {
+fn next<N: BoardName + Ledger>(guest: Box<Guest<N>>, hole: Hole, task: Task) -> MoreToDo<N> {
     let mut guest = guest;
     guest.visit.task = task;
-    Then::Goes(guest, hole)
+    MoreToDo::Goes(guest, hole)
 }

@@ -1,15 +1,15 @@
 //! The threads: the loops, and one that checks the servers.
 
 use crate::looping::Looper;
-use crate::reusing::Shelves;
+use crate::reusing::UnusedConnections;
 use crate::timing::Keywords;
 use due_key::Moment;
 use exchange_driver::Settings;
 use exchange_events::Rules;
-use grant_board::BoardName;
-use log_requests::Teller;
+use locked_book::DeskName;
+use log_requests::RecordSink;
 use loop_shared::{Shared, SocketGate, run_checks, run_controls, run_windows};
-use loop_table::{Agenda, Limits, Slots};
+use loop_table::{Agenda, Timers, TokenTable};
 use mio::Poll;
 use std::alloc::{AllocError, Global};
 use std::net::{Net, TcpListener, TcpStream};
@@ -37,16 +37,16 @@ const MOST_UNUSED: u64 = 4096;
 
 /// A loop that hasn't started yet.
 #[derive(Drop)]
-pub struct Unbegun {
+pub struct UnstartedLoop {
     poll: Poll,
     home: usize,
 }
 
 /// Makes a loop for each poll.
-pub fn loops_of(alloc: Global, polls: Vec<Poll>) -> Result<Vec<Unbegun>, AllocError> {
+pub fn loops_of(alloc: Global, polls: Vec<Poll>) -> Result<Vec<UnstartedLoop>, AllocError> {
     let mut loops = Vec::new(alloc);
     for (home, poll) in polls.into_iter().enumerate() {
-        loops.push(Unbegun { poll, home })?;
+        loops.push(UnstartedLoop { poll, home })?;
     }
     Ok(loops)
 }
@@ -54,9 +54,9 @@ pub fn loops_of(alloc: Global, polls: Vec<Poll>) -> Result<Vec<Unbegun>, AllocEr
 /// Runs all threads in a scope. It returns once the proxy has ended and each thread has.
 pub fn run_all<
     R: Net<Listener = TcpListener, Stream = TcpStream> + Clock + Print + Threads + Wait + Sync,
-    N: BoardName + Ledger + Send + Sync,
+    N: DeskName + Ledger + Send + Sync,
     S: Lends<N> + Sync,
->(rt: &R, shared: &S, loops: Vec<Unbegun>) {
+>(rt: &R, shared: &S, loops: Vec<UnstartedLoop>) {
     let stop = AtomicBool::new(false);
     let told = &stop;
     thread::scope(thread::scope_env(), rt, move |scope| {
@@ -89,7 +89,7 @@ pub fn run_all<
 }
 
 // Starts a thread beside the loops. Where that fails, the proxy ends.
-fn kept<R: Wait, N: BoardName + Ledger, T>(
+fn kept<R: Wait, N: DeskName + Ledger, T>(
     rt: &R,
     shared: &Shared<'_, N>,
     started: Option<T>,
@@ -111,9 +111,9 @@ fn begin_loops<
     's,
     E,
     R: Net<Listener = TcpListener, Stream = TcpStream> + Clock + Print + Threads + Wait + Sync,
-    N: BoardName + Ledger + Send + Sync + 's,
+    N: DeskName + Ledger + Send + Sync + 's,
     S: Lends<N> + Sync + 's,
->(scope: &Scope<'s, E>, rt: &'s R, shared: &'s S, loops: &mut Vec<Unbegun>) {
+>(scope: &Scope<'s, E>, rt: &'s R, shared: &'s S, loops: &mut Vec<UnstartedLoop>) {
     let Some(next) = loops.pop() else {
         return shared.lend().wait_for_end(rt);
     };
@@ -130,9 +130,9 @@ fn begin_loops<
 fn run_loop<
     'a,
     R: Net<Listener = TcpListener, Stream = TcpStream> + Clock + Print + Wait,
-    N: BoardName + Ledger,
->(rt: &'a R, shared: &'a Shared<'a, N>, unbegun: Unbegun) {
-    let Unbegun { poll, home } = unbegun;
+    N: DeskName + Ledger,
+>(rt: &'a R, shared: &'a Shared<'a, N>, unbegun: UnstartedLoop) {
+    let UnstartedLoop { poll, home } = unbegun;
     match looper(rt, shared, &poll, home) {
         Err(_) => shared.give_up(rt),
         Ok(looper) => {
@@ -146,7 +146,7 @@ fn run_loop<
 fn looper<
     'a,
     R: Net<Listener = TcpListener, Stream = TcpStream> + Clock + Print + Wait,
-    N: BoardName + Ledger,
+    N: DeskName + Ledger,
 >(
     rt: &'a R,
     shared: &'a Shared<'a, N>,
@@ -163,16 +163,16 @@ fn looper<
     let most_unused = shared.most.unused.min(MOST_UNUSED);
     let guests = shared.most.clients.min(MOST_GUESTS);
     let room = (guests + most_lingering + most_unused) as usize;
-    let mut limits = Limits::new(alloc);
-    let keywords = Keywords::of(alloc, shared.front, &mut limits, room)?;
+    let mut timers = Timers::new(alloc);
+    let keywords = Keywords::of(alloc, shared.front, &mut timers, room)?;
     let rules = Rules {
         aborts: shared.proxy.config.abortonclose,
     };
     let buffer = vec![in alloc; 0u8; BUFFER]?;
     let gate = SocketGate::new(alloc, rt, shared.front)?;
     let agenda = Agenda::with_room(alloc, room)?;
-    let shelves = Shelves::empty(alloc, servers, most_unused as usize)?;
-    let guests = Slots::with_room(alloc, room)?;
+    let shelves = UnusedConnections::empty(alloc, servers, most_unused as usize)?;
+    let guests = TokenTable::with_room(alloc, room)?;
     Ok(Looper {
         rt,
         shared,
@@ -186,7 +186,7 @@ fn looper<
         },
         guests,
         room,
-        limits,
+        timers,
         keywords,
         buffer,
         shelves,
@@ -202,20 +202,20 @@ fn looper<
 }
 
 // Makes the sink for a loop's records.
-fn teller_of<'a, R: Wait, N: BoardName + Ledger>(
+fn teller_of<'a, R: Wait, N: DeskName + Ledger>(
     rt: &R,
     shared: &'a Shared<'a, N>,
-) -> Option<Teller<'a>> {
+) -> Option<RecordSink<'a>> {
     shared.front.log?.teller(rt)
 }
 
 /// Lends threads the data that they share. Whether a type parameter may be shared is known only
 /// from a bound, so this trait shows it once, for `Shared`.
-pub trait Lends<N: BoardName + Ledger> {
+pub trait Lends<N: DeskName + Ledger> {
     fn lend(&self) -> &Shared<'_, N>;
 }
 
-impl<N: BoardName + Ledger> Lends<N> for Shared<'_, N> {
+impl<N: DeskName + Ledger> Lends<N> for Shared<'_, N> {
     fn lend(&self) -> &Shared<'_, N> {
         self
     }

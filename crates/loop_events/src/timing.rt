@@ -1,15 +1,16 @@
 //! The timeouts of a loop.
 
 use crate::guest::{Guest, Keyword, Resident, Visit};
-use crate::keeping::Soon;
+use crate::keeping::NextLook;
 use crate::looping::Looper;
-use crate::serving::Then;
+use crate::serving::MoreToDo;
 use exchange_driver::Moved;
-use exchange_events::Clock as Limit;
+use exchange_events::TimeoutKind;
 use exchange_seated::{Notice, Seated};
 use grant_board::BoardName;
-use loop_shared::{Gate, GateShared, Hopeless};
-use loop_table::{Hole, Limits, Overdue};
+use locked_book::DeskName;
+use loop_shared::{Gate, GateShared, GivenUpSet};
+use loop_table::{Hole, Overdue, Timers};
 use std::alloc::{AllocError, Global};
 use std::net::{Net, TcpListener, TcpStream};
 use std::sync::Wait;
@@ -38,7 +39,7 @@ pub(crate) struct Keywords {
     client: Option<usize>,
     connect: Option<usize>,
     server: Option<usize>,
-    stay: Option<usize>,
+    keep_alive: Option<usize>,
     linger: Option<usize>,
     turnaround: Option<usize>,
     unused: Option<usize>,
@@ -49,20 +50,20 @@ impl Keywords {
     pub(crate) fn of(
         alloc: Global,
         front: &GateShared<'_>,
-        limits: &mut Limits,
+        timers: &mut Timers,
         room: usize,
     ) -> Result<Keywords, AllocError> {
         let config = front.config;
         let unused = front.reusing.map(|_| UNUSED);
         let turnaround = config.connect_timeout.unwrap_or(TURNAROUND).min(TURNAROUND);
         Ok(Keywords {
-            client: timed(alloc, limits, config.client_timeout, room)?,
-            connect: timed(alloc, limits, config.connect_timeout, room)?,
-            server: timed(alloc, limits, config.server_timeout, room)?,
-            stay: timed(alloc, limits, front.keeping, room)?,
-            linger: timed(alloc, limits, Some(LINGER), room)?,
-            turnaround: timed(alloc, limits, Some(turnaround), room)?,
-            unused: timed(alloc, limits, unused, room)?,
+            client: timed(alloc, timers, config.client_timeout, room)?,
+            connect: timed(alloc, timers, config.connect_timeout, room)?,
+            server: timed(alloc, timers, config.server_timeout, room)?,
+            keep_alive: timed(alloc, timers, front.keeping, room)?,
+            linger: timed(alloc, timers, Some(LINGER), room)?,
+            turnaround: timed(alloc, timers, Some(turnaround), room)?,
+            unused: timed(alloc, timers, unused, room)?,
         })
     }
 
@@ -71,7 +72,7 @@ impl Keywords {
             Keyword::Client => self.client,
             Keyword::Connect => self.connect,
             Keyword::Server => self.server,
-            Keyword::Stay => self.stay,
+            Keyword::KeepAlive => self.keep_alive,
             Keyword::Linger => self.linger,
             Keyword::Turnaround => self.turnaround,
             Keyword::Unused => self.unused,
@@ -81,13 +82,13 @@ impl Keywords {
 
 fn timed(
     alloc: Global,
-    limits: &mut Limits,
+    timers: &mut Timers,
     millis: Option<u64>,
     room: usize,
 ) -> Result<Option<usize>, AllocError> {
     match millis {
         None => Ok(None),
-        Some(millis) => Ok(Some(limits.add(alloc, millis, room)?)),
+        Some(millis) => Ok(Some(timers.add(alloc, millis, room)?)),
     }
 }
 
@@ -97,46 +98,46 @@ fn wanted<N: BoardName + Ledger>(seated: &Seated<N>, visit: &Visit) -> Option<Ke
         return Some(Keyword::Turnaround);
     }
     match seated.clock()? {
-        Limit::Client if visit.stayed && seated.is_silent() => Some(Keyword::Stay),
-        Limit::Client => Some(Keyword::Client),
-        Limit::Queue => None,
-        Limit::Connect => Some(Keyword::Connect),
-        Limit::Server => Some(Keyword::Server),
+        TimeoutKind::Client if visit.asked_before && seated.is_silent() => Some(Keyword::KeepAlive),
+        TimeoutKind::Client => Some(Keyword::Client),
+        TimeoutKind::Queue => None,
+        TimeoutKind::Connect => Some(Keyword::Connect),
+        TimeoutKind::Server => Some(Keyword::Server),
     }
 }
 
 impl<
     'a,
-    N: BoardName + Ledger,
+    N: DeskName + Ledger,
     R: Net<Listener = TcpListener, Stream = TcpStream> + Clock + Print + Wait,
 > Looper<'a, N, R> {
     /// Makes the timeout of the guest's stage run for it, and no other.
-    pub(crate) fn time(&mut self, seated: &Seated<N>, visit: &mut Visit, key: usize) {
+    pub(crate) fn time(&mut self, seated: &Seated<N>, visit: &mut Visit, cell: usize) {
         let wanted = wanted(seated, visit);
         if visit.timer != wanted {
-            self.untime(visit.timer, key);
-            self.begin_time(wanted, key);
+            self.untime(visit.timer, cell);
+            self.begin_time(wanted, cell);
             visit.timer = wanted;
         }
     }
 
-    pub(crate) fn begin_time(&mut self, keyword: Option<Keyword>, key: usize) {
+    pub(crate) fn begin_time(&mut self, keyword: Option<Keyword>, cell: usize) {
         if let Some(number) = keyword.and_then(|it| self.keywords.number(it)) {
-            self.limits.begin(number, key);
+            self.timers.begin(number, cell);
         }
     }
 
-    pub(crate) fn untime(&mut self, keyword: Option<Keyword>, key: usize) {
+    pub(crate) fn untime(&mut self, keyword: Option<Keyword>, cell: usize) {
         if let Some(number) = keyword.and_then(|it| self.keywords.number(it)) {
-            self.limits.stop(number, key);
+            self.timers.stop(number, cell);
         }
     }
 
-    /// Restarts the guest's timeout where bytes moved at the side that it limits.
+    /// Restarts the guest's timeout where bytes moved at the side that it timers.
     pub(crate) fn note_moved(
         &mut self,
         visit: &Visit,
-        key: usize,
+        cell: usize,
         moved: Option<Moved>,
         side: Keyword,
     ) {
@@ -144,7 +145,7 @@ impl<
             return;
         };
         match self.keywords.number(side) {
-            Some(number) if visit.timer == Some(side) => self.limits.touch(number, key, moved),
+            Some(number) if visit.timer == Some(side) => self.timers.touch(number, cell, moved),
             _ => moved.spend(),
         }
     }
@@ -154,7 +155,7 @@ impl<
         if self.has_more() {
             return Some(0);
         }
-        let mut least = self.limits.patience();
+        let mut least = self.timers.patience();
         if self.short {
             least = Some(least.unwrap_or(SOON).min(SOON));
         }
@@ -168,11 +169,11 @@ impl<
     }
 
     /// Handles the timeouts that expired.
-    pub(crate) fn look_at_limits(&mut self) {
+    pub(crate) fn look_at_timers(&mut self) {
         let now = self.gate.moment();
-        self.limits.look_at_clock(now);
+        self.timers.look_at_clock(now);
         for _ in self.rt.forever() {
-            let Some(overdue) = self.limits.take_overdue() else {
+            let Some(overdue) = self.timers.take_overdue() else {
                 break;
             };
             self.end_time(overdue);
@@ -199,13 +200,13 @@ impl<
             self.refuse_late(&now);
             // A request that waited for its place is timed from its arrival there, which the
             // dispatcher doesn't know.
-            self.give_up(&Hopeless::Late { now, millis });
+            self.give_up(&GivenUpSet::Late { now, millis });
         }
         self.shared.look_for_waits(self.rt);
     }
 
     // Gives up requests that wait at their places.
-    fn give_up(&mut self, hopeless: &Hopeless) {
+    fn give_up(&mut self, hopeless: &GivenUpSet) {
         let mut from = 0;
         for _ in self.rt.forever() {
             let Some((place, ticket)) = self.shared.find_hopeless(self.rt, from, hopeless) else {
@@ -220,13 +221,13 @@ impl<
     /// Tells all requests that wait for a place or for a pass that they aren't served.
     pub(crate) fn refuse_waiting(&mut self) {
         self.refuse_outside();
-        self.give_up(&Hopeless::All);
+        self.give_up(&GivenUpSet::All);
     }
 
-    // Handles the timeout of a slot's occupant.
+    // Handles the timeout of a cell's occupant.
     fn end_time(&mut self, overdue: Overdue) {
-        let Overdue { keyword: _, key } = overdue;
-        let Some(token) = self.guests.token_of(key) else {
+        let Overdue { keyword: _, cell } = overdue;
+        let Some(token) = self.guests.token_of(cell) else {
             return;
         };
         let Some((resident, hole)) = self.guests.lend(token) else {
@@ -242,23 +243,23 @@ impl<
         }
     }
 
-    fn time_is_over(&mut self, guest: Box<Guest<N>>, hole: Hole) -> Then<N> {
+    fn time_is_over(&mut self, guest: Box<Guest<N>>, hole: Hole) -> MoreToDo<N> {
         let mut guest = guest;
-        let limit = match guest.visit.timer.take() {
+        let kind = match guest.visit.timer.take() {
             Some(Keyword::Turnaround) => {
                 guest.visit.pauses = false;
                 return self.dial(guest, hole);
             }
-            Some(Keyword::Stay) => return self.finish(guest, hole),
-            Some(Keyword::Client) => Limit::Client,
-            Some(Keyword::Connect) => Limit::Connect,
-            Some(Keyword::Server) => Limit::Server,
+            Some(Keyword::KeepAlive) => return self.finish(guest, hole),
+            Some(Keyword::Client) => TimeoutKind::Client,
+            Some(Keyword::Connect) => TimeoutKind::Connect,
+            Some(Keyword::Server) => TimeoutKind::Server,
             Some(Keyword::Linger | Keyword::Unused) | None => return self.keep(
                 guest,
                 hole,
-                Soon::Rests,
+                NextLook::Rests,
             ),
         };
-        self.tell(guest, hole, Notice::TimeOver(limit))
+        self.tell(guest, hole, Notice::TimeOver(kind))
     }
 }

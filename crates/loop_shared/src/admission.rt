@@ -9,7 +9,7 @@ use crate::shared::Shared;
 use crate::watching::watch_anew;
 use dispatch_state::Ticketed;
 use due_key::Moment;
-use grant_board::BoardName;
+use locked_book::DeskName;
 use log_entries::Refusal;
 use loop_table::{Subject, Token};
 use mio::{Interest, Registry};
@@ -22,7 +22,7 @@ use std::sync::atomic::Ordering;
 use std::sync::ledger::Ledger;
 
 /// What happened to the first request outside.
-pub enum Turn {
+pub enum Admission {
     /// It has a place now.
     Admitted(Outsider, Ticketed),
     /// The dispatcher refuses it for another cause than want of places.
@@ -31,7 +31,7 @@ pub enum Turn {
     Rests,
 }
 
-impl<N: BoardName + Ledger> Shared<'_, N> {
+impl<N: DeskName + Ledger> Shared<'_, N> {
     /// Says whether a request waits for a place.
     pub fn has_outside(&self) -> bool {
         self.outsiders() != 0
@@ -58,21 +58,21 @@ impl<N: BoardName + Ledger> Shared<'_, N> {
 
     /// Gives the first request outside a place, where there is one. Taking it out and its arrival
     /// are one step for all threads, so no two loops reverse the order of two requests.
-    pub fn admit_first<R: Wait, G: Gate>(&self, rt: &R, gate: &mut G) -> Turn {
+    pub fn admit_first<R: Wait, G: Gate>(&self, rt: &R, gate: &mut G) -> Admission {
         let mut outside = self.outside.lock(rt);
         let Some((deferred, token)) = outside.next() else {
-            return Turn::Rests;
+            return Admission::Rests;
         };
         let arrived = arrive_late(rt, self.proxy, gate, deferred);
         if matches!(arrived, Err(Refusal::PlacesFull)) {
-            return Turn::Rests;
+            return Admission::Rests;
         }
         let taken = outside.take(token);
         self.note_outside(&outside);
         match (taken, arrived) {
-            (Some(outsider), Ok(at)) => Turn::Admitted(outsider, at),
-            (Some(outsider), Err(_)) => Turn::Refused(outsider),
-            (None, _) => Turn::Rests,
+            (Some(outsider), Ok(at)) => Admission::Admitted(outsider, at),
+            (Some(outsider), Err(_)) => Admission::Refused(outsider),
+            (None, _) => Admission::Rests,
         }
     }
 

@@ -4,13 +4,13 @@ ghost use Rattle.std.specs.Prelude.{◌≡◌};
 
 use crate::presence::Presence;
 use crate::shared::Shared;
-use grant_board::BoardName;
+use locked_book::DeskName;
 use std::net::IpAddr;
 use std::sync::Wait;
 use std::sync::atomic::Ordering;
 use std::sync::ledger::Ledger;
 
-impl<N: BoardName + Ledger> Shared<'_, N> {
+impl<N: DeskName + Ledger> Shared<'_, N> {
     /// Returns the number of present clients.
     pub fn clients(&self) -> u64 {
         let ended = self.ended.load(Ordering::SeqCst);

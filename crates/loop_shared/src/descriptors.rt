@@ -15,7 +15,7 @@ const EACH_LOOP: u64 = 3;
 
 /// The most connections at a time.
 #[derive(Clone, Copy, Debug, PartialEq, Eq)]
-pub struct Most {
+pub struct ConnectionBounds {
     /// Of clients that are served or wait.
     pub clients: u64,
     /// Of clients that linger after their last answer.
@@ -33,7 +33,7 @@ pub struct ServerConnections {
 
 /// Returns the numbers of connections that the process has descriptors for, with this number of
 /// loops and these servers' connections.
-pub fn most_connections(loops: usize, servers: ServerConnections) -> Most {
+pub fn most_connections(loops: usize, servers: ServerConnections) -> ConnectionBounds {
     let mut limit = rlimit {
         rlim_cur: 0,
         rlim_max: 0,
@@ -50,7 +50,7 @@ pub fn most_connections(loops: usize, servers: ServerConnections) -> Most {
 // connections of servers, where these are wanted. A client has one, and at most one more for a
 // server: clients get all others except those for the servers' connections, or half of them where
 // that is more. There is always room for one client.
-fn most_within(descriptors: u64, servers: u64, wanted: u64) -> Most
+fn most_within(descriptors: u64, servers: u64, wanted: u64) -> ConnectionBounds
     ensures lingering { result.lingering ≡ descriptors / 8 }
     ensures unused { result.unused ≡ min (descriptors / 8) wanted }
     ensures clients { result.clients ≡ most_clients (descriptors - descriptors / 8 - min (descriptors / 8) wanted) servers }
@@ -58,7 +58,7 @@ fn most_within(descriptors: u64, servers: u64, wanted: u64) -> Most
     let lingering = descriptors / 8;
     let unused = lingering.min(wanted);
     let others = descriptors - lingering - unused;
-    Most {
+    ConnectionBounds {
         clients: (others / 2).max(others.saturating_sub(servers)).max(1),
         lingering,
         unused,

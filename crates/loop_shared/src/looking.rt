@@ -3,13 +3,14 @@
 ghost use Rattle.std.specs.Prelude.{◌≡◌, ◌<◌, IfSome};
 ghost use Rattle.loop_shared.specs.Looks.{EndsLook};
 
-use crate::granted::GrantedGuest;
+use crate::granted::GrantedRequest;
 use crate::parked::Parked;
 use crate::shared::Shared;
 use crate::watching::watch;
 use board_seats::{Lent, Taken};
 use dispatch_state::Ticketed;
 use grant_board::BoardName;
+use locked_book::DeskName;
 use loop_table::Subject;
 use mio::{Interest, Registry};
 use std::os::fd::AsRawFd;
@@ -19,7 +20,7 @@ use std::sync::ledger::Ledger;
 /// The result of looking at a place.
 pub enum Looked<N: BoardName + Ledger> {
     /// The request that waited there, with its pass.
-    Granted(GrantedGuest<N>),
+    Granted(GrantedRequest<N>),
     /// It waits on, and some loop's poll watches its client.
     Waits,
     /// It waits on, and the system refuses to watch its client. It has to be given up: this is its ticket.
@@ -30,21 +31,21 @@ pub enum Looked<N: BoardName + Ledger> {
     Nobody,
 }
 
-impl<N: BoardName + Ledger> Shared<'_, N> {
+impl<N: DeskName + Ledger> Shared<'_, N> {
     /// Looks at a place. A request that waits on has its client watched by one loop, for its leaving only.
     pub fn look_at<R: Wait>(&self, rt: &R, registry: &Registry, place: usize) -> Looked<N> {
-        let Some(spot) = self.spots.as_slice().get(place) else {
+        let Some(cell) = self.cells.as_slice().get(place) else {
             return Looked::Nobody;
         };
-        let mut spot = spot.lock(rt);
-        self.look_in(rt, registry, &mut *spot)
+        let mut cell = cell.lock(rt);
+        self.look_in(rt, registry, &mut *cell)
     }
 
     // Takes the request of a place out with its pass, or leaves it there.
-    fn look_in<R: Wait>(&self, rt: &R, registry: &Registry, spot: &mut Option<Parked>) -> Looked<N>
-        ensures { EndsLook spot.old spot.new result }
+    fn look_in<R: Wait>(&self, rt: &R, registry: &Registry, cell: &mut Option<Parked>) -> Looked<N>
+        ensures { EndsLook cell.old cell.new result }
     {
-        let Some(parked) = spot.take() else {
+        let Some(parked) = cell.take() else {
             return Looked::Nobody;
         };
         let mut parked = parked;
@@ -52,7 +53,7 @@ impl<N: BoardName + Ledger> Shared<'_, N> {
         let looked = match lent {
             None => Looked::NoSeat,
             Some(lent) => match self.ask(rt, lent, parked.at) {
-                Some(taken) => return Looked::Granted(GrantedGuest { taken, parked }),
+                Some(taken) => return Looked::Granted(GrantedRequest { taken, parked }),
                 None if parked.watched || watches(registry, &parked) => {
                     parked.watched = true;
                     Looked::Waits
@@ -63,7 +64,7 @@ impl<N: BoardName + Ledger> Shared<'_, N> {
                 }
             },
         };
-        match spot.replace(parked) {
+        match cell.replace(parked) {
             None => looked,
             Some(_) => unreachable!(),
         }

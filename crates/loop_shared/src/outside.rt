@@ -4,9 +4,9 @@
 use crate::presence::Presence;
 use due_key::{Key, Moment};
 use exchange_driver::{Line, Live};
-use exchange_seated::Queued;
+use exchange_seated::WaitingExchange;
 use locked_book::Deferred;
-use loop_table::{Limits, Overdue, Slots, Token};
+use loop_table::{Overdue, Timers, Token, TokenTable};
 use pend_queue::ListQueue;
 use prio_rules::Wish;
 use queue_outside::OutsideOrder;
@@ -18,7 +18,7 @@ pub(crate) const MOST_OUTSIDE: usize = 131_072;
 /// A client whose request waits for a place. It has no `Drop`, since its presence has none.
 pub struct Outsider {
     pub presence: Presence,
-    pub queued: Queued,
+    pub queued: WaitingExchange,
     pub client: Line<Live>,
     /// When it began to wait.
     pub came: Moment,
@@ -35,9 +35,9 @@ struct Standing {
 /// All clients whose requests wait for a place. It has no `Drop`, since its table has none.
 pub struct Outside {
     order: OutsideOrder<ListQueue<Key, usize>>,
-    standing: Slots<Box<Standing>>,
-    limits: Limits,
-    /// The number of `timeout queue` among the limits. `None`: without limit.
+    standing: TokenTable<Box<Standing>>,
+    timers: Timers,
+    /// The number of `timeout queue` among the timers. `None`: without limit.
     patience: Option<usize>,
 }
 
@@ -48,17 +48,17 @@ impl Outside {
         let room = usize::try_from(clients)
             .unwrap_or(MOST_OUTSIDE)
             .min(MOST_OUTSIDE);
-        let mut limits = Limits::new(alloc);
+        let mut timers = Timers::new(alloc);
         let patience = match millis {
             None => None,
-            Some(millis) => Some(limits.add(alloc, millis, room)?),
+            Some(millis) => Some(timers.add(alloc, millis, room)?),
         };
         let order = OutsideOrder::with_room(alloc, room)?;
-        let standing = Slots::with_room(alloc, room)?;
+        let standing = TokenTable::with_room(alloc, room)?;
         Ok(Outside {
             order,
             standing,
-            limits,
+            timers,
             patience,
         })
     }
@@ -111,9 +111,9 @@ impl Outside {
 
     // Begins its timeout. The clock may not have been read for long.
     fn begin_time(&mut self, number: usize, now: Moment) {
-        self.limits.look_at_clock(now);
+        self.timers.look_at_clock(now);
         if let Some(patience) = self.patience {
-            self.limits.begin(patience, number);
+            self.timers.begin(patience, number);
         }
     }
 
@@ -135,7 +135,7 @@ impl Outside {
         let (standing, hole) = self.standing.lend(token)?;
         self.standing.close(hole);
         if let Some(patience) = self.patience {
-            self.limits.stop(patience, token.index());
+            self.timers.stop(patience, token.index());
         }
         let Standing { key, outsider } = Box::into_inner(standing);
         let _ = self.order.leave(key);
@@ -157,12 +157,12 @@ impl Outside {
 
     /// Takes out a request that has waited too long at this moment.
     pub(crate) fn take_late(&mut self, now: Moment) -> Option<Outsider> {
-        self.limits.look_at_clock(now);
-        let Some(overdue) = self.limits.take_overdue() else {
+        self.timers.look_at_clock(now);
+        let Some(overdue) = self.timers.take_overdue() else {
             return None;
         };
-        let Overdue { keyword: _, key } = overdue;
-        let token = self.standing.token_of(key)?;
+        let Overdue { keyword: _, cell } = overdue;
+        let token = self.standing.token_of(cell)?;
         self.take(token)
     }
 
@@ -171,7 +171,7 @@ impl Outside {
         let Outside {
             order: _,
             standing,
-            limits: _,
+            timers: _,
             patience: _,
         } = self;
         let mut standing = standing.into_values();

@@ -2,12 +2,12 @@ use crate::presence::Presence;
 use dispatch_state::Ticketed;
 use due_key::Moment;
 use exchange_driver::{Line, Live};
-use exchange_seated::Queued;
+use exchange_seated::WaitingExchange;
 
 /// A client whose request waits for its pass. It has no `Drop`, since its presence has none.
 pub struct Parked {
     pub presence: Presence,
-    pub queued: Queued,
+    pub queued: WaitingExchange,
     pub client: Line<Live>,
     pub at: Ticketed,
     /// The server that was last tried for it without success.
@@ -22,7 +22,7 @@ pub struct Parked {
 
 /// Which requests are given up, and told that they aren't served.
 #[derive(Drop)]
-pub enum Hopeless {
+pub enum GivenUpSet {
     /// All.
     All,
     /// Those that had to wait for their place, and came at least this number of milliseconds before this moment.
@@ -46,14 +46,14 @@ impl Parked {
     }
 
     /// Says whether its request is one of those, and isn't given up yet.
-    pub(crate) fn is_hopeless(&self, hopeless: &Hopeless) -> bool {
+    pub(crate) fn is_hopeless(&self, hopeless: &GivenUpSet) -> bool {
         if self.late {
             return false;
         }
         match (hopeless, &self.came) {
-            (Hopeless::All, _) => true,
-            (Hopeless::Late { .. }, None) => false,
-            (Hopeless::Late { now, millis }, Some(came)) => {
+            (GivenUpSet::All, _) => true,
+            (GivenUpSet::Late { .. }, None) => false,
+            (GivenUpSet::Late { now, millis }, Some(came)) => {
                 *millis <= now.get().saturating_sub(came.get())
             }
         }

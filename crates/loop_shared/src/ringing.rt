@@ -2,9 +2,9 @@
 
 use crate::shared::Shared;
 use base_places::PlaceSet;
-use dispatch_reports::Window;
+use dispatch_reports::EndedWindow;
 use due_key::Moment;
-use grant_board::BoardName;
+use locked_book::DeskName;
 use relay_workers::{Gate, Slot, checker};
 use run_gate::{Pauses, SocketGate};
 use std::net::{Net, TcpListener, TcpStream};
@@ -21,7 +21,7 @@ const CHECK_PAUSES: u64 = 1 << 62;
 
 /// The gate of a thread that isn't a loop: it reports places to the loops.
 #[derive(Drop)]
-pub(crate) struct Ringing<'a, N: BoardName + Ledger, R> {
+pub(crate) struct Ringing<'a, N: DeskName + Ledger, R> {
     pub(crate) rt: &'a R,
     pub(crate) shared: &'a Shared<'a, N>,
     pub(crate) gate: SocketGate<'a, R>,
@@ -29,7 +29,7 @@ pub(crate) struct Ringing<'a, N: BoardName + Ledger, R> {
 
 impl<
     'a,
-    N: BoardName + Ledger,
+    N: DeskName + Ledger,
     R: Net<Listener = TcpListener, Stream = TcpStream> + Clock + Print + Wait,
 > Gate for Ringing<'a, N, R> {
     type Client = TcpStream;
@@ -40,7 +40,7 @@ impl<
         None
     }
 
-    fn connect<M: BoardName>(&mut self, slot: &Slot<'_, M>) -> Option<TcpStream> {
+    fn connect<M: DeskName>(&mut self, slot: &Slot<'_, M>) -> Option<TcpStream> {
         self.gate.connect(slot)
     }
 
@@ -56,12 +56,12 @@ impl<
         self.gate.moment()
     }
 
-    fn window(&mut self, window: Window) {
+    fn window(&mut self, window: EndedWindow) {
         self.gate.window(window);
     }
 
     fn wake(&mut self, places: &PlaceSet) {
-        self.shared.post_places(self.rt, places);
+        self.shared.send_places(self.rt, places);
     }
 }
 
@@ -69,7 +69,7 @@ impl<
 pub fn run_checks<
     'a,
     R: Net<Listener = TcpListener, Stream = TcpStream> + Clock + Print + Wait,
-    N: BoardName + Ledger,
+    N: DeskName + Ledger,
 >(rt: &'a R, shared: &'a Shared<'a, N>, stop: &AtomicBool) {
     let Ok(gate) = SocketGate::new(shared.proxy.alloc, rt, shared.front) else {
         return shared.give_up(rt);

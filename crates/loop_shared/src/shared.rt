@@ -1,16 +1,16 @@
 ghost use Rattle.std.specs.Prelude.{◌≡◌, ◌<◌, ◌≤◌, ◌↔◌, IsTrue, if◌then◌else◌, Some, None, vec_len};
 
-use crate::descriptors::Most;
+use crate::descriptors::ConnectionBounds;
 use crate::mail::Mailbox;
 use crate::outside::Outside;
 use crate::parked::Parked;
+use crate::parked_cells::leave_all;
 use crate::presence::Presence;
-use crate::spots::leave_all;
 use crate::unused::UnusedCounts;
 use base_places::{MOST_PLACES, PlaceSet};
 use board_seats::{Idle, Lent, Seats};
 use exchange_machine::Terms;
-use grant_board::BoardName;
+use locked_book::DeskName;
 use relay_http::{Additions, Persistence};
 use relay_workers::Proxy;
 use run_gate::GateShared;
@@ -22,12 +22,12 @@ use std::sync::{Condvar, Mutex, Wait};
 
 /// The parts that it is made of. It has no `Drop`, since `Outside` has none.
 pub struct SharedParts {
-    /// A spot for each place.
-    pub spots: Vec<Mutex<Option<Parked>>>,
+    /// A cell for each place.
+    pub cells: Vec<Mutex<Option<Parked>>>,
     /// A mailbox for each loop.
     pub mail: Vec<Mailbox>,
     /// The most connections of clients at a time.
-    pub most: Most,
+    pub most: ConnectionBounds,
     /// The requests that wait for a place, and how many of them stop the accepting of clients.
     pub outside: Outside,
     pub most_outside: u64,
@@ -36,11 +36,11 @@ pub struct SharedParts {
 }
 
 /// The state that all threads share.
-pub struct Shared<'a, N: BoardName + Ledger> {
+pub struct Shared<'a, N: DeskName + Ledger> {
     pub proxy: &'a Proxy<N>,
     pub front: &'a GateShared<'a>,
-    /// The spot of each place, where its request lies until its pass is there.
-    pub(crate) spots: Vec<Mutex<Option<Parked>>>,
+    /// The cell of each place, where its request lies until its pass is there.
+    pub(crate) cells: Vec<Mutex<Option<Parked>>>,
     /// The seats: the idle ones and the lent ones.
     pub(crate) seats: Mutex<Seats<N>>,
     /// The requests that wait for a place, and their number.
@@ -52,7 +52,7 @@ pub struct Shared<'a, N: BoardName + Ledger> {
     pub(crate) unused: UnusedCounts,
     pub(crate) mail: Vec<Mailbox>,
     /// The most connections of clients at a time.
-    pub most: Most,
+    pub most: ConnectionBounds,
     /// The number of clients that came, and of those that are done.
     pub(crate) came: AtomicU64,
     pub(crate) ended: AtomicU64,
@@ -69,10 +69,12 @@ pub struct Shared<'a, N: BoardName + Ledger> {
     pub(crate) bell: Condvar,
     /// The proxy ended for want of memory or of a thread.
     pub(crate) failed: AtomicBool,
-    ghost sized: { vec_len spots ≡ N.terms.places },
+    ghost sized: { vec_len cells ≡ N.terms.places },
+    /// The gates have the proxy's configuration.
+    pub ghost of_config: { front.now.config.now ≡ proxy.now.config },
 }
 
-impl<'a, N: BoardName + Ledger> Shared<'a, N> {
+impl<'a, N: DeskName + Ledger> Shared<'a, N> {
     /// Makes the shared state of a proxy, with these seats, which are accounted for on this blank.
     pub fn new(
         proxy: &'a Proxy<N>,
@@ -80,12 +82,13 @@ impl<'a, N: BoardName + Ledger> Shared<'a, N> {
         seats: (Vec<Idle<N>>, Blank),
         parts: SharedParts,
     ) -> Shared<'a, N>
-        requires spots { vec_len parts.spots ≡ N.terms.places }
+        requires config { front.now.config.now ≡ proxy.now.config }
+        requires cells { vec_len parts.cells ≡ N.terms.places }
         requires ledger { (seats.1.name ≡ N.name) × (seats.1.parts ≡ N.parts) }
         requires seats { vec_len seats.0 ≤ seats.1.parts }
     {
         let SharedParts {
-            spots,
+            cells,
             mail,
             most,
             outside,
@@ -95,7 +98,7 @@ impl<'a, N: BoardName + Ledger> Shared<'a, N> {
         Shared {
             proxy,
             front,
-            spots,
+            cells,
             seats: Mutex::new(Seats::open(seats.0, seats.1)),
             outside: Mutex::new(outside),
             outsiders: AtomicU64::new(0),
@@ -121,7 +124,7 @@ impl<'a, N: BoardName + Ledger> Shared<'a, N> {
         let Shared {
             proxy: _,
             front: _,
-            spots,
+            cells,
             seats,
             outside,
             outsiders: _,
@@ -141,7 +144,7 @@ impl<'a, N: BoardName + Ledger> Shared<'a, N> {
             failed,
         } = self;
         outside.into_inner().end();
-        leave_all(spots);
+        leave_all(cells);
         let seats = seats.into_inner().end();
         if failed.load(Ordering::SeqCst) {
             (seats, Err(AllocError))
@@ -151,17 +154,17 @@ impl<'a, N: BoardName + Ledger> Shared<'a, N> {
     }
 }
 
-impl<N: BoardName + Ledger> Shared<'_, N> {
+impl<N: DeskName + Ledger> Shared<'_, N> {
     /// Says whether a place is one of the board's.
     pub fn has(&self, place: usize) -> bool
         ensures { IsTrue result ↔ (place < N.terms.places) }
     {
-        place < self.spots.len()
+        place < self.cells.len()
     }
 
     /// Returns the number of places.
     pub fn places(&self) -> usize {
-        self.spots.len()
+        self.cells.len()
     }
 
     /// Returns the number of loops.
@@ -210,7 +213,7 @@ impl<N: BoardName + Ledger> Shared<'_, N> {
     }
 
     /// Has each place looked at by some loop.
-    pub fn post_places<R: Wait>(&self, rt: &R, places: &PlaceSet) {
+    pub fn send_places<R: Wait>(&self, rt: &R, places: &PlaceSet) {
         let mut from = 0;
         for _ in 0..MOST_PLACES {
             let Some(place) = places.next(from) else {

@@ -3,12 +3,12 @@
 use crate::ringing::Ringing;
 use crate::shared::Shared;
 use due_key::Moment;
-use grant_board::BoardName;
 use late_cert::Reports;
+use locked_book::DeskName;
 use log_entries::{Intake, Queue, Refusal};
 use log_texts::Names;
 use relay_workers::Gate;
-use run_control::{Helm, Standing, Steered, attend};
+use run_control::{CommandExecutor, Standing, Steered, attend};
 use run_gate::SocketGate;
 use std::alloc::AllocError;
 use std::net::{Net, TcpListener, TcpStream};
@@ -18,7 +18,7 @@ use std::time::Clock;
 
 /// A proxy that is steered, with a gate that reports places to the loops.
 #[derive(Drop)]
-struct Steering<'a, N: BoardName + Ledger, R> {
+struct Steering<'a, N: DeskName + Ledger, R> {
     rt: &'a R,
     shared: &'a Shared<'a, N>,
     gate: Ringing<'a, N, R>,
@@ -26,7 +26,7 @@ struct Steering<'a, N: BoardName + Ledger, R> {
 
 impl<
     'a,
-    N: BoardName + Ledger,
+    N: DeskName + Ledger,
     R: Net<Listener = TcpListener, Stream = TcpStream> + Clock + Print + Wait,
 > Steered for Steering<'a, N, R> {
     fn names(&self) -> &Names {
@@ -105,7 +105,7 @@ impl<
 pub fn run_controls<
     'a,
     R: Net<Listener = TcpListener, Stream = TcpStream> + Clock + Print + Wait,
-    N: BoardName + Ledger,
+    N: DeskName + Ledger,
 >(rt: &'a R, shared: &'a Shared<'a, N>) {
     if attend_to(rt, shared).is_err() {
         shared.give_up(rt);
@@ -115,7 +115,7 @@ pub fn run_controls<
 fn attend_to<
     'a,
     R: Net<Listener = TcpListener, Stream = TcpStream> + Clock + Print + Wait,
-    N: BoardName + Ledger,
+    N: DeskName + Ledger,
 >(rt: &'a R, shared: &'a Shared<'a, N>) -> Result<(), AllocError> {
     let Some(controls) = shared.front.controls else {
         return Ok(());
@@ -127,6 +127,6 @@ fn attend_to<
     }
     let gate = SocketGate::new(alloc, rt, shared.front)?;
     let gate = Ringing { rt, shared, gate };
-    let mut helm = Helm::new(alloc, Steering { rt, shared, gate }, limits.as_slice())?;
+    let mut helm = CommandExecutor::new(alloc, Steering { rt, shared, gate }, limits.as_slice())?;
     attend(rt, controls, &mut helm)
 }

@@ -2,14 +2,14 @@
 //! refused, then all ends.
 
 use crate::shared::Shared;
-use grant_board::BoardName;
 use libc::net::{SHUT_RDWR, shutdown};
+use locked_book::DeskName;
 use std::os::fd::AsRawFd;
 use std::sync::Wait;
 use std::sync::atomic::Ordering;
 use std::sync::ledger::Ledger;
 
-impl<N: BoardName + Ledger> Shared<'_, N> {
+impl<N: DeskName + Ledger> Shared<'_, N> {
     /// Accepts no more clients except those that wait at the listener by now.
     pub fn stop(&self) {
         self.stopping.store(true, Ordering::SeqCst);

@@ -1,7 +1,7 @@
 //! The count of servers' connections that no exchange uses.
 
 use crate::shared::Shared;
-use grant_board::BoardName;
+use locked_book::DeskName;
 use std::alloc::{AllocError, Global};
 use std::sync::Wait;
 use std::sync::atomic::{AtomicBool, AtomicU64, Ordering};
@@ -43,7 +43,7 @@ impl UnusedCounts {
     }
 }
 
-impl<N: BoardName + Ledger> Shared<'_, N> {
+impl<N: DeskName + Ledger> Shared<'_, N> {
     /// Counts one more unused connection of a server. False where there are as many as there may be.
     pub fn note_unused(&self, server: usize) -> bool {
         let (Some(most), Some(count)) = (

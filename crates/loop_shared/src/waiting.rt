@@ -1,21 +1,21 @@
 //! Requests that wait at their places.
 
-use crate::parked::{Hopeless, Parked};
+use crate::parked::{GivenUpSet, Parked};
 use crate::shared::Shared;
-use grant_board::BoardName;
+use locked_book::DeskName;
 use run_gate::has_left;
 use std::os::fd::AsRawFd;
 use std::sync::Wait;
 use std::sync::atomic::Ordering;
 use std::sync::ledger::Ledger;
 
-impl<N: BoardName + Ledger> Shared<'_, N> {
-    /// Puts a request into the spot of its place. The caller looks at the place afterwards.
+impl<N: DeskName + Ledger> Shared<'_, N> {
+    /// Puts a request into the cell of its place. The caller looks at the place afterwards.
     pub fn park<R: Wait>(&self, rt: &R, parked: Parked) {
-        let Some(spot) = self.spots.as_slice().get(parked.at.place) else {
+        let Some(cell) = self.cells.as_slice().get(parked.at.place) else {
             return self.note_end(rt, parked.leave());
         };
-        let before = spot.lock(rt).replace(parked);
+        let before = cell.lock(rt).replace(parked);
         match before {
             None => {}
             // An earlier request had the place, and is over.
@@ -25,11 +25,11 @@ impl<N: BoardName + Ledger> Shared<'_, N> {
 
     /// Says whether a ticket's request still lies at a place although its client has left.
     pub fn lies_left<R: Wait>(&self, rt: &R, place: usize, ticket: u64) -> bool {
-        let Some(spot) = self.spots.as_slice().get(place) else {
+        let Some(cell) = self.cells.as_slice().get(place) else {
             return false;
         };
-        let spot = spot.lock(rt);
-        match &*spot {
+        let cell = cell.lock(rt);
+        match &*cell {
             Some(parked) if parked.at.ticket == ticket => match parked.client.socket() {
                 Some(live) => has_left(live.stream().as_raw_fd(), self.front.config.abortonclose),
                 None => false,
@@ -60,8 +60,8 @@ impl<N: BoardName + Ledger> Shared<'_, N> {
             self.waits.store(true, Ordering::SeqCst);
             return;
         }
-        for spot in self.spots.as_slice() {
-            if spot.lock(rt).is_some() {
+        for cell in self.cells.as_slice() {
+            if cell.lock(rt).is_some() {
                 self.waits.store(true, Ordering::SeqCst);
                 return;
             }
@@ -74,14 +74,14 @@ impl<N: BoardName + Ledger> Shared<'_, N> {
         &self,
         rt: &R,
         from: usize,
-        hopeless: &Hopeless,
+        hopeless: &GivenUpSet,
     ) -> Option<(usize, u64)> {
-        for place in from..self.spots.len() {
-            let Some(spot) = self.spots.as_slice().get(place) else {
+        for place in from..self.cells.len() {
+            let Some(cell) = self.cells.as_slice().get(place) else {
                 return None;
             };
-            let mut spot = spot.lock(rt);
-            if let Some(parked) = &mut *spot {
+            let mut cell = cell.lock(rt);
+            if let Some(parked) = &mut *cell {
                 if parked.is_hopeless(hopeless) {
                     parked.late = true;
                     return Some((place, parked.at.ticket));

@@ -2,19 +2,21 @@
 
 use crate::ringing::Ringing;
 use crate::shared::Shared;
-use grant_board::BoardName;
+use locked_book::DeskName;
 use run_gate::SocketGate;
 use std::net::{Net, TcpListener, TcpStream};
 use std::sync::Wait;
 use std::sync::ledger::Ledger;
 use std::time::{Clock, Duration};
 
-impl<N: BoardName + Ledger> Shared<'_, N> {
+impl<N: DeskName + Ledger> Shared<'_, N> {
     // Waits this number of milliseconds, or until the proxy has ended. Says whether it has.
     fn is_over_after<R: Wait + Clock>(&self, rt: &R, millis: u64) -> bool {
-        let limit = Duration::from_millis(millis);
+        let period = Duration::from_millis(millis);
         let over = self.ended_all.lock(rt);
-        let (over, _) = self.bell.wait_timeout_while(rt, over, limit, |over| !*over);
+        let (over, _) = self
+            .bell
+            .wait_timeout_while(rt, over, period, |over| !*over);
         *over
     }
 }
@@ -23,7 +25,7 @@ impl<N: BoardName + Ledger> Shared<'_, N> {
 pub fn run_windows<
     'a,
     R: Net<Listener = TcpListener, Stream = TcpStream> + Clock + Print + Wait,
-    N: BoardName + Ledger,
+    N: DeskName + Ledger,
 >(rt: &'a R, shared: &'a Shared<'a, N>, millis: u64) {
     let Ok(gate) = SocketGate::new(shared.proxy.alloc, rt, shared.front) else {
         return shared.give_up(rt);

@@ -1,4 +1,4 @@
-pub mod Slotted
+pub mod Tabled
 pub mod Runners
 pub mod Patience
 pub mod Moments

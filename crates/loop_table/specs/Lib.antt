@@ -1,5 +1,5 @@
 pub mod Agendas
-pub mod Limits
+pub mod Timers
 pub mod Runs
-pub mod Slots
+pub mod TokenTables
 pub mod Subjects

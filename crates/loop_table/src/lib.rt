@@ -7,15 +7,15 @@
 mod agenda;
 mod cells;
 pub mod laws;
-mod limits;
 mod running;
-mod slots;
 mod subject;
+mod timers;
 mod token;
+mod token_table;
 
 pub use agenda::Agenda;
-pub use limits::{Limits, Overdue};
 pub use running::Running;
-pub use slots::Slots;
 pub use subject::{Subject, numbers_differ};
-pub use token::{Hole, MOST_SLOTS, Token};
+pub use timers::{Overdue, Timers};
+pub use token::{Hole, MOST_CELLS, Token};
+pub use token_table::TokenTable;

@@ -7,13 +7,13 @@ use queue_waits::JoinOrder;
 use std::alloc::{AllocError, Global};
 use std::marker::Model;
 
-/// The keys that one timeout runs for. Since it is equally long for all, it expires first for the
-/// key that began first, so the order of beginnings suffices: no call but `with_room` costs more
+/// The cells that one timeout runs for. Since it is equally long for all, it expires first for the
+/// cell that began first, so the order of beginnings suffices: no call but `with_room` costs more
 /// than `O(1)`.
 #[derive(Drop)]
 pub struct Running {
     order: JoinOrder,
-    // By key. The value of a key that isn't in the order means nothing.
+    // By cell. The value of a cell that isn't in the order means nothing.
     since: Vec<Moment>,
     latest: Moment,
 }
@@ -29,13 +29,13 @@ impl Model for Running {
 }
 
 impl Running {
-    /// Makes a timeout that runs for no key, and may for the keys below `room`. Fails only where
+    /// Makes a timeout that runs for no cell, and may for the cells below `room`. Fails only where
     /// memory is refused. `O(n)`.
     pub fn with_room(alloc: Global, room: usize) -> Result<Running, AllocError>
         ensures { IfOk result (λ made. made ≡ none_running room) }
     {
         let mut since = Vec::with_capacity(alloc, room)?;
-        for key in 0..room {
+        for cell in 0..room {
             since.push_reserved(Moment::zero());
         }
         Ok(Running {
@@ -45,89 +45,89 @@ impl Running {
         })
     }
 
-    /// Returns the bound of the keys that it may run for.
+    /// Returns the bound of the cells that it may run for.
     pub fn room(&self) -> usize
         ensures { result ≡ self.now.room }
     {
         self.since.len()
     }
 
-    /// Says whether it runs for a key.
-    pub fn runs_for(&self, key: usize) -> bool
-        ensures { result ≡ runs_for self.now.runs key }
+    /// Says whether it runs for a cell.
+    pub fn runs_for(&self, cell: usize) -> bool
+        ensures { result ≡ runs_for self.now.runs cell }
     {
-        self.order.contains(key)
+        self.order.contains(cell)
     }
 
-    /// Runs it for a key from now on, even where it ran already: a moment that went back counts as
+    /// Runs it for a cell from now on, even where it ran already: a moment that went back counts as
     /// the latest so far.
-    pub(crate) fn begin(&mut self, key: usize, now: Moment)
-        requires { key < self.old.room }
-        ensures { self.new ≡ begun self.old key now }
+    pub(crate) fn begin(&mut self, cell: usize, now: Moment)
+        requires { cell < self.old.room }
+        ensures { self.new ≡ begun self.old cell now }
     {
         let since = self.latest.later(now);
-        take_out(&mut self.order, key);
-        self.since[key] = since;
-        self.order.append(key);
+        take_out(&mut self.order, cell);
+        self.since[cell] = since;
+        self.order.append(cell);
         self.latest = since;
     }
 
-    /// Runs it for a key from now on, where it doesn't run yet.
-    pub(crate) fn begin_once(&mut self, key: usize, now: Moment)
-        requires { key < self.old.room }
-        ensures { self.new ≡ begun_once self.old key now }
+    /// Runs it for a cell from now on, where it doesn't run yet.
+    pub(crate) fn begin_once(&mut self, cell: usize, now: Moment)
+        requires { cell < self.old.room }
+        ensures { self.new ≡ begun_once self.old cell now }
     {
-        if !self.runs_for(key) {
-            self.begin(key, now);
+        if !self.runs_for(cell) {
+            self.begin(cell, now);
         }
     }
 
-    /// Begins it anew for a key, where it runs.
-    pub(crate) fn touch(&mut self, key: usize, now: Moment)
-        requires { key < self.old.room }
-        ensures { self.new ≡ touched self.old key now }
+    /// Begins it anew for a cell, where it runs.
+    pub(crate) fn touch(&mut self, cell: usize, now: Moment)
+        requires { cell < self.old.room }
+        ensures { self.new ≡ touched self.old cell now }
     {
-        if self.runs_for(key) {
-            self.begin(key, now);
+        if self.runs_for(cell) {
+            self.begin(cell, now);
         }
     }
 
-    /// Stops it for a key.
-    pub fn stop(&mut self, key: usize)
-        ensures { self.new ≡ stopped self.old key }
+    /// Stops it for a cell.
+    pub fn stop(&mut self, cell: usize)
+        ensures { self.new ≡ stopped self.old cell }
     {
-        take_out(&mut self.order, key);
+        take_out(&mut self.order, cell);
     }
 
-    /// Returns the key for which it expires first, where it has expired now; `None` only where it has for no key.
-    pub fn overdue(&self, limit: u64, now: Moment) -> Option<usize>
-        ensures { MatchOption result (NoneOverdue limit now self.now.runs) (λ key. IsFirstOverdue limit now self.now.runs key) }
+    /// Returns the cell for which it expires first, where it has expired now; `None` only where it has for no cell.
+    pub fn overdue(&self, timeout: u64, now: Moment) -> Option<usize>
+        ensures { MatchOption result (NoneOverdue timeout now self.now.runs) (λ cell. IsFirstOverdue timeout now self.now.runs cell) }
     {
-        let key = self.order.first()?;
-        if limit <= now.get().saturating_sub(self.since[key].get()) {
-            Some(key)
+        let cell = self.order.first()?;
+        if timeout <= now.get().saturating_sub(self.since[cell].get()) {
+            Some(cell)
         } else {
             None
         }
     }
 
-    /// Returns how many milliseconds are left until it expires for the first key; `None` only where
-    /// it runs for no key.
-    pub fn patience(&self, limit: u64, now: Moment) -> Option<u64>
-        ensures { MatchOption result (self.now.runs ≡ []) (λ millis. IsLeastLeft limit now self.now.runs millis) }
+    /// Returns how many milliseconds are left until it expires for the first cell; `None` only where
+    /// it runs for no cell.
+    pub fn patience(&self, timeout: u64, now: Moment) -> Option<u64>
+        ensures { MatchOption result (self.now.runs ≡ []) (λ millis. IsLeastLeft timeout now self.now.runs millis) }
     {
-        let Some(key) = self.order.first() else {
+        let Some(cell) = self.order.first() else {
             return None;
         };
-        Some(limit.saturating_sub(now.get().saturating_sub(self.since[key].get())))
+        Some(timeout.saturating_sub(now.get().saturating_sub(self.since[cell].get())))
     }
 }
 
-// Takes a key out where it is there.
-fn take_out(order: &mut JoinOrder, key: usize)
-    ensures { order.new ≡ with_places order.old (places_without key order.old.places) }
+// Takes a cell out where it is there.
+fn take_out(order: &mut JoinOrder, cell: usize)
+    ensures { order.new ≡ with_places order.old (places_without cell order.old.places) }
 {
-    if order.contains(key) {
-        order.remove(key);
+    if order.contains(cell) {
+        order.remove(cell);
     }
 }

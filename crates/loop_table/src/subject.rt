@@ -2,7 +2,7 @@ ghost use Rattle.std.specs.Prelude.{◌≡◌, ◌<◌, ◌^◌, IfSome};
 ghost use Rattle.loop_table.specs.Subjects.{subject_number, AreSame};
 ghost use Rattle.loop_table.specs.declared.subject.Subject.{Subject};
 
-use crate::token::Token;
+use crate::token::{MOST_CELLS, Token};
 
 /// The subject of a poll's event. Its token may be gone by the time of the event: then the event concerns nothing.
 #[derive(Clone, Copy)]
@@ -20,8 +20,6 @@ pub enum Subject {
     /// The client of a request that waits for a place.
     Outside(Token),
 }
-
-const SLOTS: usize = 1 << 20;
 
 const PLACES: usize = 4096;
 
@@ -75,13 +73,13 @@ impl Token {
         ensures number { result ≡ token_number self }
         ensures small { result < 2 ^ 60 }
     {
-        self.generation as usize * SLOTS + self.index
+        self.generation as usize * MOST_CELLS + self.index
     }
 
     fn of(number: usize) -> Option<Token>
         ensures { IfSome result (λ token. token_number token ≡ number) }
     {
-        let (index, generation) = (number % SLOTS, (number / SLOTS) as u64);
+        let (index, generation) = (number % MOST_CELLS, (number / MOST_CELLS) as u64);
         if generation < 1 << 40 {
             Some(Token { index, generation })
         } else {

@@ -1,12 +1,12 @@
 ghost use Rattle.std.specs.Prelude.{◌≡◌, ◌<◌, ◌^◌};
 
-/// The most slots of a table.
-pub const MOST_SLOTS: usize = 1 << 20;
+/// The most cells of a table.
+pub const MOST_CELLS: usize = 1 << 20;
 
-/// The most times that a slot is given out.
+/// The most times that a cell is given out.
 pub(crate) const GENERATIONS: u64 = 1 << 40;
 
-/// The name of a value in a slot, and of none that is put there before or after it.
+/// The name of a value in a cell, and of none that is put there before or after it.
 #[derive(Clone, Copy, Debug, PartialEq, Eq)]
 pub struct Token {
     pub(crate) index: usize,
@@ -15,13 +15,13 @@ pub struct Token {
     ghost generation_fits: { generation < 2 ^ 40 },
 }
 
-/// The slot of a token whose value is lent out. It has no `Drop`: it has to be filled again, or closed.
+/// The cell of a token whose value is lent out. It has no `Drop`: it has to be filled again, or closed.
 pub struct Hole {
     pub(crate) token: Token,
 }
 
 impl Token {
-    /// Returns the number of its slot.
+    /// Returns the number of its cell.
     pub fn index(&self) -> usize
         ensures { result ≡ self.now.index }
     {

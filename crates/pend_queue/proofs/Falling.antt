@@ -11,7 +11,7 @@ use Rattle.std.proofs.lemmas.List.{reverse-append, get_or-take, get_or-drop}
 use Rattle.std.proofs.lemmas.List.Elements.{Contains-get_or}
 use Rattle.std.proofs.lemmas.List.Sorted.{IsPermutation-reverse, Contains-permutation}
 use Rattle.pend_queue.specs.Pairs.{IsAscending, KeyIsAbsent, inserted, pair_at, pairs_without}
-use Rattle.pend_queue.specs.Places.{KeyIsAt, IsGapFor}
+use Rattle.pend_queue.specs.Ranks.{KeyIsAt, IsGapFor}
 use Rattle.base_lists.proofs.Orders.{greater_from_less, less_from_greater, less_then_tied}
 use Rattle.base_lists.proofs.Members.{Contains-head, each_at_member}
 use Rattle.base_lists.proofs.Reversed.{reverse-cons, reverse_around, reverse_parts, each_in_reverse}

@@ -1,3 +1,3 @@
 pub mod Held
 pub mod Pairs
-pub mod Places
+pub mod Ranks

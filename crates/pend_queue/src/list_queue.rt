@@ -1,6 +1,6 @@
 ghost use Rattle.std.specs.Prelude.{◌≡◌, ◌+◌, ◌<◌, ◌≤◌, [], reverse, vec_len, vec_capacity, option_copied, option_map, IfOk, IfErr};
 ghost use Rattle.pend_queue.specs.Pairs.{IsAscending, KeyIsAbsent, HaveNoCommonKey, inserted, pair_at, pairs_without, merged};
-ghost use Rattle.pend_queue.specs.Places.{KeyIsAt, IsGapFor};
+ghost use Rattle.pend_queue.specs.Ranks.{KeyIsAt, IsGapFor};
 
 use crate::queue::PendQueue;
 use std::alloc::{AllocError, AllocFailed, Global};
@@ -33,7 +33,7 @@ impl<K: Ord, V> ListQueue<K, V> {
     pub fn get(&self, key: &K) -> Option<&V>
         ensures { option_copied result ≡ option_map (λ p. p.1) (pair_at K.cmp key.now self.now.pairs) }
     {
-        match place_of(&self.items, key) {
+        match insertion_index(&self.items, key) {
             Ok(at) => Some(&self.items[at].1),
             Err(_) => None,
         }
@@ -53,8 +53,8 @@ impl<K: Ord + Drop, V: Drop> PendQueue<K, V> for ListQueue<K, V> {
 
     ghost links_of_merge = { λ held more. 0 };
 
-    fn with_room(alloc: Global, places: usize) -> Result<Self, AllocError> {
-        let items = Vec::with_capacity(alloc, places)?;
+    fn with_room(alloc: Global, most: usize) -> Result<Self, AllocError> {
+        let items = Vec::with_capacity(alloc, most)?;
         Ok(ListQueue { items })
     }
 
@@ -121,7 +121,7 @@ fn move_over<K: Ord + Drop, V: Drop>(items: &mut Vec<(K, V)>, more: &mut Vec<(K,
     }
 }
 
-// Puts a pair in its place.
+// Inserts a pair.
 fn put<K: Ord + Drop, V: Drop>(items: &mut Vec<(K, V)>, pair: (K, V))
     requires ascending { IsAscending K.cmp (reverse items.old.items) }
     requires room { vec_len items.old < vec_capacity items.old }
@@ -130,7 +130,7 @@ fn put<K: Ord + Drop, V: Drop>(items: &mut Vec<(K, V)>, pair: (K, V))
     ensures len { vec_len items.new ≡ vec_len items.old + 1 }
     ensures capacity { vec_capacity items.new ≡ vec_capacity items.old }
 {
-    match place_of(items, &pair.0) {
+    match insertion_index(items, &pair.0) {
         Ok(_) => unreachable!(),
         Err(at) => {
             let _ = items.insert(at, pair);
@@ -145,14 +145,14 @@ fn take_out<K: Ord, V>(items: &mut Vec<(K, V)>, key: &K) -> Option<(K, V)>
     ensures items { reverse items.new.items ≡ pairs_without K.cmp key.now (reverse items.old.items) }
     ensures capacity { vec_capacity items.new ≡ vec_capacity items.old }
 {
-    match place_of(items, key) {
+    match insertion_index(items, key) {
         Ok(at) => Some(items.remove(at)),
         Err(_) => None,
     }
 }
 
-// Returns the place of the key, or the place where it would go.
-fn place_of<K: Ord, V>(items: &[(K, V)], key: &K) -> Result<usize, usize>
+// Returns the index of the key, or the index where it would go.
+fn insertion_index<K: Ord, V>(items: &[(K, V)], key: &K) -> Result<usize, usize>
     requires { IsAscending K.cmp (reverse items.now) }
     ensures found { IfOk result (KeyIsAt K.cmp key.now items.now) }
     ensures absent { IfErr result (IsGapFor K.cmp key.now items.now) }

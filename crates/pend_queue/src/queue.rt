@@ -25,9 +25,9 @@ pub trait PendQueue<K: Ord, V>: Drop {
     ghost links_of_merge: { ℕ → ℕ → ℕ };
 
     /// Makes an empty queue. Fails only where memory for the room is refused.
-    fn with_room(alloc: Global, places: usize) -> Result<Self, AllocError>
+    fn with_room(alloc: Global, most: usize) -> Result<Self, AllocError>
         ensures empty { IfOk result (λ queue. pairs queue ≡ []) }
-        ensures room { IfOk result (λ queue. room queue ≡ places) };
+        ensures room { IfOk result (λ queue. room queue ≡ most) };
 
     /// Makes a node. Fails only where memory is refused, and returns the pair then.
     fn node(alloc: Global, key: K, value: V) -> Result<Self::Node, AllocFailed<(K, V)>>

@@ -7,7 +7,7 @@ use Rattle.proxy_config.specs.declared.keywords.Keyword.{Keyword}
 use Rattle.proxy_config.specs.declared.parts.Pin.{Pin}
 use Rattle.proxy_config.specs.declared.parts.Server.{Server}
 use Rattle.proxy_config.specs.declared.progress.Progress.{Progress}
-use Rattle.proxy_config.specs.declared.wishes.Wish.{Wish}
+use Rattle.proxy_config.specs.declared.wishes.UnresolvedUseServer.{UnresolvedUseServer}
 use Rattle.proxy_config.specs.Outcomes.{◌>>=◌}
 use Rattle.proxy_config.specs.Wishes as wished
 use Rattle.proxy_config.specs.Draft as draft
@@ -26,14 +26,14 @@ same_then n (Ok x) f g same = same x
 same_then n (Err cause) f g same = refl
 
 -- what comes after the pins may be another thing that is the same for as many pins
-same_pins : {A : Type 0} (servers : List Server) (wishes : List Wish) (f g : List Pin → Result A ConfigFault)
+same_pins : {A : Type 0} (servers : List Server) (wishes : List UnresolvedUseServer) (f g : List Pin → Result A ConfigFault)
     → ((ps : List Pin) → length ps ≡ length wishes → f ps ≡ g ps) → with_pins servers wishes f ≡ with_pins servers wishes g
 same_pins servers [] f g same = same [] refl
 same_pins servers (wish ∷ wishes) f g same = same_then wish.line (wished.asked_pin servers wish) _ _ (λ pin.
     same_pins servers wishes (λ ps. f (pin ∷ ps)) (λ ps. g (pin ∷ ps)) (λ ps count. same (pin ∷ ps) (ap (λ (n : ℕ). suc n) count)))
 
 -- one wish more at the end
-one_more : {A : Type 0} (servers : List Server) (wishes : List Wish) (wish : Wish) (f : List Pin → Result A ConfigFault)
+one_more : {A : Type 0} (servers : List Server) (wishes : List UnresolvedUseServer) (wish : UnresolvedUseServer) (f : List Pin → Result A ConfigFault)
     → with_pins servers (wishes ++ wish ∷ []) f ≡ with_pins servers wishes (λ ps. then_lines wish.line (wished.asked_pin servers wish) (λ pin. f (ps ++ pin ∷ [])))
 one_more servers [] wish f = refl
 one_more servers (first ∷ wishes) wish f = same_then first.line (wished.asked_pin servers first) _ _ (λ pin. one_more servers wishes wish (λ ps. f (pin ∷ ps)))
@@ -50,7 +50,7 @@ first_pin n (Ok pin) more f g same = same pin
 first_pin n (Err cause) more f g same = refl
 
 -- the pins may be made first
-pins_first : {A B : Type 0} (servers : List Server) (wishes : List Wish) (f : List Pin → Result A ConfigFault) (g : A → Result B ConfigFault)
+pins_first : {A B : Type 0} (servers : List Server) (wishes : List UnresolvedUseServer) (f : List Pin → Result A ConfigFault) (g : A → Result B ConfigFault)
     → with_pins servers wishes (λ ps. chained (f ps) g) ≡ chained (with_pins servers wishes f) g
 unfolding chained
 pins_first servers [] f g = refl
@@ -81,7 +81,7 @@ settled_whole servers p ps is known = settled_first servers p (Ok ps) is ∙ ap 
 abbrev pub coming : List Server → Option ℕ → Progress → ℕ → List (List ℕ) → Result Resolved ConfigFault
 coming servers long p n lines = with_pins servers p.wishes (λ ps. unless_known p.fault (run servers long (fit ps p.draft) n lines))
 
-then_resolved : (servers : List Server) (ps : List Pin) (n : ℕ) (d : Draft) (wish : Wish) (k : Resolved → Result Resolved ConfigFault) → wish.line ≡ n
+then_resolved : (servers : List Server) (ps : List Pin) (n : ℕ) (d : Draft) (wish : UnresolvedUseServer) (k : Resolved → Result Resolved ConfigFault) → wish.line ≡ n
     → then_lines n (resolve servers ps (d, Some wish)) k ≡ then_lines wish.line (wished.asked_pin servers wish) (λ pin. k (fit (ps ++ pin ∷ []) d))
 then_resolved servers ps n d wish k line = by_pin (wished.asked_pin servers wish)
   where
@@ -92,8 +92,8 @@ then_resolved servers ps n d wish k line = by_pin (wished.asked_pin servers wish
 
 -- a line that is read makes no difference
 after_line : (servers : List Server) (long : Option ℕ) (p : Progress) (n : ℕ) (lines : List (List ℕ)) (keyword : Option Keyword) (known : Option ConfigFault)
-    (r : Result (Draft × Option Wish) FaultCause)
-    → p.fault ≡ known → ((d : Draft) (wish : Wish) → r ≡ Ok (d, Some wish) → wish.line ≡ n)
+    (r : Result (Draft × Option UnresolvedUseServer) FaultCause)
+    → p.fault ≡ known → ((d : Draft) (wish : UnresolvedUseServer) → r ≡ Ok (d, Some wish) → wish.line ≡ n)
     → with_pins servers p.wishes (λ ps. unless_known known (then_lines n (r >>= resolve servers ps) (λ next. run servers long next (n + 1) lines)))
     ≡ coming servers long (took known p n keyword r) (n + 1) lines
 after_line servers long p n lines keyword None (Ok (d, None)) known line = rw known refl

@@ -12,7 +12,7 @@ use Rattle.proxy_config.specs.declared.keywords.Keyword.TheVariants as keywords
 use Rattle.proxy_config.specs.declared.parts.Acl.{Acl}
 use Rattle.proxy_config.specs.declared.parts.Pin.{Pin}
 use Rattle.proxy_config.specs.declared.parts.Server.{Server}
-use Rattle.proxy_config.specs.declared.wishes.Wish.{Wish}
+use Rattle.proxy_config.specs.declared.wishes.UnresolvedUseServer.{UnresolvedUseServer}
 use Rattle.proxy_config.specs.Outcomes.{◌>>=◌, unless}
 use Rattle.proxy_config.specs.Pieces.{word_at}
 use Rattle.proxy_config.specs.Conditions.{guard_at}
@@ -81,7 +81,7 @@ use_resolved : (servers : List Server) (r : Resolved) (n : ℕ) (ws : List (List
     → pinned_line servers r ws ≡ ((draft.use_line (length r.pins) r.draft n ws >>= λ wish. Ok (r.draft, Some wish)) >>= resolve servers r.pins)
 unfolding pinned_line draft.use_line
 use_resolved servers r n ws =
-    let asked : Wish → Result Resolved FaultCause = λ wish. resolve servers r.pins (r.draft, Some wish) in
+    let asked : UnresolvedUseServer → Result Resolved FaultCause = λ wish. resolve servers r.pins (r.draft, Some wish) in
     let pinned : Pin → Result Resolved FaultCause = λ pin. Ok (record r { pins = r.pins ++ pin ∷ [] }) in
     sym (assoc (draft.use_line (length r.pins) r.draft n ws) _ (resolve servers r.pins)
     ∙ assoc (unless (not (draft.in_listen r.draft.section)) causes.Place) _ asked

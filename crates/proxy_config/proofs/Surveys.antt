@@ -13,7 +13,7 @@ use Rattle.proxy_config.specs.declared.keywords.Keyword.TheVariants as keywords
 use Rattle.proxy_config.specs.declared.parts.Pin.{Pin}
 use Rattle.proxy_config.specs.declared.parts.Server.{Server}
 use Rattle.proxy_config.specs.declared.progress.Progress.{Progress}
-use Rattle.proxy_config.specs.declared.wishes.Wish.{Wish}
+use Rattle.proxy_config.specs.declared.wishes.UnresolvedUseServer.{UnresolvedUseServer}
 use Rattle.proxy_config.specs.Outcomes.{◌>>=◌, unless}
 use Rattle.proxy_config.specs.Keywords.{keyword_of}
 use Rattle.proxy_config.specs.Rules.{rule_line}
@@ -61,7 +61,7 @@ kept d keyword (Ok e) stays same = same e refl
 kept d keyword (Err cause) stays same = ap (λ (t : Bool). bare (cond t (record d { section = sections.Outside }) d)) stays
 
 -- a line that asks for a pin
-asked : (d : Draft) (keyword : Option Keyword) (r : Result Wish FaultCause) → ends_listen d keyword ≡ false
+asked : (d : Draft) (keyword : Option Keyword) (r : Result UnresolvedUseServer FaultCause) → ends_listen d keyword ≡ false
     → unless_faulty d keyword (r >>= λ wish. Ok (d, Some wish)) ≡ d
 asked d keyword (Ok wish) stays = refl
 asked d keyword (Err cause) stays = ap (λ (t : Bool). cond t (record d { section = sections.Outside }) d) stays
@@ -143,7 +143,7 @@ survey_same long d e n [] same = ap (λ (x : Draft). x.servers) same
 survey_same long d e n (line ∷ lines) same =
     survey_same long (next long d n line) (next long e n line) (n + 1) lines (step_same 0 0 (is_line long n) d e n line same)
 
-took_draft : (known : Option ConfigFault) (p : Progress) (n : ℕ) (keyword : Option Keyword) (r : Result (Draft × Option Wish) FaultCause)
+took_draft : (known : Option ConfigFault) (p : Progress) (n : ℕ) (keyword : Option Keyword) (r : Result (Draft × Option UnresolvedUseServer) FaultCause)
     → (took known p n keyword r).draft ≡ unless_faulty p.draft keyword r
 took_draft None p n keyword (Ok (d, None)) = refl
 took_draft None p n keyword (Ok (d, Some wish)) = refl
@@ -159,7 +159,7 @@ survey-take long p n line lines = survey_same long (next long p.draft n line) (t
     ∙ ap bare (sym (took_draft p.fault p n (keyword_in line) (draft.step (length p.wishes) (is_line long n) p.draft n line))))
 
 -- a line that is taken in leaves the draft that it makes, whatever pin it asks for
-resolved_draft : (servers : List Server) (ps : List Pin) (x : Draft × Option Wish) (e : Resolved) → resolve servers ps x ≡ Ok e → e.draft ≡ x.0
+resolved_draft : (servers : List Server) (ps : List Pin) (x : Draft × Option UnresolvedUseServer) (e : Resolved) → resolve servers ps x ≡ Ok e → e.draft ≡ x.0
 resolved_draft servers ps (d, None) e is = ap (λ (r : Resolved). r.draft) (sym (from_ok _ e is))
 resolved_draft servers ps (d, Some wish) e is =
     let pin = bind_ok (asked_pin servers wish) _ e is in ap (λ (r : Resolved). r.draft) (sym (from_ok _ e pin.2))
@@ -172,6 +172,6 @@ survey-taken servers long r e n (line ∷ lines) taken =
     let read = bind_ok (draft.step (length r.pins) (is_line long n) r.draft n line) _ taken.0 taken.1 in
     survey_same long (next long r.draft n line) taken.0.draft (n + 1) lines
     (step_same 0 (length r.pins) (is_line long n) r.draft r.draft n line refl
-    ∙ ap (λ (x : Result (Draft × Option Wish) FaultCause). bare (unless_faulty r.draft (keyword_in line) x)) read.1
+    ∙ ap (λ (x : Result (Draft × Option UnresolvedUseServer) FaultCause). bare (unless_faulty r.draft (keyword_in line) x)) read.1
     ∙ ap bare (sym (resolved_draft servers r.pins read.0 taken.0 read.2)))
     ∙ survey-taken servers long taken.0 e (n + 1) lines taken.2

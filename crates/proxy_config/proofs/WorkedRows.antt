@@ -15,7 +15,7 @@ use Rattle.proxy_config.specs.Wishes.{asked_pin, wish_line}
 use Rattle.proxy_config.specs.Progress.{with_pins}
 use Rattle.proxy_config.specs.declared.parts.Host.TheVariants as hosts
 use Rattle.proxy_config.specs.declared.parts.Server.{Server}
-use Rattle.proxy_config.specs.declared.wishes.Wish.{Wish}
+use Rattle.proxy_config.specs.declared.wishes.UnresolvedUseServer.{UnresolvedUseServer}
 
 name_row : is_name (codes "web-1.a:b_c") ≡ true
 name_row = refl
@@ -76,7 +76,7 @@ abbrev one_server : List Server
 one_server = server_of (codes "a") (record { host = hosts.Name (codes "h"); port = 80 }) built_in ∷ []
 
 -- a wish for a server of this name, in line 4, without a condition
-abbrev unguarded : List ℕ → Wish
+abbrev unguarded : List ℕ → UnresolvedUseServer
 unguarded name = record { line = 4; server = name; guard = Err causes.Words }
 
 wish_row : wish_line 4 [] (words (codes "a")) ≡ Ok (unguarded (codes "a"))

@@ -15,7 +15,7 @@ use Rattle.proxy_config.specs.declared.parts.Address.{Address}
 use Rattle.proxy_config.specs.declared.parts.Server.{Server}
 use Rattle.proxy_config.specs.declared.settings.Settings.{Settings}
 use Rattle.proxy_config.specs.declared.values.Shared.{Shared}
-use Rattle.proxy_config.specs.declared.wishes.Wish.{Wish}
+use Rattle.proxy_config.specs.declared.wishes.UnresolvedUseServer.{UnresolvedUseServer}
 use Rattle.proxy_config.specs.Outcomes.{◌>>=◌, unless}
 use Rattle.proxy_config.specs.Keywords.{keyword_of, section_of}
 use Rattle.proxy_config.specs.Pieces.{word_at, end_at}
@@ -137,18 +137,18 @@ request_line pins d words = do
   Ok (record d { rules = d.rules ++ rule ∷ [] })
 
 -- `use-server ..`, after this number of pins: it asks for one more
-unfoldable pub use_line : ℕ → Draft → ℕ → List (List ℕ) → Result Wish FaultCause
+unfoldable pub use_line : ℕ → Draft → ℕ → List (List ℕ) → Result UnresolvedUseServer FaultCause
 use_line pins d n words = do
   place ← unless (not (in_listen d.section)) causes.Place
   limit ← has_rule_room pins d
   wish_line n d.acls words
 
 -- a line that asks for no pin
-abbrev pub plain : Result Draft FaultCause → Result (Draft × Option Wish) FaultCause
+abbrev pub plain : Result Draft FaultCause → Result (Draft × Option UnresolvedUseServer) FaultCause
 plain read = read >>= λ d. Ok (d, None)
 
 -- a line by its keyword, its number and its other words: the draft after it, and the pin that it asks for
-abbrev pub keyword_line : ℕ → Draft → ℕ → Keyword → List (List ℕ) → Result (Draft × Option Wish) FaultCause
+abbrev pub keyword_line : ℕ → Draft → ℕ → Keyword → List (List ℕ) → Result (Draft × Option UnresolvedUseServer) FaultCause
 keyword_line pins d n keywords.Global words = plain (global_line d words)
 keyword_line pins d n keywords.Defaults words = plain (defaults_line d words)
 keyword_line pins d n keywords.Listen words = plain (listen_line d n words)
@@ -161,7 +161,7 @@ keyword_line pins d n keywords.HttpRequest words = plain (request_line pins d wo
 keyword_line pins d n keywords.UseServer words = use_line pins d n words >>= λ wish. Ok (d, Some wish)
 
 -- a line by its words
-unfoldable pub words_line : ℕ → Draft → ℕ → List (List ℕ) → Result (Draft × Option Wish) FaultCause
+unfoldable pub words_line : ℕ → Draft → ℕ → List (List ℕ) → Result (Draft × Option UnresolvedUseServer) FaultCause
 words_line pins d n [] = Ok (d, None)
 words_line pins d n (word ∷ words) = ok_or (keyword_of word) causes.Keyword >>= λ keyword. keyword_line pins d n keyword words
 
@@ -179,7 +179,7 @@ abbrev pub is_quoting : ℕ → Bool
 is_quoting byte = is_in (34 ∷ 39 ∷ 92 ∷ []) byte
 
 -- the draft after a line, by its number and whether the file becomes too long in it, after this number of pins
-unfoldable pub step : ℕ → Bool → Draft → ℕ → List ℕ → Result (Draft × Option Wish) FaultCause
+unfoldable pub step : ℕ → Bool → Draft → ℕ → List ℕ → Result (Draft × Option UnresolvedUseServer) FaultCause
 step pins too_long d n line =
     if is_ignored d.section (words (uncommented line)) then (unless too_long causes.Limit >>= λ short. Ok (d, None))
     else do

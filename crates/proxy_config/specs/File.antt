@@ -17,7 +17,7 @@ use Rattle.proxy_config.specs.declared.parts.Config.{Config}
 use Rattle.proxy_config.specs.declared.parts.Server.{Server}
 use Rattle.proxy_config.specs.Draft as draft
 use Rattle.proxy_config.specs.Resolved.{Resolved, start, resolved_line}
-use Rattle.proxy_config.specs.declared.wishes.Wish.{Wish}
+use Rattle.proxy_config.specs.declared.wishes.UnresolvedUseServer.{UnresolvedUseServer}
 use Rattle.proxy_config.specs.Keywords.{keyword_of}
 use Rattle.proxy_config.specs.Values.{queue_timeout, set_time}
 
@@ -63,7 +63,7 @@ ends_listen d other = false
 abbrev pub after_fault : Draft → Option Keyword → Draft
 after_fault d keyword = if ends_listen d keyword then record d { section = sections.Outside } else d
 
-abbrev pub unless_faulty : Draft → Option Keyword → Result (Draft × Option Wish) FaultCause → Draft
+abbrev pub unless_faulty : Draft → Option Keyword → Result (Draft × Option UnresolvedUseServer) FaultCause → Draft
 unless_faulty d keyword (Ok (next, wish)) = next
 unless_faulty d keyword (Err cause) = after_fault d keyword
 

@@ -4,7 +4,7 @@ use Rattle.proxy_config.specs.declared.faults.FaultCause.{FaultCause}
 use Rattle.proxy_config.specs.declared.draft.Draft.{Draft}
 use Rattle.proxy_config.specs.declared.parts.Pin.{Pin}
 use Rattle.proxy_config.specs.declared.parts.Server.{Server}
-use Rattle.proxy_config.specs.declared.wishes.Wish.{Wish}
+use Rattle.proxy_config.specs.declared.wishes.UnresolvedUseServer.{UnresolvedUseServer}
 use Rattle.proxy_config.specs.Outcomes.{◌>>=◌}
 use Rattle.proxy_config.specs.Draft as draft
 use Rattle.proxy_config.specs.Wishes.{asked_pin}
@@ -19,7 +19,7 @@ abbrev pub start : Resolved
 start = record { draft = draft.start; pins = [] }
 
 -- a line's outcome after these pins: the pin that it asks for is resolved by the servers of the file
-abbrev pub resolve : List Server → List Pin → Draft × Option Wish → Result Resolved FaultCause
+abbrev pub resolve : List Server → List Pin → Draft × Option UnresolvedUseServer → Result Resolved FaultCause
 resolve servers pins (d, None) = Ok (record { draft = d; pins = pins })
 resolve servers pins (d, Some wish) = asked_pin servers wish >>= λ pin. Ok (record { draft = d; pins = pins ++ pin ∷ [] })
 

@@ -15,7 +15,7 @@ use crate::pieces::{end, word};
 use crate::rules::{acl_line, rule_line, server_index};
 use crate::settings::{Settings, settings_to_end};
 use crate::values::{Shared, Values, shared_line};
-use crate::wishes::{Wish, wish_line};
+use crate::wishes::{UnresolvedUseServer, wish_line};
 use base_lists::Items;
 use proxy_words::{Words, is_name, without_comment};
 use std::alloc::Global;
@@ -79,7 +79,7 @@ impl Draft {
         too_long: bool,
         number: u64,
         line: &[u8],
-    ) -> Result<Option<Wish>, LineError>
+    ) -> Result<Option<UnresolvedUseServer>, LineError>
         ensures { Leaves result self.old self.new
             (grammar.step pins too_long self.old number line.now) }
     {
@@ -124,7 +124,7 @@ impl Draft {
         pins: usize,
         number: u64,
         words: Words,
-    ) -> Result<Option<Wish>, LineError>
+    ) -> Result<Option<UnresolvedUseServer>, LineError>
         ensures { Leaves result self.old self.new
             (grammar.words_line pins self.old number words.entry) }
     {
@@ -145,7 +145,7 @@ impl Draft {
         number: u64,
         keyword: Keyword,
         words: Words,
-    ) -> Result<Option<Wish>, LineError>
+    ) -> Result<Option<UnresolvedUseServer>, LineError>
         ensures { Leaves result self.old self.new
             (grammar.keyword_line pins self.old number keyword words.entry) }
     {
@@ -314,7 +314,7 @@ impl Draft {
         pins: usize,
         number: u64,
         words: Words,
-    ) -> Result<Wish, LineError>
+    ) -> Result<UnresolvedUseServer, LineError>
         ensures { Gives (λ x. x) result (grammar.use_line pins self.now number words.entry) }
     {
         if !in_listen(self.section) {
@@ -336,7 +336,7 @@ impl Draft {
 }
 
 // A line that asks for no pin.
-fn plain(done: Result<(), LineError>) -> Result<Option<Wish>, LineError>
+fn plain(done: Result<(), LineError>) -> Result<Option<UnresolvedUseServer>, LineError>
     ensures { (old : Draft) → (new : Draft) → (read : Result Draft FaultCause) → Becomes done old new read → Leaves result old new (grammar.plain read) }
 {
     match done {

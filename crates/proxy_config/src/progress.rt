@@ -9,7 +9,7 @@ use crate::draft::Draft;
 use crate::faults::{ConfigFault, FaultCause, LineError, ReadError};
 use crate::parts::{Config, Pin};
 use crate::values::set_time;
-use crate::wishes::{Wish, pins_of};
+use crate::wishes::{UnresolvedUseServer, pins_of};
 use base_lists::Items;
 use std::alloc::Global;
 
@@ -17,7 +17,7 @@ use std::alloc::Global;
 pub(crate) struct Progress {
     pub draft: Draft,
     /// The pins, with their servers by name.
-    pub wishes: Items<Wish>,
+    pub wishes: Items<UnresolvedUseServer>,
     /// The first line that is faulty whichever servers follow. After it only servers count.
     pub fault: Option<ConfigFault>,
 }

@@ -17,7 +17,7 @@ use std::alloc::Global;
 
 /// A `use-server` line before all servers are known.
 #[derive(Drop)]
-pub(crate) struct Wish {
+pub(crate) struct UnresolvedUseServer {
     pub line: u64,
     /// The server's name.
     pub server: Text,
@@ -32,7 +32,7 @@ pub(crate) fn wish_line(
     line: u64,
     acls: &Items<Acl>,
     words: Words,
-) -> Result<Wish, LineError>
+) -> Result<UnresolvedUseServer, LineError>
     ensures { Gives (λ x. x) result (grammar.wish_line line acls.now words.entry) }
 {
     let (name, words) = word(words)?;
@@ -41,7 +41,7 @@ pub(crate) fn wish_line(
     }
     let guard = guard_or_fault(alloc, acls, words)?;
     let server = Items::copied(alloc, name)?;
-    Ok(Wish {
+    Ok(UnresolvedUseServer {
         line,
         server,
         guard,
@@ -74,7 +74,7 @@ fn guard_to_end(alloc: Global, acls: &Items<Acl>, words: Words) -> Result<Guard,
 pub(crate) fn pins_of(
     alloc: Global,
     servers: &Items<Server>,
-    wishes: Items<Wish>,
+    wishes: Items<UnresolvedUseServer>,
 ) -> Result<Items<Pin>, ReadError>
     ensures { FileAnswers result (with_pins servers.now wishes Ok) }
 {
@@ -89,10 +89,10 @@ pub(crate) fn pins_of(
     Ok(pins)
 }
 
-fn asked_pin(servers: &Items<Server>, wish: Wish) -> Result<Pin, FaultCause>
+fn asked_pin(servers: &Items<Server>, wish: UnresolvedUseServer) -> Result<Pin, FaultCause>
     ensures { Sees (λ x. x) result (grammar.asked_pin servers.now wish) }
 {
-    let Wish {
+    let UnresolvedUseServer {
         line: _,
         server,
         guard,

@@ -1,6 +1,6 @@
 //! Who waits outside: clients beyond the places wait here, by class and due date, until a place is free.
 //!
-//! A guest's key is decided once, when it comes. Its due date stays the same when it gets a place,
+//! An outsider's key is decided once, when it comes. Its due date stays the same when it gets a place,
 //! unless it is late by more than an offset can express.
 #![tactic(auto)]
 
@@ -8,4 +8,4 @@ mod admission;
 mod room;
 
 pub use admission::{admission_keeps_the_order, remaining};
-pub use room::{Cause, OutsideOrder};
+pub use room::{OutsideOrder, RoomFault};

@@ -53,13 +53,13 @@ impl Fall {
     {
         self.server = server;
         self.told = 0;
-        collect(&mut self.sorted, server, waiters);
+        gather_pairs(&mut self.sorted, server, waiters);
         self.sorted.sort_unstable_by_key(|pair| pair.0);
     }
 }
 
-// Collects the pairs of all requests that wait in a server's queue.
-fn collect(pairs: &mut Vec<(Key, usize)>, server: usize, waiters: &[Option<Waiter>])
+// Gathers the pairs of all requests that wait in a server's queue.
+fn gather_pairs(pairs: &mut Vec<(Key, usize)>, server: usize, waiters: &[Option<Waiter>])
     requires { length waiters.now ≤ vec_capacity pairs.old }
     ensures pairs { pairs.new.items ≡ pairs_in (Server server) 0 waiters.now }
     ensures capacity { vec_capacity pairs.new ≡ vec_capacity pairs.old }

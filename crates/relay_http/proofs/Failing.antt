@@ -10,7 +10,7 @@ use Rattle.http_bodies.specs.Steps as Body_steps
 use Rattle.http_bodies.proofs.Stepping.{joined, Reads-trans, moves_emit, breaks_emit}
 use Rattle.http_bodies.proofs.Writing.{Wrote-trans}
 use Rattle.http_texts.specs.Emissions.{Puts, Halts}
-use Rattle.relay_http.specs.Failures.{Blames, Fails, Explains, Passes, Misses}
+use Rattle.relay_http.specs.Failures.{Blames, Fails, Explains, Conveys, Misses}
 use Rattle.http_texts.specs.Faults.{relayed}
 use Rattle.http_texts.specs.declared.fault.Fault.{Fault}
 use Rattle.http_texts.specs.declared.fault.Fault.TheVariants.{NoMemory, Head, Framing, Read, Write, Turns, Closed}
@@ -206,7 +206,7 @@ explains Closed a b Why input blame = blame
 
 -- where nothing waits, what was put was written
 pub passes_of : {a b : Ends} {used text : List ℕ} → a.pipe.outbox ≡ [] → b.pipe.outbox ≡ [] → Moves a b used text
-    → Passes a.pipe.inbox b.pipe.inbox a.source.bytes b.source.bytes a.sink.bytes b.sink.bytes used text
+    → Conveys a.pipe.inbox b.pipe.inbox a.source.bytes b.source.bytes a.sink.bytes b.sink.bytes used text
 passes_of {a} {b} {used} {text} none left x =
     let whole : x.front ≡ text = sym (ap (λ l. l ++ text) (sym none) ∙ x.waiting ∙ ap (λ l. x.front ++ l) left ∙ append-nil x.front) in record {
       taken = x.taken;

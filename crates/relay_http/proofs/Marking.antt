@@ -66,6 +66,6 @@ pipe_emptied p q held waiting turns = λ i. record { inbox = held i; outbox = wa
 -- an answer's text isn't empty
 pub answered_some : {method : List ℕ} {framed : Bool} {used text : List ℕ} → IsAnswered Close method framed used text → 0 < length text
 answered_some {framed = framed} {text = text} a =
-    let some : 0 < length (interims_text framed a.interims ++ (answer_text Close framed (answer_of a.head) a.plan ++ a.passed)) =
+    let some : 0 < length (interims_text framed a.interims ++ (answer_text Close framed (answer_of a.head) a.plan ++ a.sent_on)) =
     some_behind (interims_text framed a.interims) _ 72 in
     subst (λ (l : List ℕ). 0 < length l) (sym a.text_is) some

@@ -14,7 +14,7 @@ use Rattle.http_texts.specs.declared.fault.Fault.{Fault}
 use Rattle.http_texts.specs.declared.fault.Fault.TheVariants as Faulty
 use Rattle.http_texts.specs.declared.plans.Plan.{Plan}
 use Rattle.http_texts.proofs.Alone.{answer_alone}
-use Rattle.http_texts.proofs.Passing.{bad_here, ninth_here}
+use Rattle.http_texts.proofs.Forwarding.{bad_here, ninth_here}
 use Rattle.relay_http.specs.Failures.{Fails}
 use Rattle.relay_http.proofs.Failing.{fails_head, fails_framing, fails_memory}
 use Rattle.req_view.specs.Answer.{Answer, answer_of}
@@ -27,7 +27,7 @@ used_front p q held front rest n same is len left =
     let whole = sym same ∙ is in
     whole ∙ ap (λ l. front ++ l) (sym (left ∙ behind p.inbox front rest n whole len))
 
--- none is passed on
+-- none is handed on
 pub fails_unseen : {a : Ends} {p : Pipe} {s w : Stream} {text : List ℕ} (method other : List ℕ) (hs : List ResponseHead) (count : ℕ) (held : List ℕ)
     (why : Fault)
     → AreInterims method hs → length hs ≡ count → other ≡ method → held ≡ p.inbox → NoneStands other count held why

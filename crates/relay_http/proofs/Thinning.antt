@@ -8,7 +8,7 @@ use Rattle.http_bodies.specs.declared.pipe.Pipe.{Pipe}
 use Rattle.http_bodies.specs.Steps.{Ends, ends, Moves}
 use Rattle.http_bodies.specs.Texts.{Wrote, WritesFront}
 use Rattle.http_bodies.specs.declared.framing.Framing.TheVariants.{ToEnd}
-use Rattle.relay_http.specs.Failures.{Fails, Passes, Misses, WrotePrefix}
+use Rattle.relay_http.specs.Failures.{Fails, Conveys, Misses, WrotePrefix}
 use Rattle.http_texts.specs.Framings.{request_framing}
 use Rattle.http_texts.specs.Heads.{IsRequest}
 use Rattle.http_texts.specs.Messages.{IsAnswered}
@@ -35,7 +35,7 @@ pub keeps_as : {r0 r s0 s : Option (List ℕ)} → r0 ≡ s0 → r ≡ s → Kee
 keeps_as {r0} {r} {s0} {s} e f x = subst (λ (o : Option (List ℕ)). Keeps s0 o) f (subst (λ (o : Option (List ℕ)). Keeps o r) e x)
 
 pub thin : {a b : Ends} {r0 r w0 w : Option (List ℕ)} {used text : List ℕ} → Same a b r0 r w0 w → a.pipe.outbox ≡ [] → b.pipe.outbox ≡ [] → Moves a b used text
-    → Passes a.pipe.inbox b.pipe.inbox r0 r w0 w used text
+    → Conveys a.pipe.inbox b.pipe.inbox r0 r w0 w used text
 thin {text = text} same none left x =
     let p = passes_of none left x in
     record {
@@ -70,7 +70,7 @@ pub thin_read : (result : Result Request Fault) (p q : Pipe) (s t : Stream) (r0 
     → IfOk result (λ v. (h : RequestHead) × IsRequest h × (v ≡ request_of h) × IsSome (request_framing v) × ((w : Stream) → Moves (ends p s w) (ends q t w)
     (print_request h) []))
     → IfOk result (λ v. (h : RequestHead) × IsRequest h × (v ≡ request_of h) × IsSome (request_framing v)
-    × ((w : Option (List ℕ)) → Passes p.inbox q.inbox r0 r w w (print_request h) []))
+    × ((w : Option (List ℕ)) → Conveys p.inbox q.inbox r0 r w w (print_request h) []))
 thin_read (Ok v) p q s t r0 r e f none left x = (
   x.0,
   x.1,
@@ -90,7 +90,7 @@ thin_read_fault (Err fault) Why p q s t r0 r e f none x w =
 
 pub thin_write : {T : Type 0} (result : Result T Fault) (text : List ℕ) (p q : Pipe) (s t : Stream) (w0 w : Option (List ℕ)) → s.bytes ≡ w0 → t.bytes ≡ w
     → p.outbox ≡ [] → q.outbox ≡ [] → ((r : Stream) → OnOk result (Moves (ends p r s) (ends q r t) [] text))
-    → (r : Option (List ℕ)) → OnOk result (Passes p.inbox q.inbox r r w0 w [] text)
+    → (r : Option (List ℕ)) → OnOk result (Conveys p.inbox q.inbox r r w0 w [] text)
 thin_write (Ok v) text p q s t w0 w e f none left x r =
     thin (record { reader0 = refl; reader = refl; writer0 = e; writer = f }) none left (x (silent s r))
 thin_write (Err fault) text p q s t w0 w e f none left x r = tt
@@ -120,7 +120,7 @@ pub thin_answer : {T : Type 0} (result : Result T Fault) (method : List ℕ) (fr
     → a.source.bytes ≡ r0 → b.source.bytes ≡ r → a.sink.bytes ≡ w0 → b.sink.bytes ≡ w → a.pipe.outbox ≡ [] → b.pipe.outbox ≡ []
     → OnOk result ((x : List ℕ) × (y : List ℕ) × (answered : IsAnswered Close method framed x y) × Moves a b x y
     × (answered.plan.body ≡ ToEnd → IsAtEnd b.source.bytes) × (answered.plan.body ≡ ToEnd → b.pipe.inbox ≡ []))
-    → OnOk result ((x : List ℕ) × (y : List ℕ) × (answered : IsAnswered Close method framed x y) × Passes a.pipe.inbox b.pipe.inbox r0 r w0 w x y
+    → OnOk result ((x : List ℕ) × (y : List ℕ) × (answered : IsAnswered Close method framed x y) × Conveys a.pipe.inbox b.pipe.inbox r0 r w0 w x y
     × (answered.plan.body ≡ ToEnd → IsAtEnd r) × (answered.plan.body ≡ ToEnd → b.pipe.inbox ≡ []))
 thin_answer (Ok v) method framed a b r0 r w0 w e0 e f0 f none left x = (
   x.0,

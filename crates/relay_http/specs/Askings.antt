@@ -6,8 +6,8 @@ use Rattle.exchange_machine.specs.Requests.{LacksHead}
 use Rattle.exchange_machine.specs.declared.asking.Asking.{Asking}
 use Rattle.http_texts.specs.Framings.{request_framing}
 use Rattle.http_texts.specs.Heads.{IsRequest}
-use Rattle.relay_http.specs.declared.asking.Told.{Told}
-use Rattle.relay_http.specs.declared.asking.Told.TheVariants.{More, Whole, Refused}
+use Rattle.relay_http.specs.declared.asking.HeadProgress.{HeadProgress}
+use Rattle.relay_http.specs.declared.asking.HeadProgress.TheVariants.{More, Whole, Refused}
 use Rattle.req_view.specs.Heads.{HasNoHead}
 use Rattle.req_view.specs.Request.{request_of}
 
@@ -19,7 +19,7 @@ pub record HasAsked (asking : Asking) (inbox : List ℕ) : Type 0 where
 
 -- the machine's answer to the held bytes: it was given all of them, and they aren't a whole head
 -- yet; or a head stands there, whose bytes are used; or none will
-abbrev pub AskingIsTold : Told → Pipe → Pipe → Type 0
+abbrev pub AskingIsTold : HeadProgress → Pipe → Pipe → Type 0
 AskingIsTold (More a) p q = (q ≡ p) × (a.held.items ≡ p.inbox) × HasNoHead p.inbox × (length p.inbox < 16384)
 AskingIsTold (Whole v) p q = (h : RequestHead) × IsRequest h × (v ≡ request_of h) × IsSome (request_framing v) × (p.inbox ≡ print_request h ++ q.inbox)
     × (q.outbox ≡ p.outbox) × (q.turns ≡ p.turns)

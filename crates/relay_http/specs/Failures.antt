@@ -50,7 +50,7 @@ Explains Why Closed input = ⊥
 
 -- `used` was taken from what was held and read, and the whole text was written, in terms of the
 -- bytes of a reader and a writer.
-pub record Passes (held rest : List ℕ) (r0 r w0 w : Option (List ℕ)) (used text : List ℕ) : Type 0 where
+pub record Conveys (held rest : List ℕ) (r0 r w0 w : Option (List ℕ)) (used text : List ℕ) : Type 0 where
   pub taken : List ℕ
   pub reads : Consumes r0 r taken
   pub all : held ++ taken ≡ used ++ rest

@@ -17,7 +17,7 @@ use std::alloc::Global;
 
 /// The machine's answer to the held bytes.
 #[derive(Drop)]
-pub(crate) enum Told {
+pub(crate) enum HeadProgress {
     More(Asking),
     Whole(View),
     Refused(Fault),
@@ -38,9 +38,9 @@ pub(crate) fn read_request<S: Source>(
     let mut asking = Asking::new(alloc);
     'reading: loop {
         match ask(pipe, alloc, asking) {
-            Told::Whole(view) => return Ok(view),
-            Told::Refused(fault) => return Err(fault),
-            Told::More(more) => asking = more,
+            HeadProgress::Whole(view) => return Ok(view),
+            HeadProgress::Refused(fault) => return Err(fault),
+            HeadProgress::More(more) => asking = more,
         }
         let count = pipe.fill(source)?;
         if count == 0 {
@@ -50,19 +50,19 @@ pub(crate) fn read_request<S: Source>(
 }
 
 // Gives the machine the bytes that came since the last time. The bytes of a whole head are used.
-fn ask(pipe: &mut Pipe, alloc: Global, asking: Asking) -> Told
+fn ask(pipe: &mut Pipe, alloc: Global, asking: Asking) -> HeadProgress
     requires { HasAsked asking pipe.old.inbox }
     ensures { AskingIsTold result pipe.old pipe.new }
 {
     let before = asking.count();
     let (used, turn) = asking.head_bytes(alloc, &pipe.held()[before..]);
     match turn {
-        Turn::More(more) => Told::More(more),
-        Turn::Refused(_, fault) => Told::Refused(fault),
+        Turn::More(more) => HeadProgress::More(more),
+        Turn::Refused(_, fault) => HeadProgress::Refused(fault),
         Turn::Whole(waiting) => {
             let (view, behind) = waiting.parts();
             pipe.consume(before + used - behind.len());
-            Told::Whole(view)
+            HeadProgress::Whole(view)
         }
     }
 }

@@ -1,7 +1,7 @@
 ghost use Rattle.std.specs.Prelude.{◌≡◌, ◌≢◌, ◌≤◌, ℕ, List, [], Err, IfOk, OnOk, IfErr, OnErr, IsSome, IsTrue, IsFalse, false, Option};
 ghost use Rattle.std.specs.Io.KnownBytes.{Appends, Keeps, IsAtEnd};
 ghost use Rattle.httparse.specs.Grammar.{RequestHead, print_request};
-ghost use Rattle.relay_http.specs.Failures.{Passes, Misses, NoCause, WrotePrefix};
+ghost use Rattle.relay_http.specs.Failures.{Conveys, Misses, NoCause, WrotePrefix};
 ghost use Rattle.http_texts.specs.Framings as framings;
 ghost use Rattle.http_texts.specs.Heads.{IsRequest, LacksRequest};
 ghost use Rattle.http_texts.specs.Messages as messages;
@@ -32,7 +32,7 @@ impl Exchange {
         requires { IsAtOrFailed Stage.New self.old }
         ensures ok { IfOk result (λ view. (h : RequestHead) × IsRequest h × (view ≡ request_of h) × IsSome (framings.request_framing view)
             × ((w : Option (List ℕ))
-            → Passes self.old.pipe.inbox self.new.pipe.inbox (R.remaining reader.old) (R.remaining reader.new) w w (print_request h) [])) }
+            → Conveys self.old.pipe.inbox self.new.pipe.inbox (R.remaining reader.old) (R.remaining reader.new) w w (print_request h) [])) }
         ensures asked { OnOk result (self.new.stage ≡ Stage.Asked) }
         ensures closed { self.old.stage ≡ Stage.Failed → result ≡ Err Fault.Closed }
         ensures untouched { self.old.stage ≡ Stage.Failed → (self.new ≡ self.old) × (R.remaining reader.new ≡ R.remaining reader.old) }
@@ -63,7 +63,7 @@ impl Exchange {
         requires ready { IsAtOrFailed Stage.Asked self.old }
         requires serves { Serves pass.now.verdict }
         ensures ok { OnOk result ((used : List ℕ) × (text : List ℕ) × messages.IsForwarded (unnamed Persistence.Close) view.now used text
-            × Passes self.old.pipe.inbox self.new.pipe.inbox (R.remaining reader.old) (R.remaining reader.new) (W.contents writer.old)
+            × Conveys self.old.pipe.inbox self.new.pipe.inbox (R.remaining reader.old) (R.remaining reader.new) (W.contents writer.old)
             (W.contents writer.new) used text) }
         ensures forwarded { OnOk result (self.new.stage ≡ states.forwarded_on pass.now) }
         ensures closed { self.old.stage ≡ Stage.Failed → result ≡ Err Fault.Closed }
@@ -92,7 +92,7 @@ impl Exchange {
     pub fn go_on<W: Write>(&mut self, view: &View, writer: &mut W) -> Result<(), Fault>
         requires { IsAtOrFailed Stage.Asked self.old }
         ensures ok { (r : Option (List ℕ))
-            → OnOk result (Passes self.old.pipe.inbox self.new.pipe.inbox r r (W.contents writer.old) (W.contents writer.new) [] (leave_text view.now)) }
+            → OnOk result (Conveys self.old.pipe.inbox self.new.pipe.inbox r r (W.contents writer.old) (W.contents writer.new) [] (leave_text view.now)) }
         ensures asked { OnOk result (self.new.stage ≡ Stage.Asked) }
         ensures closed { self.old.stage ≡ Stage.Failed → result ≡ Err Fault.Closed }
         ensures untouched { self.old.stage ≡ Stage.Failed → (self.new ≡ self.old) × (W.contents writer.new ≡ W.contents writer.old) }
@@ -128,7 +128,7 @@ impl Exchange {
         requires serves { Serves pass.now.verdict }
         ensures ok { OnOk result ((used : List ℕ) × (text : List ℕ)
             × (answered : messages.IsAnswered Persistence.Close view.now.method (framed_for view.now.version) used text)
-            × Passes [] self.new.pipe.inbox (R.remaining reader.old) (R.remaining reader.new) (W.contents writer.old) (W.contents writer.new) used text
+            × Conveys [] self.new.pipe.inbox (R.remaining reader.old) (R.remaining reader.new) (W.contents writer.old) (W.contents writer.new) used text
             × (answered.plan.body ≡ Framing.ToEnd → IsAtEnd (R.remaining reader.new))
             × (answered.plan.body ≡ Framing.ToEnd → self.new.pipe.inbox ≡ [])) }
         ensures answered { OnOk result (self.new.stage ≡ Stage.Answered) }

@@ -9,7 +9,7 @@ ghost use Rattle.http_texts.specs.Messages as messages;
 ghost use Rattle.http_texts.specs.Texts.{answer_text, interim_text, framed_for, unnamed};
 ghost use Rattle.req_view.specs.Answer.{answer_of};
 
-use crate::sending::{pass_interim, send};
+use crate::sending::{forward_interim, send};
 use base_streams::{Sink, Source};
 use exchange_machine::{Seen, see_head};
 use http_bodies::{Fault as BodyFault, Framing, Pipe};
@@ -27,7 +27,7 @@ pub(crate) struct Planned {
 }
 
 /// Hands on a request whose head was read, and writes all of it.
-pub(crate) fn pass_request<S: Source, K: Sink>(
+pub(crate) fn forward_request<S: Source, K: Sink>(
     pipe: &mut Pipe,
     view: &View,
     source: &mut S,
@@ -49,13 +49,13 @@ pub(crate) fn pass_request<S: Source, K: Sink>(
         client: b"",
     };
     put_request(pipe, sink, view, framing, added)?;
-    pipe.pass_body(source, sink, framing, true)?;
+    pipe.forward_body(source, sink, framing, true)?;
     send(pipe, sink)?;
     Ok(())
 }
 
 /// Hands on the answer to a request, with its interim heads, and writes all of it.
-pub(crate) fn pass_answer<S: Source, K: Sink>(
+pub(crate) fn forward_answer<S: Source, K: Sink>(
     pipe: &mut Pipe,
     alloc: Global,
     view: &View,
@@ -75,11 +75,11 @@ pub(crate) fn pass_answer<S: Source, K: Sink>(
         (messages.LacksAnswer view.now.method) fault) }
 {
     let planned = read_answer(pipe, alloc, view, source, sink)?;
-    pass_planned(pipe, &planned, is_framed(view.version()), source, sink)
+    forward_planned(pipe, &planned, is_framed(view.version()), source, sink)
 }
 
 // Hands on the answer whose head was read, and writes all of it.
-fn pass_planned<S: Source, K: Sink>(
+fn forward_planned<S: Source, K: Sink>(
     pipe: &mut Pipe,
     planned: &Planned,
     framed: bool,
@@ -87,15 +87,15 @@ fn pass_planned<S: Source, K: Sink>(
     sink: &mut K,
 ) -> Result<(), Fault>
     requires { Countable (ends pipe.old (S.stream source.old) (K.stream sink.old)) }
-    ensures ok { OnOk result ((body : List ℕ) × (passed : List ℕ) × IsBody planned.now.plan.body framed body passed
+    ensures ok { OnOk result ((body : List ℕ) × (sent_on : List ℕ) × IsBody planned.now.plan.body framed body sent_on
         × Moves (ends pipe.old (S.stream source.old) (K.stream sink.old)) (ends pipe.new (S.stream source.new) (K.stream sink.new)) body
-        (answer_text Persistence.Close framed planned.now.head planned.now.plan ++ passed)
+        (answer_text Persistence.Close framed planned.now.head planned.now.plan ++ sent_on)
         × (planned.now.plan.body ≡ Framing.ToEnd → IsAtEnd (S.stream source.new).bytes)
         × (planned.now.plan.body ≡ Framing.ToEnd → pipe.new.inbox ≡ [])) }
     ensures empty { OnOk result (pipe.new.outbox ≡ []) }
-    ensures err { IfErr result (λ fault. (body : List ℕ) × (passed : List ℕ) × PartOfBody planned.now.plan.body framed body passed
+    ensures err { IfErr result (λ fault. (body : List ℕ) × (sent_on : List ℕ) × PartOfBody planned.now.plan.body framed body sent_on
         × Fails (ends pipe.old (S.stream source.old) (K.stream sink.old)) (ends pipe.new (S.stream source.new) (K.stream sink.new)) body
-        (answer_text Persistence.Close framed planned.now.head planned.now.plan ++ passed) (messages.NoBody planned.now.plan.body) fault) }
+        (answer_text Persistence.Close framed planned.now.head planned.now.plan ++ sent_on) (messages.NoBody planned.now.plan.body) fault) }
 {
     let plan = planned.plan;
     let wording = Wording {
@@ -104,7 +104,7 @@ fn pass_planned<S: Source, K: Sink>(
         says: Persistence::Close,
     };
     put_answer(pipe, sink, &planned.head, wording)?;
-    pipe.pass_body(source, sink, plan.body, framed)?;
+    pipe.forward_body(source, sink, plan.body, framed)?;
     send(pipe, sink)?;
     Ok(())
 }
@@ -137,7 +137,7 @@ fn read_answer<S: Source, K: Sink>(
             }
             Seen::Interim(head, len) => {
                 pipe.consume(len);
-                pass_before(pipe, sink, head, framed)?;
+                forward_before(pipe, sink, head, framed)?;
                 count += 1;
             }
             Seen::Refused(fault) => return Err(fault),
@@ -153,7 +153,7 @@ fn read_answer<S: Source, K: Sink>(
 
 // Takes the head by value, so that nothing of it is left at the exits of the caller's loop: these
 // are proved faster.
-fn pass_before<K: Sink>(
+fn forward_before<K: Sink>(
     pipe: &mut Pipe,
     sink: &mut K,
     head: AnswerHead,
@@ -163,5 +163,5 @@ fn pass_before<K: Sink>(
     ensures ok { OnOk result (Puts pipe.old pipe.new (K.stream sink.old) (K.stream sink.new) (interim_text framed head)) }
     ensures err { IfErr result (Halts pipe.old pipe.new (K.stream sink.old) (K.stream sink.new) (interim_text framed head)) }
 {
-    pass_interim(pipe, sink, &head, framed)
+    forward_interim(pipe, sink, &head, framed)
 }

@@ -31,7 +31,7 @@ pub(crate) fn send_text<K: Sink>(pipe: &mut Pipe, sink: &mut K, text: &[u8]) -> 
 }
 
 /// Writes an interim head at once, since the server may take its time for the next one.
-pub(crate) fn pass_interim<K: Sink>(
+pub(crate) fn forward_interim<K: Sink>(
     pipe: &mut Pipe,
     sink: &mut K,
     head: &AnswerHead,

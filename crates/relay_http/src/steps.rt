@@ -16,7 +16,7 @@ ghost use Rattle.req_view.specs.Request.{request_of};
 use crate::asking::read_request;
 use crate::exchange::{Exchange, Stage};
 use crate::leave::give_leave;
-use crate::messages::{pass_answer, pass_request};
+use crate::messages::{forward_answer, forward_request};
 use base_streams::{Sink, Source};
 use grant_board::Pass;
 use http_bodies::Framing;
@@ -126,7 +126,7 @@ impl Exchange {
         if self.is_closed() {
             return Err(Fault::Closed);
         }
-        match pass_request(&mut self.pipe, view, source, sink) {
+        match forward_request(&mut self.pipe, view, source, sink) {
             Ok(()) => {
                 self.stage = forwarded_on(pass);
                 Ok(())
@@ -180,7 +180,7 @@ impl Exchange {
         }
         self.pipe.hold(b"");
         let before = sink.successes();
-        let result = pass_answer(&mut self.pipe, alloc, view, source, sink);
+        let result = forward_answer(&mut self.pipe, alloc, view, source, sink);
         self.begun = has_begun(self.begun, before, sink.successes());
         match result {
             Ok(()) => {

@@ -4,9 +4,10 @@ use denote.Param.Send.{IsSync, sendable}
 use denote.Param.SendFields.{declared_sync}
 use Rattle.std.proofs.Crossing.{crosses}
 use Rattle.grant_board.specs.declared.board.BoardName as board_name
+use Rattle.locked_book.specs.declared.name.DeskName as desk_name
 use Rattle.shared_desk.proofs.Crosses.{desk_sync}
 use Rattle.proxy_config.proofs.parts.Config.TheSendSync as config
 use Rattle.relay_workers.specs.contracts.proxy.Proxy as proxy
 
-pub proxy_sync : (N : RattleType) (g : board_name.Ghosts N.Denot) → IsSync (proxy.the_row N g)
-proxy_sync N g = declared_sync (proxy.the_type N g) (search (crosses, sendable) depth 60 fits 20000, (desk_sync N g, (config.the_sync, (search (crosses, sendable) depth 60 fits 20000, tt))))
+pub proxy_sync : (N : RattleType) (d : desk_name.Ghosts N.Denot) (g : board_name.Ghosts N.Denot) → IsSync (proxy.the_row N d g)
+proxy_sync N d g = declared_sync (proxy.the_type N d g) (search (crosses, sendable) depth 60 fits 20000, (desk_sync N d g, (config.the_sync, (search (crosses, sendable) depth 60 fits 20000, tt))))

@@ -34,15 +34,15 @@ is_known setup None known = refl
 is_known setup (Some server) known = grind (arith, nat_tests)
 
 -- the dispatcher has as many servers as the configuration
-as_many : (config : Config) (terms : Terms) (held : Booked) → IsBoardOf config terms → IsHeld terms held
+as_many : (config : Config) (terms : Terms) (named : Setup) (held : Booked) → IsBoardOf config terms → IsHeld terms named held
     → length config.servers ≡ length held.history.setup.servers
-as_many config terms held its is =
+as_many config terms named held its is =
     sym (length-map config.servers (λ (it : Server). it.maxconn)) ∙ ap length (sym its) ∙ ap (λ (t : Terms). length t.limits) (sym is.of_terms ∙ is.book.terms)
     ∙ length-map held.history.setup.servers (λ (it : ServerSet). it.limit)
 
-never_unknown : (config : Config) (terms : Terms) (pin : Option ℕ) (refusal : Refusal) → IsBoardOf config terms
-    → IfSome pin (λ server. server < length config.servers) → IsRefusedFor terms pin refusal → refusal ≢ NoSuchServer
-never_unknown config terms pin refusal its known refused same = by_cause refused.2
+never_unknown : (config : Config) (terms : Terms) (named : Setup) (pin : Option ℕ) (refusal : Refusal) → IsBoardOf config terms
+    → IfSome pin (λ server. server < length config.servers) → IsRefusedFor terms named pin refusal → refusal ≢ NoSuchServer
+never_unknown config terms named pin refusal its known refused same = by_cause refused.2
   where
     setup : Setup
     setup = refused.0.history.setup
@@ -51,13 +51,13 @@ never_unknown config terms pin refusal its known refused same = by_cause refused
     by_cause (inl e) =
         not_unknown (lacks_room setup (length refused.0.history.log)) (pins_to_none setup pin) (tickets_are_spent (state_of refused.0.history).ticket)
         (is_full setup (state_of refused.0.history).rows)
-        (is_known setup pin (subst (λ (n : ℕ). IfSome pin (λ server. server < n)) (as_many config terms refused.0 its refused.1) known)) (e ∙ ap Some same)
+        (is_known setup pin (subst (λ (n : ℕ). IfSome pin (λ server. server < n)) (as_many config terms named refused.0 its refused.1) known)) (e ∙ ap Some same)
     by_cause (inr e) = (let none = e.1 in cc)
 
 -- no arrival that the rules of an accepted configuration decide is refused since no server has the number of its pin
-pub known_for : (config : Config) (terms : Terms) (pin : Option ℕ) (answer : Result Ticketed Refusal) → IsBoardOf config terms
-    → ∥ IsSoundConfig config ∥₁ → (IsSoundConfig config → IfSome pin (λ server. server < length config.servers)) → IfErr answer (IsRefusedFor terms pin)
+pub known_for : (config : Config) (terms : Terms) (named : Setup) (pin : Option ℕ) (answer : Result Ticketed Refusal) → IsBoardOf config terms
+    → ∥ IsSoundConfig config ∥₁ → (IsSoundConfig config → IfSome pin (λ server. server < length config.servers)) → IfErr answer (IsRefusedFor terms named pin)
     → IfErr answer (λ refusal. refusal ≢ NoSuchServer)
-known_for config terms pin (Ok it) its sound known refused = tt
-known_for config terms pin (Err refusal) its sound known refused =
-    λ same. ∥∥₁_elim sound (hlevel props) (λ is. never_unknown config terms pin refusal its (known is) refused same)
+known_for config terms named pin (Ok it) its sound known refused = tt
+known_for config terms named pin (Err refusal) its sound known refused =
+    λ same. ∥∥₁_elim sound (hlevel props) (λ is. never_unknown config terms named pin refusal its (known is) refused same)

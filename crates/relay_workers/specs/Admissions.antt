@@ -3,6 +3,7 @@ use Rattle.std.specs.Prelude.{ℕ, ◌<◌, pos, ◌+ℤ◌, Option}
 use Rattle.queue_outside.specs.Admission.{due_at}
 use Rattle.log_entries.specs.declared.entry.Entry.TheVariants.{Arrive}
 use Rattle.log_entries.specs.declared.refusal.Refusal.{Refusal}
+use Rattle.log_entries.specs.declared.setup.Setup.{Setup}
 use Rattle.log_entries.specs.Histories.{effective, refuses_arrival, RefusedOrNoMemory}
 use Rattle.log_entries.specs.Legal.{AddsEvent}
 use Rattle.dispatch_state.specs.declared.position.Ticketed.{Ticketed}
@@ -16,9 +17,9 @@ use Rattle.relay_workers.specs.Boards.{IsBoardOf}
 use Rattle.req_view.specs.Request.{Request}
 
 -- a request arrived at some moment with this wish: its class, its offset and its pin
-abbrev pub ArrivesAs : Wish → Ticketed → Terms → Type 0
-ArrivesAs wished it terms =
-    (moment : ℕ) × SomeStep terms (λ old new. AddsEvent old.history new.history (Arrive (effective old.history moment) (record {
+abbrev pub ArrivesAs : Wish → Ticketed → Terms → Setup → Type 0
+ArrivesAs wished it terms setup =
+    (moment : ℕ) × SomeStep terms setup (λ old new. AddsEvent old.history new.history (Arrive (effective old.history moment) (record {
       ticket = it.ticket;
       class = wished.class;
       due = pos (effective old.history moment) +ℤ wished.offset;
@@ -27,23 +28,23 @@ ArrivesAs wished it terms =
     })))
 
 -- it has a place of the board and arrived so
-pub record IsAdmittedAs (terms : Terms) (wished : Wish) (it : Ticketed) : Type 0 where
+pub record IsAdmittedAs (terms : Terms) (setup : Setup) (wished : Wish) (it : Ticketed) : Type 0 where
   pub place : it.place < terms.places
-  pub arrives : ArrivesAs wished it terms
+  pub arrives : ArrivesAs wished it terms setup
 
 -- the same with the wish of the rules, at a board of the configuration whose rules they are
-abbrev pub IsAdmitted : Terms → Config → Request → Ticketed → Type 0
-IsAdmitted terms config request it = IsBoardOf config terms × IsAdmittedAs terms (wish config request) it
+abbrev pub IsAdmitted : Terms → Setup → Config → Request → Ticketed → Type 0
+IsAdmitted terms setup config request it = IsBoardOf config terms × IsAdmittedAs terms setup (wish config request) it
 
 -- the same by some configuration
-abbrev pub IsRequestAt : Terms → Request → Ticketed → Type 0
-IsRequestAt terms request it = ∥ ((config : Config) × IsAdmitted terms config request it) ∥₁
+abbrev pub IsRequestAt : Terms → Setup → Request → Ticketed → Type 0
+IsRequestAt terms setup request it = ∥ ((config : Config) × IsAdmitted terms setup config request it) ∥₁
 
 -- a request that waited elsewhere arrived at some moment with its old due date, or the nearest one
 -- that was possible at that moment
-abbrev pub ArrivesLate : Deferred → Ticketed → Terms → Type 0
-ArrivesLate deferred it terms =
-    (moment : ℕ) × SomeStep terms (λ old new. AddsEvent old.history new.history (Arrive (effective old.history moment) (record {
+abbrev pub ArrivesLate : Deferred → Ticketed → Terms → Setup → Type 0
+ArrivesLate deferred it terms setup =
+    (moment : ℕ) × SomeStep terms setup (λ old new. AddsEvent old.history new.history (Arrive (effective old.history moment) (record {
       ticket = it.ticket;
       class = deferred.class;
       due = due_at deferred.due (effective old.history moment);
@@ -52,14 +53,14 @@ ArrivesLate deferred it terms =
     })))
 
 -- it has a place of the board and arrived so
-pub record IsAdmittedLate (terms : Terms) (deferred : Deferred) (it : Ticketed) : Type 0 where
+pub record IsAdmittedLate (terms : Terms) (setup : Setup) (deferred : Deferred) (it : Ticketed) : Type 0 where
   pub place : it.place < terms.places
-  pub arrives : ArrivesLate deferred it terms
+  pub arrives : ArrivesLate deferred it terms setup
 
 -- in some state that the lock may hold an arrival with this pin is refused for this cause, or there was no memory
-abbrev pub IsRefusedFor : Terms → Option ℕ → Refusal → Type 0
-IsRefusedFor terms pin refusal = SomeHeld terms (λ held. RefusedOrNoMemory (refuses_arrival held.history pin) refusal)
+abbrev pub IsRefusedFor : Terms → Setup → Option ℕ → Refusal → Type 0
+IsRefusedFor terms setup pin refusal = SomeHeld terms setup (λ held. RefusedOrNoMemory (refuses_arrival held.history pin) refusal)
 
 -- the same with the pin of the rules, at a board of the configuration whose rules they are
-abbrev pub WishIsTurnedAway : Terms → Config → Request → Refusal → Type 0
-WishIsTurnedAway terms config request refusal = IsBoardOf config terms × IsRefusedFor terms (wish config request).pin refusal
+abbrev pub WishIsTurnedAway : Terms → Setup → Config → Request → Refusal → Type 0
+WishIsTurnedAway terms setup config request refusal = IsBoardOf config terms × IsRefusedFor terms setup (wish config request).pin refusal

@@ -13,8 +13,7 @@ use crate::outcome::Outcome;
 use crate::proxy::{Proxy, Runner};
 use base_places::PlaceSet;
 use dispatch_state::Ticketed;
-use grant_board::BoardName;
-use locked_book::{Deferred, Wanted};
+use locked_book::{Deferred, DeskName, Wanted};
 use log_entries::Refusal;
 use prio_rules::{Wish, decide};
 use relay_http::{Code, Exchange};
@@ -25,13 +24,13 @@ use std::sync::Wait;
 
 /// A client whose request has arrived at the board that N names.
 #[derive(Drop)]
-pub struct Admitted<N: BoardName, C: Read + Write + Drop> {
+pub struct Admitted<N: DeskName, C: Read + Write + Drop> {
     pub client: C,
     pub view: View,
     /// Its place and its ticket.
     pub at: Ticketed,
     of: PhantomData<N>,
-    pub ghost arrived: { IsRequestAt N.terms view at },
+    pub ghost arrived: { IsRequestAt N.terms N.setup view at },
 }
 
 /// From a client to a place: reads the request's head, and lets the request arrive as the rules
@@ -40,14 +39,14 @@ pub struct Admitted<N: BoardName, C: Read + Write + Drop> {
 /// Refused with 400 where the head isn't one that the proxy accepts, and with 503 where there is no
 /// memory, or the dispatcher refuses: all places are taken, the log is full, or the tickets are
 /// spent.
-pub fn admit<R: Wait, N: BoardName, G: Gate + Drop>(
+pub fn admit<R: Wait, N: DeskName, G: Gate + Drop>(
     rt: &R,
     proxy: &Proxy<N>,
     runner: &mut Runner<G>,
     client: G::Client,
 ) -> Result<Admitted<N, G::Client>, Outcome>
     requires { IsFresh runner.old.exchange.most runner.old.exchange }
-    ensures ok { IfOk result (λ it. IsAdmitted N.terms proxy.now.config it.view it.at) }
+    ensures ok { IfOk result (λ it. IsAdmitted N.terms N.setup proxy.now.config it.view it.at) }
     ensures asked { OnOk result (runner.new.exchange.stage ≡ Asked) }
     ensures begun { OnOk result (runner.new.exchange.begun ≡ false) }
     ensures err { IfErr result (λ outcome. outcome ≢ Answered) }
@@ -78,14 +77,14 @@ pub fn admit<R: Wait, N: BoardName, G: Gate + Drop>(
 /// Lets the request with this head arrive as the rules wish. Refused as the dispatcher's `arrive`
 /// is; where the log is full only if there is no memory for the reports of its window, or the next
 /// window is full as well.
-pub fn arrive<R: Wait, N: BoardName, G: Gate>(
+pub fn arrive<R: Wait, N: DeskName, G: Gate>(
     rt: &R,
     proxy: &Proxy<N>,
     gate: &mut G,
     view: &View,
 ) -> Result<Ticketed, Refusal>
-    ensures ok { IfOk result (λ it. IsAdmitted N.terms proxy.now.config view.now it) }
-    ensures err { IfErr result (λ refusal. WishIsTurnedAway N.terms proxy.now.config view.now refusal) }
+    ensures ok { IfOk result (λ it. IsAdmitted N.terms N.setup proxy.now.config view.now it) }
+    ensures err { IfErr result (λ refusal. WishIsTurnedAway N.terms N.setup proxy.now.config view.now refusal) }
     // A pin is a server of the dispatcher.
     ensures known { IfErr result (λ refusal. refusal ≢ NoSuchServer) }
 {
@@ -94,14 +93,14 @@ pub fn arrive<R: Wait, N: BoardName, G: Gate>(
 }
 
 /// Lets a request arrive with this wish. Refused as `arrive` is.
-pub fn arrive_as<R: Wait, N: BoardName, G: Gate>(
+pub fn arrive_as<R: Wait, N: DeskName, G: Gate>(
     rt: &R,
     proxy: &Proxy<N>,
     gate: &mut G,
     wish: &Wish,
 ) -> Result<Ticketed, Refusal>
-    ensures ok { IfOk result (λ it. IsAdmittedAs N.terms wish.now it) }
-    ensures err { IfErr result (λ refusal. IsRefusedFor N.terms wish.now.pin refusal) }
+    ensures ok { IfOk result (λ it. IsAdmittedAs N.terms N.setup wish.now it) }
+    ensures err { IfErr result (λ refusal. IsRefusedFor N.terms N.setup wish.now.pin refusal) }
 {
     let wanted = Wanted {
         class: wish.class,
@@ -121,14 +120,14 @@ pub fn arrive_as<R: Wait, N: BoardName, G: Gate>(
 
 /// Lets a request arrive that waited elsewhere: it keeps its due date, or gets the nearest one that
 /// an arrival may have now. Refused as `arrive` is.
-pub fn arrive_late<R: Wait, N: BoardName, G: Gate>(
+pub fn arrive_late<R: Wait, N: DeskName, G: Gate>(
     rt: &R,
     proxy: &Proxy<N>,
     gate: &mut G,
     deferred: Deferred,
 ) -> Result<Ticketed, Refusal>
-    ensures ok { IfOk result (λ it. IsAdmittedLate N.terms deferred it) }
-    ensures err { IfErr result (λ refusal. IsRefusedFor N.terms deferred.pin refusal) }
+    ensures ok { IfOk result (λ it. IsAdmittedLate N.terms N.setup deferred it) }
+    ensures err { IfErr result (λ refusal. IsRefusedFor N.terms N.setup deferred.pin refusal) }
 {
     let moment = gate.moment();
     let (arrived, _) = proxy.retry_in_new_window(rt, gate, || {

@@ -1,7 +1,7 @@
 use crate::gate::{Gate, Pause};
 use crate::proxy::Proxy;
 use due_key::Moment;
-use grant_board::BoardName;
+use locked_book::DeskName;
 use std::sync::Wait;
 use std::sync::atomic::{AtomicBool, Ordering};
 
@@ -10,20 +10,20 @@ const MOST_SERVERS: usize = 64;
 /// Checks each server with `check`, at once and then each time its `inter` has passed since its
 /// last check ended, and tells the dispatcher. It ends when it is told to stop, or its pauses are
 /// spent. It allocates nothing.
-pub fn checker<R: Wait, N: BoardName, G: Gate, P: Pause>(
+pub fn checker<R: Wait, N: DeskName, G: Gate, P: Pause>(
     rt: &R,
     proxy: &Proxy<N>,
     gate: &mut G,
     pause: &mut P,
     stop: &AtomicBool,
 ) {
-    let mut due = [Moment::zero(); MOST_SERVERS];
+    let mut next_checks = [Moment::zero(); MOST_SERVERS];
     pause.begin();
     for _ in rt.forever() {
         if stop.load(Ordering::SeqCst) {
             return;
         }
-        check_each(rt, proxy, gate, &mut due);
+        check_each(rt, proxy, gate, &mut next_checks);
         if !pause.turn() {
             return;
         }
@@ -31,15 +31,15 @@ pub fn checker<R: Wait, N: BoardName, G: Gate, P: Pause>(
 }
 
 // Looks once at each server whose check is due.
-fn check_each<R: Wait, N: BoardName, G: Gate>(
+fn check_each<R: Wait, N: DeskName, G: Gate>(
     rt: &R,
     proxy: &Proxy<N>,
     gate: &mut G,
-    due: &mut [Moment; MOST_SERVERS],
+    next_checks: &mut [Moment; MOST_SERVERS],
 ) {
     let now = gate.moment();
     let servers = proxy.config.servers.as_slice();
-    for (number, next) in due.iter_mut().enumerate() {
+    for (number, next) in next_checks.iter_mut().enumerate() {
         let Some(checks) = servers.get(number).and_then(|server| server.check) else {
             continue;
         };

@@ -9,7 +9,8 @@ use crate::stopping::Stopped;
 use crate::tally::Tally;
 use crate::working::worker;
 use board_seats::Idle;
-use grant_board::{BoardName, RelaySeat};
+use grant_board::RelaySeat;
+use locked_book::DeskName;
 use std::sync::Wait;
 use std::sync::atomic::{AtomicBool, Ordering};
 use std::thread::{Scope, Threads};
@@ -23,7 +24,7 @@ use std::{thread, vec};
 /// where a thread can't be started.
 pub fn serve<
     R: Threads + Wait + Sync,
-    N: BoardName + Send + Sync,
+    N: DeskName + Send + Sync,
     G: Gate + Send + Drop,
     P: Pause + Send + Drop,
 >(
@@ -56,7 +57,7 @@ pub fn serve<
 // Runs all threads in a scope.
 fn run_all<
     R: Threads + Wait + Sync,
-    N: BoardName + Send + Sync,
+    N: DeskName + Send + Sync,
     S: Lends<N> + Sync,
     G: Gate + Send + Drop,
     P: Pause + Send + Drop,
@@ -99,7 +100,7 @@ fn run_crew<
     's,
     E,
     R: Threads + Wait + Sync,
-    N: BoardName + Send + Sync + 's,
+    N: DeskName + Send + Sync + 's,
     S: Lends<N> + Sync + 's,
     G: Gate + Send + Drop + 's,
     P: Pause + Send + Drop + 's,
@@ -139,11 +140,11 @@ fn first_stop(
 
 // Lends threads a proxy. Whether a type parameter may be shared is known only from a bound, so this
 // trait shows it once, for `Proxy`, where `serve` begins.
-trait Lends<N: BoardName> {
+trait Lends<N: DeskName> {
     fn proxy(&self) -> &Proxy<N>;
 }
 
-impl<N: BoardName> Lends<N> for Proxy<N> {
+impl<N: DeskName> Lends<N> for Proxy<N> {
     fn proxy(&self) -> &Proxy<N> {
         self
     }

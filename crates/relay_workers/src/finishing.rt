@@ -16,7 +16,8 @@ use crate::proxy::{Proxy, Runner};
 use crate::slot::Slot;
 use crate::waiting::Granted;
 use base_verdict::{Ending, Verdict};
-use grant_board::{BoardName, Pass, RelaySeat};
+use grant_board::{Pass, RelaySeat};
+use locked_book::DeskName;
 use relay_http::Exchange;
 use std::alloc::Global;
 use std::io::{Read, Write};
@@ -28,7 +29,7 @@ use std::sync::Wait;
 ///
 /// `Err` where there is no connection to the server: the request waits again, and may be retried.
 /// `Ok` is the end of the exchange.
-pub fn finish<R: Wait, N: BoardName, G: Gate + Drop>(
+pub fn finish<R: Wait, N: DeskName, G: Gate + Drop>(
     rt: &R,
     proxy: &Proxy<N>,
     seat: &mut RelaySeat,
@@ -61,7 +62,7 @@ pub fn finish<R: Wait, N: BoardName, G: Gate + Drop>(
 }
 
 // Does what a pass asks for. `None` where there is no connection to its server.
-fn carry<N: BoardName, G: Gate + Drop>(
+fn carry<N: DeskName, G: Gate + Drop>(
     alloc: Global,
     seat: &RelaySeat,
     pass: &Pass,
@@ -93,7 +94,7 @@ fn carry<N: BoardName, G: Gate + Drop>(
 }
 
 // Sends the request of a slot to the server, and hands its answer back.
-fn hand_on<N: BoardName, C: Read + Write, S: Read + Write>(
+fn hand_on<N: DeskName, C: Read + Write, S: Read + Write>(
     alloc: Global,
     slot: &Slot<'_, N>,
     exchange: &mut Exchange,

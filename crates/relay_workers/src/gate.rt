@@ -4,9 +4,9 @@ ghost use Rattle.relay_workers.specs.Windows.{WindowHasEnded};
 
 use crate::slot::Slot;
 use base_places::PlaceSet;
-use dispatch_reports::Window;
+use dispatch_reports::EndedWindow;
 use due_key::Moment;
-use grant_board::BoardName;
+use locked_book::DeskName;
 use std::io::{Read, Write};
 
 /// The source of a thread's clients, connections and moments. Each thread has its own.
@@ -20,7 +20,7 @@ pub trait Gate {
 
     /// Returns a connection to the server of a slot; `None` where there is none, and the request is
     /// retried there or elsewhere.
-    fn connect<N: BoardName>(&mut self, slot: &Slot<'_, N>) -> Option<Self::Server>;
+    fn connect<N: DeskName>(&mut self, slot: &Slot<'_, N>) -> Option<Self::Server>;
 
     /// Looks at the check of a server, and begins one where none runs; `None` where it isn't over
     /// yet. It doesn't wait, so no server's checks delay another's.
@@ -35,7 +35,7 @@ pub trait Gate {
     /// Takes what is told of a window that ended, because the log was full or its time was over.
     /// Each window goes to the gate of one thread, and they may come to the gates in another order
     /// than they ended.
-    fn window(&mut self, window: Window)
+    fn window(&mut self, window: EndedWindow)
         requires { WindowHasEnded window };
 
     /// Is told after a call of the dispatcher at which places it offered verdicts. The lock is free then.

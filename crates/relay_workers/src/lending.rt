@@ -6,10 +6,11 @@ ghost use Rattle.relay_workers.specs.Seats.{IsLent};
 
 use crate::proxy::Proxy;
 use board_seats::Idle;
-use grant_board::{BoardName, RelaySeat};
+use grant_board::RelaySeat;
+use locked_book::DeskName;
 
 /// Splits off this number of seats. False where there is no memory for one.
-pub fn split_off<N: BoardName>(
+pub fn split_off<N: DeskName>(
     proxy: &Proxy<N>,
     first: &mut RelaySeat,
     seats: &mut Vec<Idle<N>>,
@@ -31,7 +32,7 @@ pub fn split_off<N: BoardName>(
 }
 
 /// Joins all seats again.
-pub fn join_all<N: BoardName>(proxy: &Proxy<N>, first: &mut RelaySeat, seats: Vec<Idle<N>>)
+pub fn join_all<N: DeskName>(proxy: &Proxy<N>, first: &mut RelaySeat, seats: Vec<Idle<N>>)
     requires named { (first.old.board ≡ N.board) × (first.old.view.terms ≡ N.terms) }
     requires first { first.old.view.first ≡ true }
     ensures lent { IsLent first.old first.new (vec_len seats) 0 }

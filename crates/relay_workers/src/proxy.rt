@@ -13,25 +13,28 @@ ghost use Rattle.dispatch_reports.specs.Reporting.{IsNew};
 use crate::gate::{Gate, Pause};
 use base_places::PlaceSet;
 use dispatch_core::Core;
-use grant_board::{Board, BoardName, KeeperSeat, Return};
+use grant_board::{Board, KeeperSeat, Return};
 use late_cert::Running;
+use locked_book::DeskName;
 use log_entries::{Intake, Refusal};
 use proxy_config::Config;
 use relay_http::Exchange;
-use shared_desk::{Desk, Queues};
+use shared_desk::{Desk, DeskQueue};
 use std::alloc::Global;
 use std::marker::PhantomData;
 use std::sync::Wait;
 
 /// What all threads of a proxy share: its dispatcher, its configuration, and the allocator. The
-/// board is one of the configuration's, which `new` ensures.
+/// board is one of the configuration's, and the setup that N names is one that the configuration
+/// asks for, which `new` ensures.
 #[derive(Drop)]
-pub struct Proxy<N: BoardName> {
+pub struct Proxy<N: DeskName> {
     pub alloc: Global,
     pub desk: Desk<N>,
     pub config: Config,
     of: PhantomData<N>,
     pub ghost its_board: { IsBoardOf config N.terms },
+    pub ghost its_setup: { SetupIsAsked config N.setup },
     pub ghost sound: { ∥ IsSoundConfig config ∥₁ },
 }
 
@@ -49,13 +52,13 @@ pub struct Worker<G: Gate + Drop, P: Pause + Drop> {
     pub pause: P,
 }
 
-impl<N: BoardName> Proxy<N> {
+impl<N: DeskName> Proxy<N> {
     /// Makes a proxy of an accepted configuration, over a fresh dispatcher with the configuration's
     /// setup, and a board that was opened for it.
     pub fn new(
         alloc: Global,
         config: Config,
-        core: Core<Queues>,
+        core: Core<DeskQueue>,
         running: Running,
         opened: (Board, KeeperSeat),
     ) -> Proxy<N>
@@ -65,6 +68,7 @@ impl<N: BoardName> Proxy<N> {
         requires running { IsNew running (length core.setup.servers) }
         requires board { (opened.0 ≡ N.board) × (opened.1.board ≡ N.board) }
         requires terms { N.terms ≡ terms_for core.setup }
+        requires setup { N.setup ≡ core.setup }
         requires seat { opened.1.view ≡ new_keeper N.terms }
         ensures config { result.config ≡ config }
     {
@@ -137,8 +141,8 @@ impl<N: BoardName> Proxy<N> {
         server: usize,
         intake: Intake,
     ) -> Result<(), Refusal>
-        ensures ok { OnOk result ((moment : ℕ) × SomeStep N.terms (λ old new. AddsEvent old.history new.history (Limit (effective old.history moment) server intake))) }
-        ensures err { IfErr result (λ refusal. SomeHeld N.terms (λ held. refuses_limit held.history server ≡ Some refusal)) }
+        ensures ok { OnOk result ((moment : ℕ) × SomeStep N.terms N.setup (λ old new. AddsEvent old.history new.history (Limit (effective old.history moment) server intake))) }
+        ensures err { IfErr result (λ refusal. SomeHeld N.terms N.setup (λ held. refuses_limit held.history server ≡ Some refusal)) }
     {
         let moment = gate.moment();
         let (set, _) = self.retry_in_new_window(rt, gate, || {
@@ -151,8 +155,9 @@ impl<N: BoardName> Proxy<N> {
 
     /// Ends the present window, which the gate takes. Where there is no memory for that, the window goes on.
     pub fn end_window<R: Wait, G: Gate>(&self, rt: &R, gate: &mut G) {
-        if let Ok(window) = self.desk.roll(rt, self.alloc) {
-            gate.window(window);
+        match self.desk.roll(rt, self.alloc) {
+            Ok(window) => gate.window(window),
+            Err(_) => {}
         }
     }
 

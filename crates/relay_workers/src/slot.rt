@@ -4,14 +4,15 @@ ghost use Rattle.relay_workers.specs.Admissions.{IsRequestAt};
 ghost use Rattle.base_verdict.specs.declared.Verdict.TheVariants.{Serve};
 
 use dispatch_state::Ticketed;
-use grant_board::{BoardName, Pass, RelaySeat};
+use grant_board::{Pass, RelaySeat};
+use locked_book::DeskName;
 use req_view::View;
 use std::marker::PhantomData;
 
 /// A slot of a server, as it is lent to whoever connects to that server: the only pass of a seat of
 /// the board that N names, and the request of the pass.
 #[derive(Drop)]
-pub struct Slot<'a, N: BoardName> {
+pub struct Slot<'a, N: DeskName> {
     seat: &'a RelaySeat,
     pass: &'a Pass,
     view: &'a View,
@@ -22,10 +23,10 @@ pub struct Slot<'a, N: BoardName> {
     pub ghost held: { seat.now.view.passes ≡ pass.now ∷ [] },
     pub ghost its_own: { (pass.now.place ≡ at.place) × (pass.now.ticket ≡ at.ticket) },
     pub ghost serves: { pass.now.verdict ≡ Serve server },
-    pub ghost arrived: { IsRequestAt N.terms view.now at },
+    pub ghost arrived: { IsRequestAt N.terms N.setup view.now at },
 }
 
-impl<'a, N: BoardName> Slot<'a, N> {
+impl<'a, N: DeskName> Slot<'a, N> {
     /// Makes the slot of this server that a seat's pass gives to a request.
     pub fn new(
         seat: &'a RelaySeat,
@@ -38,7 +39,7 @@ impl<'a, N: BoardName> Slot<'a, N> {
         requires held { seat.now.view.passes ≡ pass.now ∷ [] }
         requires its_own { (pass.now.place ≡ at.place) × (pass.now.ticket ≡ at.ticket) }
         requires serves { pass.now.verdict ≡ Serve server }
-        requires arrived { IsRequestAt N.terms view.now at }
+        requires arrived { IsRequestAt N.terms N.setup view.now at }
         ensures pass { result.pass.now ≡ pass.now }
         ensures view { result.view.now ≡ view.now }
     {

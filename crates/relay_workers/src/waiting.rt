@@ -4,19 +4,20 @@ ghost use Rattle.shared_desk.specs.Seats.{IsSameSeat};
 use crate::admitting::Admitted;
 use crate::gate::{Gate, Pause};
 use crate::proxy::{Proxy, Worker};
-use grant_board::{BoardName, Pass, RelaySeat, Taking};
+use grant_board::{Pass, RelaySeat, Taking};
+use locked_book::DeskName;
 use std::io::{Read, Write};
 use std::sync::Wait;
 
 /// A client whose request has its pass. It has no `Drop`: the pass has to be posted.
-pub struct Granted<N: BoardName, C: Read + Write + Drop> {
+pub struct Granted<N: DeskName, C: Read + Write + Drop> {
     pub admitted: Admitted<N, C>,
     pub pass: Pass,
     pub ghost its_place: { pass.place ≡ admitted.at.place },
     pub ghost its_ticket: { pass.ticket ≡ admitted.at.ticket },
 }
 
-impl<N: BoardName, C: Read + Write + Drop> Granted<N, C> {
+impl<N: DeskName, C: Read + Write + Drop> Granted<N, C> {
     // Joins a client and the pass of its request's place and ticket.
     fn new(admitted: Admitted<N, C>, pass: Pass) -> Granted<N, C>
         requires { (pass.place ≡ admitted.at.place) × (pass.ticket ≡ admitted.at.ticket) }
@@ -31,7 +32,7 @@ impl<N: BoardName, C: Read + Write + Drop> Granted<N, C> {
 /// given up; where that is refused its pass is there, and is taken.
 ///
 /// `None` where all pauses were spent and no pass is there even then: the place stays occupied.
-pub fn wait<R: Wait, N: BoardName, G: Gate + Drop, P: Pause + Drop>(
+pub fn wait<R: Wait, N: DeskName, G: Gate + Drop, P: Pause + Drop>(
     rt: &R,
     proxy: &Proxy<N>,
     seat: &mut RelaySeat,
@@ -75,7 +76,7 @@ pub fn wait<R: Wait, N: BoardName, G: Gate + Drop, P: Pause + Drop>(
 }
 
 // Says whether a client that waits has left.
-fn is_gone<N: BoardName, G: Gate>(gate: &mut G, admitted: &mut Admitted<N, G::Client>) -> bool
+fn is_gone<N: DeskName, G: Gate>(gate: &mut G, admitted: &mut Admitted<N, G::Client>) -> bool
     ensures { (admitted.new.at ≡ admitted.old.at) × (admitted.new.view ≡ admitted.old.view) }
 {
     gate.gone(&mut admitted.client)

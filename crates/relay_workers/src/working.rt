@@ -11,13 +11,14 @@ use crate::stopping::{Stopped, TURNS};
 use crate::tally::Tally;
 use crate::waiting::wait;
 use board_seats::Idle;
-use grant_board::{BoardName, RelaySeat};
+use grant_board::RelaySeat;
+use locked_book::DeskName;
 use relay_http::Exchange;
 use std::sync::Wait;
 
 /// Serves one client after the other, until no more come. It allocates 84 KiB for an exchange,
 /// once, beside the memory of each request's head.
-pub fn worker<R: Wait, N: BoardName, G: Gate + Drop, P: Pause + Drop>(
+pub fn worker<R: Wait, N: DeskName, G: Gate + Drop, P: Pause + Drop>(
     rt: &R,
     proxy: &Proxy<N>,
     idle: &mut Idle<N>,
@@ -49,7 +50,7 @@ pub fn worker<R: Wait, N: BoardName, G: Gate + Drop, P: Pause + Drop>(
 }
 
 // Serves one client, from its request to the end of its answer. `None` where its pauses were spent.
-fn attend<R: Wait, N: BoardName, G: Gate + Drop, P: Pause + Drop>(
+fn attend<R: Wait, N: DeskName, G: Gate + Drop, P: Pause + Drop>(
     rt: &R,
     proxy: &Proxy<N>,
     seat: &mut RelaySeat,

@@ -16,23 +16,23 @@ use Rattle.req_view.specs.Request.{version_of}
 use Rattle.req_view.specs.Spans.{answer_at}
 use Rattle.req_view.proofs.Parts.{reads-whole, late, of_complete, beyond}
 
-found-fits : (bytes : List ℕ) (n : ℕ) (places : List HeaderSpan) (spans : ResponseSpans) (h : ResponseHead) → n ≤ 16384 → length places ≤ 64
-    → IsResponseWithin (take n bytes) places spans → IsResponseAt (take n bytes) places spans h
+found-fits : (bytes : List ℕ) (n : ℕ) (field_spans : List HeaderSpan) (spans : ResponseSpans) (h : ResponseHead) → n ≤ 16384 → length field_spans ≤ 64
+    → IsResponseWithin (take n bytes) field_spans spans → IsResponseAt (take n bytes) field_spans spans h
     → HasAnswer bytes h (drop spans.len (take n bytes) ++ drop n bytes)
-found-fits bytes n places spans h small few within is = record {
+found-fits bytes n field_spans spans h small few within is = record {
   reads = reads-whole IsResponseHead print_response bytes n h (drop spans.len (take n bytes)) is.reads;
   few_bytes = omega (arith, is.len, within.section.len_fits, length-take n bytes);
   few_fields = omega (
     arith,
-    sym (length-map (take spans.headers places) (header_bytes (take n bytes))) ∙ ap length is.fields ∙ length-map h.fields name_and_value,
-    length-take spans.headers places,
+    sym (length-map (take spans.headers field_spans) (header_bytes (take n bytes))) ∙ ap length is.fields ∙ length-map h.fields name_and_value,
+    length-take spans.headers field_spans,
   );
 }
 
 -- the spans say what the head says
-answer_at-of : (bytes : List ℕ) (places : List HeaderSpan) (spans : ResponseSpans) (h : ResponseHead)
-    → IsResponseAt bytes places spans h → answer_at bytes places spans ≡ answer_of h
-answer_at-of bytes places spans h is = λ i. record {
+answer_at-of : (bytes : List ℕ) (field_spans : List HeaderSpan) (spans : ResponseSpans) (h : ResponseHead)
+    → IsResponseAt bytes field_spans spans h → answer_at bytes field_spans spans ≡ answer_of h
+answer_at-of bytes field_spans spans h is = λ i. record {
   status = is.code i;
   reason = is.reason i;
   version = version_of (is.version i);
@@ -40,16 +40,16 @@ answer_at-of bytes places spans h is = λ i. record {
 }
 
 -- what the parser says of a head in the first n bytes
-pub found-says : (bytes : List ℕ) (n : ℕ) (places : List HeaderSpan) (s : Status ResponseSpans) (spans : ResponseSpans) (a : Answer)
-    → n ≤ 16384 → length places ≤ 64 → s ≡ Complete spans
-    → IfComplete {E = Error} (Ok s) (IsResponseWithin (take n bytes) places) → IfComplete {E = Error} (Ok s) (IsResponseOf (take n bytes) places)
-    → a ≡ answer_at (take n bytes) places spans → SaysAnswer bytes a spans.len
-found-says bytes n places s spans a small few is within complete says =
-    let found : IsResponseOf (take n bytes) places spans = of_complete s spans _ is complete in record {
+pub found-says : (bytes : List ℕ) (n : ℕ) (field_spans : List HeaderSpan) (s : Status ResponseSpans) (spans : ResponseSpans) (a : Answer)
+    → n ≤ 16384 → length field_spans ≤ 64 → s ≡ Complete spans
+    → IfComplete {E = Error} (Ok s) (IsResponseWithin (take n bytes) field_spans) → IfComplete {E = Error} (Ok s) (IsResponseOf (take n bytes) field_spans)
+    → a ≡ answer_at (take n bytes) field_spans spans → SaysAnswer bytes a spans.len
+found-says bytes n field_spans s spans a small few is within complete says =
+    let found : IsResponseOf (take n bytes) field_spans spans = of_complete s spans _ is complete in record {
       head = found.0;
       rest = drop spans.len (take n bytes) ++ drop n bytes;
-      stands = found-fits bytes n places spans found.0 small few (of_complete s spans _ is within) found.1;
-      answer = says ∙ answer_at-of (take n bytes) places spans found.0 found.1;
+      stands = found-fits bytes n field_spans spans found.0 small few (of_complete s spans _ is within) found.1;
+      answer = says ∙ answer_at-of (take n bytes) field_spans spans found.0 found.1;
       len = found.1.len;
     }
 

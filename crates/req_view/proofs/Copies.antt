@@ -18,12 +18,12 @@ range-take n i j bytes ordered within =
 pub span_bytes-take : (n : ℕ) (bytes : List ℕ) (s : Span) → IsWithin n s → span_bytes (take n bytes) s ≡ span_bytes bytes s
 span_bytes-take n bytes s within = range-take n s.start s.end bytes within.0 within.1
 
-pub header_bytes-take : (n : ℕ) (bytes : List ℕ) (places : List HeaderSpan) → All (IsHeaderWithin n) places
-    → map (header_bytes (take n bytes)) places ≡ map (header_bytes bytes) places
+pub header_bytes-take : (n : ℕ) (bytes : List ℕ) (field_spans : List HeaderSpan) → All (IsHeaderWithin n) field_spans
+    → map (header_bytes (take n bytes)) field_spans ≡ map (header_bytes bytes) field_spans
 header_bytes-take n bytes [] within = refl
-header_bytes-take n bytes (place ∷ places) within =
-    let here = All-head (IsHeaderWithin n) place places within in
-    let name = span_bytes-take n bytes place.name here.0 in
-    let value = span_bytes-take n bytes place.value here.1 in
-    let rest = header_bytes-take n bytes places (All-tail (IsHeaderWithin n) place places within) in
+header_bytes-take n bytes (field_span ∷ field_spans) within =
+    let here = All-head (IsHeaderWithin n) field_span field_spans within in
+    let name = span_bytes-take n bytes field_span.name here.0 in
+    let value = span_bytes-take n bytes field_span.value here.1 in
+    let rest = header_bytes-take n bytes field_spans (All-tail (IsHeaderWithin n) field_span field_spans within) in
     λ i. (name i, value i) ∷ rest i

@@ -16,23 +16,23 @@ use Rattle.req_view.specs.Spans.{request_at}
 use Rattle.req_view.proofs.Parts.{reads-whole, late, of_complete, beyond}
 
 -- the head that was found fits
-found-fits : (bytes : List ℕ) (n : ℕ) (places : List HeaderSpan) (spans : RequestSpans) (h : RequestHead) → n ≤ 16384 → length places ≤ 64
-    → IsRequestWithin (take n bytes) places spans → IsRequestAt (take n bytes) places spans h
+found-fits : (bytes : List ℕ) (n : ℕ) (field_spans : List HeaderSpan) (spans : RequestSpans) (h : RequestHead) → n ≤ 16384 → length field_spans ≤ 64
+    → IsRequestWithin (take n bytes) field_spans spans → IsRequestAt (take n bytes) field_spans spans h
     → Fits bytes h (drop spans.len (take n bytes) ++ drop n bytes)
-found-fits bytes n places spans h small few within is = record {
+found-fits bytes n field_spans spans h small few within is = record {
   reads = reads-whole IsRequestHead print_request bytes n h (drop spans.len (take n bytes)) is.reads;
   few_bytes = omega (arith, is.len, within.section.len_fits, length-take n bytes);
   few_fields = omega (
     arith,
-    sym (length-map (take spans.headers places) (header_bytes (take n bytes))) ∙ ap length is.fields ∙ length-map h.fields name_and_value,
-    length-take spans.headers places,
+    sym (length-map (take spans.headers field_spans) (header_bytes (take n bytes))) ∙ ap length is.fields ∙ length-map h.fields name_and_value,
+    length-take spans.headers field_spans,
   );
 }
 
 -- the spans say what the head says
-request_at-of : (bytes : List ℕ) (places : List HeaderSpan) (spans : RequestSpans) (h : RequestHead)
-    → IsRequestAt bytes places spans h → request_at bytes places spans ≡ request_of h
-request_at-of bytes places spans h is = λ i. record {
+request_at-of : (bytes : List ℕ) (field_spans : List HeaderSpan) (spans : RequestSpans) (h : RequestHead)
+    → IsRequestAt bytes field_spans spans h → request_at bytes field_spans spans ≡ request_of h
+request_at-of bytes field_spans spans h is = λ i. record {
   method = is.method i;
   target = is.path i;
   version = version_of (is.version i);
@@ -44,16 +44,16 @@ abbrev pub Stands : List ℕ → Request → ℕ → Type 0
 Stands bytes r len = (h : RequestHead) × (rest : List ℕ) × Fits bytes h rest × (r ≡ request_of h) × (len ≡ length (print_request h))
 
 -- what the parser says of a head in the first n bytes
-pub found-stands : (bytes : List ℕ) (n : ℕ) (places : List HeaderSpan) (s : Status RequestSpans) (spans : RequestSpans) (r : Request)
-    → n ≤ 16384 → length places ≤ 64 → s ≡ Complete spans
-    → IfComplete {E = Error} (Ok s) (IsRequestWithin (take n bytes) places) → IfComplete {E = Error} (Ok s) (IsRequestOf (take n bytes) places)
-    → r ≡ request_at (take n bytes) places spans → Stands bytes r spans.len
-found-stands bytes n places s spans r small few is within complete says =
-    let found : IsRequestOf (take n bytes) places spans = of_complete s spans _ is complete in (
+pub found-stands : (bytes : List ℕ) (n : ℕ) (field_spans : List HeaderSpan) (s : Status RequestSpans) (spans : RequestSpans) (r : Request)
+    → n ≤ 16384 → length field_spans ≤ 64 → s ≡ Complete spans
+    → IfComplete {E = Error} (Ok s) (IsRequestWithin (take n bytes) field_spans) → IfComplete {E = Error} (Ok s) (IsRequestOf (take n bytes) field_spans)
+    → r ≡ request_at (take n bytes) field_spans spans → Stands bytes r spans.len
+found-stands bytes n field_spans s spans r small few is within complete says =
+    let found : IsRequestOf (take n bytes) field_spans spans = of_complete s spans _ is complete in (
       found.0,
       _,
-      found-fits bytes n places spans found.0 small few (of_complete s spans _ is within) found.1,
-      says ∙ request_at-of (take n bytes) places spans found.0 found.1,
+      found-fits bytes n field_spans spans found.0 small few (of_complete s spans _ is within) found.1,
+      says ∙ request_at-of (take n bytes) field_spans spans found.0 found.1,
       found.1.len,
     )
 

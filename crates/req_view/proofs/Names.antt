@@ -16,15 +16,15 @@ same_tokens : (bytes : List ℕ) → IsGrammarToken bytes → IsToken bytes
 unfolding is_token_byte is_grammar_byte
 same_tokens bytes token = token
 
-name-length : (bytes : List ℕ) (place : HeaderSpan) (n : ℕ) → n ≤ 16384 → IsHeaderWithin n place → length (span_bytes bytes place.name) ≤ 65535
-name-length bytes place n small within =
-    omega (arith, within.0.0, within.0.1, length-take (place.name.end - place.name.start) (drop place.name.start bytes))
+name-length : (bytes : List ℕ) (field_span : HeaderSpan) (n : ℕ) → n ≤ 16384 → IsHeaderWithin n field_span → length (span_bytes bytes field_span.name) ≤ 65535
+name-length bytes field_span n small within =
+    omega (arith, within.0.0, within.0.1, length-take (field_span.name.end - field_span.name.start) (drop field_span.name.start bytes))
 
-pub field-names : (bytes : List ℕ) (n : ℕ) (places : List HeaderSpan) (fields : List Field) → n ≤ 16384
-    → map (header_bytes bytes) places ≡ map name_and_value fields → All IsField fields → All (IsHeaderWithin n) places → AreNames bytes places
-field-names bytes n places fields small same tokens within =
+pub field-names : (bytes : List ℕ) (n : ℕ) (field_spans : List HeaderSpan) (fields : List Field) → n ≤ 16384
+    → map (header_bytes bytes) field_spans ≡ map name_and_value fields → All IsField fields → All (IsHeaderWithin n) field_spans → AreNames bytes field_spans
+field-names bytes n field_spans fields small same tokens within =
     let IsNamed : NamedValue → Type 0 = λ f. IsToken f.0 in
     let named : All IsNamed (map name_and_value fields) =
     All-map IsNamed name_and_value fields (λ k d below. same_tokens _ (tokens k d below).name) in
-    let spans = All-from_map IsNamed (header_bytes bytes) places (subst (λ (fs : List NamedValue). All IsNamed fs) (sym same) named) in
-    λ k d below. (spans k d below, name-length bytes (get_or places k d) n small (within k d below))
+    let spans = All-from_map IsNamed (header_bytes bytes) field_spans (subst (λ (fs : List NamedValue). All IsNamed fs) (sym same) named) in
+    λ k d below. (spans k d below, name-length bytes (get_or field_spans k d) n small (within k d below))

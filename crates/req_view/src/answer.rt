@@ -38,15 +38,15 @@ impl AnswerHead {
     pub(crate) fn copied(
         alloc: Global,
         bytes: &[u8],
-        places: &[HeaderSpan],
+        field_spans: &[HeaderSpan],
         spans: ResponseSpans,
     ) -> Result<AnswerHead, AllocError>
-        requires within { IsResponseWithin bytes.now places.now spans }
-        requires names { AreNames bytes.now (take spans.headers places.now) }
+        requires within { IsResponseWithin bytes.now field_spans.now spans }
+        requires names { AreNames bytes.now (take spans.headers field_spans.now) }
         requires few { spans.headers ≤ 64 }
-        ensures { IfOk result (λ head. head ≡ answer_at bytes.now places.now spans) }
+        ensures { IfOk result (λ head. head ≡ answer_at bytes.now field_spans.now spans) }
     {
-        let section = Section::copied(alloc, bytes, places, spans.len, spans.headers)?;
+        let section = Section::copied(alloc, bytes, field_spans, spans.len, spans.headers)?;
         Ok(AnswerHead {
             section,
             status: spans.code,

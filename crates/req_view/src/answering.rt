@@ -16,9 +16,9 @@ pub fn answer_head(alloc: Global, bytes: &[u8]) -> Viewed<AnswerHead>
     ensures { TellsAnswer bytes.now result }
 {
     let front = &bytes[..bytes.len().min(HEAD_BYTES)];
-    let mut places = [EMPTY_HEADER_SPAN; HEAD_FIELDS];
-    match parse_response(front, &mut places) {
-        Ok(Status::Complete(spans)) => match AnswerHead::copied(alloc, front, &places, spans) {
+    let mut field_spans = [EMPTY_HEADER_SPAN; HEAD_FIELDS];
+    match parse_response(front, &mut field_spans) {
+        Ok(Status::Complete(spans)) => match AnswerHead::copied(alloc, front, &field_spans, spans) {
             Ok(head) => Viewed::Whole(head, spans.len),
             Err(_) => Viewed::Refused(HeadRefusal::NoMemory),
         },

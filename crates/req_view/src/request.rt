@@ -40,15 +40,15 @@ impl View {
     pub(crate) fn copied(
         alloc: Global,
         bytes: &[u8],
-        places: &[HeaderSpan],
+        field_spans: &[HeaderSpan],
         spans: RequestSpans,
     ) -> Result<View, AllocError>
-        requires within { IsRequestWithin bytes.now places.now spans }
-        requires names { AreNames bytes.now (take spans.headers places.now) }
+        requires within { IsRequestWithin bytes.now field_spans.now spans }
+        requires names { AreNames bytes.now (take spans.headers field_spans.now) }
         requires few { spans.headers ≤ 64 }
-        ensures { IfOk result (λ view. view ≡ request_at bytes.now places.now spans) }
+        ensures { IfOk result (λ view. view ≡ request_at bytes.now field_spans.now spans) }
     {
-        let section = Section::copied(alloc, bytes, places, spans.len, spans.headers)?;
+        let section = Section::copied(alloc, bytes, field_spans, spans.len, spans.headers)?;
         Ok(View {
             section,
             method: spans.method,

@@ -25,7 +25,7 @@ pub struct Field<'a> {
 #[derive(Drop)]
 pub struct Section {
     text: Vec<u8>,
-    places: Vec<HeaderSpan>,
+    field_spans: Vec<HeaderSpan>,
     by_name: HeaderMap<Span>,
 }
 
@@ -36,9 +36,9 @@ impl Model for Section {
 
     ghost Value = { Copied };
 
-    ghost view = { λ s. record { text = s.text.items; fields = map (header_bytes s.text.items) s.places.items } };
+    ghost view = { λ s. record { text = s.text.items; fields = map (header_bytes s.text.items) s.field_spans.items } };
 
-    ghost invariant = { λ s. All (IsHeaderWithin (length s.text.items)) s.places.items × (s.by_name ≡ index_of s.text.items s.places.items) };
+    ghost invariant = { λ s. All (IsHeaderWithin (length s.text.items)) s.field_spans.items × (s.by_name ≡ index_of s.text.items s.field_spans.items) };
 }
 
 impl Section {
@@ -46,21 +46,21 @@ impl Section {
     pub(crate) fn copied(
         alloc: Global,
         bytes: &[u8],
-        places: &[HeaderSpan],
+        field_spans: &[HeaderSpan],
         len: usize,
         count: usize,
     ) -> Result<Section, AllocError>
-        requires within { IsSectionWithin bytes.now places.now len count }
-        requires names { AreNames bytes.now (take count places.now) }
+        requires within { IsSectionWithin bytes.now field_spans.now len count }
+        requires names { AreNames bytes.now (take count field_spans.now) }
         requires few { count ≤ 64 }
-        ensures { IfOk result (λ section. section ≡ record { text = take len bytes.now; fields = map (header_bytes bytes.now) (take count places.now) }) }
+        ensures { IfOk result (λ section. section ≡ record { text = take len bytes.now; fields = map (header_bytes bytes.now) (take count field_spans.now) }) }
     {
         let text = Vec::from_slice(alloc, &bytes[..len])?;
-        let places = Vec::from_slice(alloc, &places[..count])?;
-        let by_name = index::by_name(alloc, &text, &places)?;
+        let field_spans = Vec::from_slice(alloc, &field_spans[..count])?;
+        let by_name = index::by_name(alloc, &text, &field_spans)?;
         Ok(Section {
             text,
-            places,
+            field_spans,
             by_name,
         })
     }
@@ -77,14 +77,14 @@ impl Section {
     pub fn count(&self) -> usize
         ensures { result ≡ length self.now.fields }
     {
-        self.places.len()
+        self.field_spans.len()
     }
 
     /// Returns the field at a position, counted from 0. `O(1)`.
     pub fn field(&self, position: usize) -> Option<Field<'_>>
         ensures { MatchOption result (slice_get self.now.fields position ≡ None) (λ field. slice_get self.now.fields position ≡ Some (field.name.now, field.value.now)) }
     {
-        let span = self.places.get(position)?;
+        let span = self.field_spans.get(position)?;
         Some(Field {
             name: span.name.of(&self.text),
             value: span.value.of(&self.text),

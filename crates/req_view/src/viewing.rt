@@ -33,9 +33,9 @@ pub fn view(alloc: Global, bytes: &[u8]) -> Viewed<View>
     ensures { Tells bytes.now result }
 {
     let front = &bytes[..bytes.len().min(HEAD_BYTES)];
-    let mut places = [EMPTY_HEADER_SPAN; HEAD_FIELDS];
-    match parse_request(front, &mut places) {
-        Ok(Status::Complete(spans)) => match View::copied(alloc, front, &places, spans) {
+    let mut field_spans = [EMPTY_HEADER_SPAN; HEAD_FIELDS];
+    match parse_request(front, &mut field_spans) {
+        Ok(Status::Complete(spans)) => match View::copied(alloc, front, &field_spans, spans) {
             Ok(view) if view.is_welcome() => Viewed::Whole(view, spans.len),
             Ok(_) => Viewed::Refused(HeadRefusal::HeadFault),
             Err(_) => Viewed::Refused(HeadRefusal::NoMemory),

@@ -3,13 +3,13 @@ use Rattle.std.specs.Prelude.{ℕ, List, Option, Some, None, codes, if◌then◌
 use Rattle.std.specs.Str.{bytes_eq}
 use Rattle.run_admin.specs.declared.page.Status.{Status}
 use Rattle.run_admin.specs.declared.page.Status.TheVariants.{Good, Unavailable}
-use Rattle.run_admin.specs.declared.answering.Health.{Health}
-use Rattle.run_admin.specs.declared.answering.Health.TheVariants.{Serves, Unserved, Stops}
-use Rattle.run_admin.specs.declared.paths.Wanted.{Wanted}
-use Rattle.run_admin.specs.declared.paths.Wanted.TheVariants.{Metrics, State, Health as ItsHealth, Page}
+use Rattle.run_admin.specs.declared.answering.Readiness.{Readiness}
+use Rattle.run_admin.specs.declared.answering.Readiness.TheVariants.{Serves, Unserved, Stops}
+use Rattle.run_admin.specs.declared.paths.AdminWanted.{AdminWanted}
+use Rattle.run_admin.specs.declared.paths.AdminWanted.TheVariants.{Metrics, State, Health as ItsHealth, Page}
 
 -- the page that a path names
-abbrev pub wanted_at : List ℕ → Option Wanted
+abbrev pub wanted_at : List ℕ → Option AdminWanted
 wanted_at path =
     if bytes_eq path (codes "/metrics") then Some Metrics
     else if bytes_eq path (codes "/state.json") then Some State
@@ -18,12 +18,12 @@ wanted_at path =
     else None
 
 -- the status that a load balancer before the proxy is told
-abbrev pub status_of : Health → Status
+abbrev pub status_of : Readiness → Status
 status_of Serves = Good
 status_of Unserved = Unavailable
 status_of Stops = Unavailable
 
-abbrev pub health_text : Health → List ℕ
+abbrev pub health_text : Readiness → List ℕ
 health_text Serves = codes "ok\n"
 health_text Unserved = codes "no server\n"
 health_text Stops = codes "stopping\n"

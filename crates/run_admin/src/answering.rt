@@ -1,9 +1,9 @@
 ghost use Rattle.std.specs.Prelude.{◌≡◌};
 ghost use Rattle.run_admin.specs.Paths.{health_text, status_of};
 
-use crate::page::{Answers, Page, Status};
+use crate::page::{AdminPage, Answers, Status};
 use crate::pages::PAGE;
-use crate::paths::{Wanted, wanted_at};
+use crate::paths::{AdminWanted, wanted_at};
 use crate::question::Question;
 use std::alloc::{AllocError, Global};
 
@@ -15,7 +15,7 @@ const PLAIN: &str = "text/plain; charset=utf-8";
 
 /// The health of a proxy.
 #[derive(Clone, Copy, Debug, PartialEq, Eq)]
-pub enum Health {
+pub enum Readiness {
     /// Some server is up and takes requests.
     Serves,
     /// No server is up and takes requests.
@@ -24,14 +24,14 @@ pub enum Health {
     Stops,
 }
 
-impl Health {
+impl Readiness {
     /// Returns the status that a load balancer before the proxy is told.
     pub fn status(self) -> Status
         ensures { result ≡ status_of self }
     {
         match self {
-            Health::Serves => Status::Good,
-            Health::Unserved | Health::Stops => Status::Unavailable,
+            Readiness::Serves => Status::Good,
+            Readiness::Unserved | Readiness::Stops => Status::Unavailable,
         }
     }
 
@@ -40,19 +40,19 @@ impl Health {
         ensures { result.now ≡ health_text self }
     {
         match self {
-            Health::Serves => "ok\n",
-            Health::Unserved => "no server\n",
-            Health::Stops => "stopping\n",
+            Readiness::Serves => "ok\n",
+            Readiness::Unserved => "no server\n",
+            Readiness::Stops => "stopping\n",
         }
     }
 }
 
 /// The source of a proxy's numbers.
-pub trait Told {
+pub trait NumberSource {
     /// Milliseconds since the proxy began.
     fn now(&self) -> u64;
 
-    fn health(&self) -> Health;
+    fn health(&self) -> Readiness;
 
     /// Returns the numbers in Prometheus's text format.
     fn metrics(&self) -> Result<String, AllocError>;
@@ -70,14 +70,14 @@ struct Kept {
 
 /// The answers of an admin address.
 #[derive(Drop)]
-pub struct Pages<T: Told + Drop> {
+pub struct Pages<T: NumberSource + Drop> {
     alloc: Global,
     told: T,
     metrics: Option<Kept>,
     state: Option<Kept>,
 }
 
-impl<T: Told + Drop> Pages<T> {
+impl<T: NumberSource + Drop> Pages<T> {
     /// Makes the answers from this source of numbers.
     pub fn new(alloc: Global, told: T) -> Pages<T> {
         Pages {
@@ -114,9 +114,9 @@ impl<T: Told + Drop> Pages<T> {
         Ok(answer)
     }
 
-    fn health(&self) -> Result<Page, AllocError> {
+    fn health(&self) -> Result<AdminPage, AllocError> {
         let health = self.told.health();
-        Ok(Page {
+        Ok(AdminPage {
             status: health.status(),
             kind: PLAIN,
             body: String::from_str(self.alloc, health.text())?,
@@ -124,19 +124,22 @@ impl<T: Told + Drop> Pages<T> {
     }
 }
 
-impl<T: Told + Drop> Answers for Pages<T> {
-    fn answer(&mut self, question: &Question) -> Result<Page, AllocError> {
+impl<T: NumberSource + Drop> Answers for Pages<T> {
+    fn answer(&mut self, question: &Question) -> Result<AdminPage, AllocError> {
         let (kind, body) = match wanted_at(question.path) {
-            Some(Wanted::Metrics) => ("text/plain; version=0.0.4; charset=utf-8", self.metrics()?),
-            Some(Wanted::State) => ("application/json", self.state()?),
-            Some(Wanted::Health) => return self.health(),
-            Some(Wanted::Page) => (
+            Some(AdminWanted::Metrics) => (
+                "text/plain; version=0.0.4; charset=utf-8",
+                self.metrics()?,
+            ),
+            Some(AdminWanted::State) => ("application/json", self.state()?),
+            Some(AdminWanted::Health) => return self.health(),
+            Some(AdminWanted::Page) => (
                 "text/html; charset=utf-8",
                 String::from_str(self.alloc, PAGE)?,
             ),
             None => return self.nothing(),
         };
-        Ok(Page {
+        Ok(AdminPage {
             status: Status::Good,
             kind,
             body,
@@ -144,11 +147,11 @@ impl<T: Told + Drop> Answers for Pages<T> {
     }
 }
 
-impl<T: Told + Drop> Pages<T> {
+impl<T: NumberSource + Drop> Pages<T> {
     // The answer to a path that names no page.
-    fn nothing(&self) -> Result<Page, AllocError> {
+    fn nothing(&self) -> Result<AdminPage, AllocError> {
         let text = "there are /, /metrics, /state.json and /health\n";
-        Ok(Page {
+        Ok(AdminPage {
             status: Status::NotFound,
             kind: PLAIN,
             body: String::from_str(self.alloc, text)?,

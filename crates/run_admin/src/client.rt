@@ -1,6 +1,6 @@
 //! A client's connection: its head, its answer, and its end.
 
-use crate::page::{Answers, Page, Status, push_answer};
+use crate::page::{AdminPage, Answers, Status, push_answer};
 use crate::question::{Asked, MOST_HEAD, Method, Question, asked_of};
 use std::alloc::{AllocError, Global};
 use std::io::{ErrorKind, Read, Write};
@@ -24,7 +24,7 @@ pub(crate) const CALM: Patience = Patience {
     all: 5000,
 };
 
-/// While other clients may wait for its place.
+/// While other clients may wait for its room.
 pub(crate) const CROWDED: Patience = Patience {
     head: 200,
     all: 1000,
@@ -156,7 +156,7 @@ impl Client {
 
     fn refuse(&mut self, status: Status) -> Result<(), AllocError> {
         let number = status.number();
-        let page = Page {
+        let page = AdminPage {
             status,
             kind: "text/plain; charset=utf-8",
             body: format!(in self.alloc; "{number}\n")?,
@@ -164,7 +164,7 @@ impl Client {
         self.write_page(&page, true)
     }
 
-    fn write_page(&mut self, page: &Page, has_body: bool) -> Result<(), AllocError> {
+    fn write_page(&mut self, page: &AdminPage, has_body: bool) -> Result<(), AllocError> {
         self.outbox.clear();
         self.sent = 0;
         self.stage = Stage::Writes;

@@ -16,8 +16,8 @@ mod question;
 mod reception;
 
 pub use admin::Admin;
-pub use answering::{Health, Pages, Told};
-pub use page::{Answers, Page, Status, push_answer};
-pub use paths::{Wanted, wanted_at};
+pub use answering::{NumberSource, Pages, Readiness};
+pub use page::{AdminPage, Answers, Status, push_answer};
+pub use paths::{AdminWanted, wanted_at};
 pub use question::{Asked, MOST_HEAD, Method, Question, asked_of};
 pub use reception::attend;

@@ -18,7 +18,7 @@ pub enum Status {
 
 /// The content of an answer.
 #[derive(Debug, Drop)]
-pub struct Page {
+pub struct AdminPage {
     pub status: Status,
     /// The media type of its body.
     pub kind: &'static str,
@@ -28,7 +28,7 @@ pub struct Page {
 /// The source of the answers.
 pub trait Answers {
     /// Answers a question. The listener's thread does nothing else until this returns.
-    fn answer(&mut self, question: &Question) -> Result<Page, AllocError>;
+    fn answer(&mut self, question: &Question) -> Result<AdminPage, AllocError>;
 }
 
 impl Status {
@@ -63,7 +63,7 @@ impl Status {
 }
 
 /// Writes a page as an HTTP answer, with its body or, for `HEAD`, without it.
-pub fn push_answer(text: &mut String, page: &Page, has_body: bool) -> Result<(), AllocError>
+pub fn push_answer(text: &mut String, page: &AdminPage, has_body: bool) -> Result<(), AllocError>
     ensures { OnOk result (string_bytes text.new ≡ string_bytes text.old ++ answer_text page.now.status page.now.kind.now (string_bytes page.now.body) has_body) }
 {
     push_head(text, page.status, page.kind, page.body.len())?;
@@ -82,7 +82,7 @@ fn fields() -> &'static str
 }
 
 #[tactic(auto, unfolding(crate::specs::Answers::body_text))]
-fn body_of(page: &Page, has_body: bool) -> &str
+fn body_of(page: &AdminPage, has_body: bool) -> &str
     ensures { result.now ≡ body_text (string_bytes page.now.body) has_body }
 {
     if has_body { page.body.as_str() } else { "" }

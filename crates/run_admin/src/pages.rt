@@ -92,7 +92,7 @@ const queueOf = (queue, moment) => {
   head.append(make("strong", "", name), make("span", "soft", queue.waiting === 1 ? "1 waits" : `${queue.waiting} wait`));
   node.append(head);
   if (queue.next.length) {
-    const lines = queue.next.map((waiter, place) => row("td", [String(place + 1), String(waiter.ticket), String(waiter.class), dueWord(waiter.due, moment)]));
+    const lines = queue.next.map((waiter, rank) => row("td", [String(rank + 1), String(waiter.ticket), String(waiter.class), dueWord(waiter.due, moment)]));
     const scroll = make("div", "scroll");
     scroll.append(table(["next", "ticket", "class", "due"], lines));
     node.append(scroll);

@@ -46,8 +46,8 @@ pub fn asked_of(bytes: &[u8]) -> Asked<'_>
     ensures says { Says bytes.now result }
     ensures found { (head : RequestHead) (rest : List ℕ) → ReadsRequest bytes.now head rest → length head.fields ≤ 64 → QuestionIsWhole result }
 {
-    let mut places = [EMPTY_HEADER_SPAN; MOST_FIELDS];
-    match parse_request(bytes, &mut places) {
+    let mut field_spans = [EMPTY_HEADER_SPAN; MOST_FIELDS];
+    match parse_request(bytes, &mut field_spans) {
         Ok(Status::Complete(head)) => { Asked::Whole(question_of(bytes, head.method, head.path)) }
         Ok(Status::Partial) => Asked::Part,
         Err(_) => Asked::Nothing,

@@ -140,7 +140,7 @@ impl<'a, R: Clock + Wait> Reception<'a, R> {
             };
             match client.work(answers, self.buffer.as_mut_slice(), (now, patience)) {
                 Fate::Closes => {
-                    // The place is free for a client that waits.
+                    // There is room for a client that waits.
                     self.more = true;
                     continue;
                 }

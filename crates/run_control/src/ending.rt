@@ -1,28 +1,28 @@
 //! The end of a proxy, from the command to its steps.
 
-use crate::helm::Helm;
+use crate::helm::CommandExecutor;
 use crate::steered::Steered;
 use crate::steering::Tended;
-use crate::stopping::{Due, Ending, GRACE, due_of, later};
+use crate::stopping::{GRACE, StopStage, StopStep, later, next_stop_step};
 
-impl<P: Steered + Drop> Helm<P> {
+impl<P: Steered + Drop> CommandExecutor<P> {
     /// Accepts no new clients, and ends once no client is there, or this number of milliseconds
     /// from now, or at the moment that was set before where that is earlier.
     pub(crate) fn stop(&mut self, within: Option<u64>) {
         let now = self.proxy.moment().get();
         self.proxy.stop();
-        if matches!(self.ending, Ending::Refuses { .. }) {
+        if matches!(self.ending, StopStage::Refuses { .. }) {
             return;
         }
         let before = match self.ending {
-            Ending::Stops { until, .. } => until,
-            Ending::Serves | Ending::Refuses { .. } => None,
+            StopStage::Stops { until, .. } => until,
+            StopStage::Serves | StopStage::Refuses { .. } => None,
         };
         let asked = match within {
             Some(millis) => Some(later(now, millis)),
             None => None,
         };
-        self.ending = Ending::Stops {
+        self.ending = StopStage::Stops {
             until: earlier(before, asked),
             was_empty: false,
         };
@@ -30,7 +30,7 @@ impl<P: Steered + Drop> Helm<P> {
 
     /// Says whether no new clients are accepted.
     pub(crate) fn is_stopping(&self) -> bool {
-        self.ending != Ending::Serves
+        self.ending != StopStage::Serves
     }
 
     /// Makes the next step of the end, where it is due.
@@ -39,13 +39,13 @@ impl<P: Steered + Drop> Helm<P> {
             return Tended::Over;
         }
         let now = self.proxy.moment().get();
-        match due_of(self.ending, self.proxy.is_empty(), now) {
-            Due::Nothing => return Tended::Rests,
-            Due::Look(ending) => self.ending = ending,
-            Due::End => self.proxy.close(),
-            Due::Refusals => {
+        match next_stop_step(self.ending, self.proxy.is_empty(), now) {
+            StopStep::Nothing => return Tended::Rests,
+            StopStep::Look(ending) => self.ending = ending,
+            StopStep::End => self.proxy.close(),
+            StopStep::Refusals => {
                 self.proxy.refuse();
-                self.ending = Ending::Refuses {
+                self.ending = StopStage::Refuses {
                     until: later(now, GRACE),
                 };
             }

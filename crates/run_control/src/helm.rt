@@ -1,26 +1,26 @@
 use crate::steered::Steered;
-use crate::stopping::Ending;
+use crate::stopping::StopStage;
 use crate::wishes::Wishes;
 use log_entries::{Intake, Refusal};
 use std::alloc::{AllocError, Global};
 
 /// The executor of a proxy's commands: the wishes for its servers, and the stage of its end.
 #[derive(Drop)]
-pub struct Helm<P: Steered + Drop> {
+pub struct CommandExecutor<P: Steered + Drop> {
     pub(crate) alloc: Global,
     pub(crate) proxy: P,
     pub(crate) wishes: Wishes,
-    pub(crate) ending: Ending,
+    pub(crate) ending: StopStage,
 }
 
-impl<P: Steered + Drop> Helm<P> {
+impl<P: Steered + Drop> CommandExecutor<P> {
     /// Makes the helm of a proxy whose servers have these limits.
-    pub fn new(alloc: Global, proxy: P, limits: &[u32]) -> Result<Helm<P>, AllocError> {
-        Ok(Helm {
+    pub fn new(alloc: Global, proxy: P, limits: &[u32]) -> Result<CommandExecutor<P>, AllocError> {
+        Ok(CommandExecutor {
             alloc,
             proxy,
             wishes: Wishes::new(alloc, limits)?,
-            ending: Ending::Serves,
+            ending: StopStage::Serves,
         })
     }
 

@@ -8,7 +8,7 @@ use std::alloc::{AllocError, Global};
 
 /// A server in JSON. `None` as the limit: it is closed.
 #[derive(Drop, Serialize)]
-struct Server<'a> {
+struct ServerObject<'a> {
     name: &'a str,
     up: bool,
     limit: Option<u32>,
@@ -22,7 +22,7 @@ struct State<'a> {
     waiting: usize,
     places: usize,
     clients: u64,
-    servers: Vec<Server<'a>>,
+    servers: Vec<ServerObject<'a>>,
 }
 
 /// Returns the state as one JSON value, on one line. A closed server has `null` as its limit.
@@ -44,8 +44,8 @@ pub fn json_of(alloc: Global, names: &Names, state: &ProxyState) -> Result<Strin
     }
 }
 
-fn server_of<'a>(name: &'a str, server: &ServerState) -> Server<'a> {
-    Server {
+fn server_of<'a>(name: &'a str, server: &ServerState) -> ServerObject<'a> {
+    ServerObject {
         name,
         up: server.up,
         limit: match server.intake {

@@ -5,7 +5,7 @@ ghost use Rattle.run_control.specs.NoCommands.{IsMisfit};
 ghost use Rattle.run_control.specs.declared.pieces.Misfit.{Misfit};
 
 use crate::command::{Command, Form, command_of};
-use crate::helm::Helm;
+use crate::helm::CommandExecutor;
 use crate::replies::{HELP, misfit_text, no_server, refusal_text};
 use crate::steered::Steered;
 use crate::steering::{Answer, Awaited, Steers, Tended};
@@ -13,7 +13,7 @@ use log_entries::{Intake, Refusal};
 use log_texts::Name;
 use std::alloc::AllocError;
 
-impl<P: Steered + Drop> Steers for Helm<P> {
+impl<P: Steered + Drop> Steers for CommandExecutor<P> {
     fn obey(&mut self, line: &[u8]) -> Result<Answer, AllocError> {
         self.told(line)
     }
@@ -41,7 +41,7 @@ impl<P: Steered + Drop> Steers for Helm<P> {
     }
 }
 
-impl<P: Steered + Drop> Helm<P> {
+impl<P: Steered + Drop> CommandExecutor<P> {
     /// Executes a line's command, and returns the answer. A line that isn't a command changes nothing.
     pub fn told(&mut self, line: &[u8]) -> Result<Answer, AllocError>
         ensures misfit { (misfit : Misfit) → IsMisfit line.now misfit → self.new ≡ self.old }

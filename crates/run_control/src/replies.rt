@@ -2,7 +2,7 @@
 
 use crate::command::Form;
 use crate::haproxy::{push_servers_state, push_stat};
-use crate::helm::Helm;
+use crate::helm::CommandExecutor;
 use crate::json::json_of;
 use crate::pieces::Misfit;
 use crate::state::{ProxyState, ServerState, push_state};
@@ -50,7 +50,7 @@ pub(crate) fn refusal_text(alloc: Global, refusal: Refusal) -> Result<String, Al
     format!(in alloc; "error: refused: {refusal}: try it again\n")
 }
 
-impl<P: Steered + Drop> Helm<P> {
+impl<P: Steered + Drop> CommandExecutor<P> {
     /// Returns how many requests a server takes from now on.
     pub(crate) fn taking_text(&self, server: usize) -> Result<String, AllocError> {
         let mut text = String::new(self.alloc);

@@ -1,14 +1,14 @@
 //! The end that was asked for.
 
 ghost use Rattle.std.specs.Prelude.{◌≡◌, ◌+◌, ◌^◌, ◌-◌, min};
-ghost use Rattle.run_control.specs.Endings.{due_of, has_come};
+ghost use Rattle.run_control.specs.Endings.{next_stop_step, has_come};
 
 /// The time for clients to read that they aren't served, in milliseconds.
 pub(crate) const GRACE: u64 = 500;
 
 /// The stage of the end, with its moments in milliseconds.
 #[derive(Clone, Copy, Debug, PartialEq, Eq)]
-pub(crate) enum Ending {
+pub(crate) enum StopStage {
     /// No end was asked for.
     Serves,
     /// No new clients are accepted. Those that are there are served, until a moment where there is
@@ -20,10 +20,10 @@ pub(crate) enum Ending {
 
 /// The next step of an end.
 #[derive(Clone, Copy, Debug, PartialEq, Eq)]
-pub(crate) enum Due {
+pub(crate) enum StopStep {
     Nothing,
     /// A look later on.
-    Look(Ending),
+    Look(StopStage),
     /// Waiting requests are refused.
     Refusals,
     /// The proxy ends.
@@ -32,36 +32,36 @@ pub(crate) enum Due {
 
 /// Returns the next step of an end at a moment. The proxy ends once no client was there at two
 /// looks in a row: a client that came just before the first look is counted by the second.
-pub(crate) fn due_of(ending: Ending, is_empty: bool, now: u64) -> Due
-    ensures { result ≡ due_of ending is_empty now }
+pub(crate) fn next_stop_step(ending: StopStage, is_empty: bool, now: u64) -> StopStep
+    ensures { result ≡ next_stop_step ending is_empty now }
 {
     match ending {
-        Ending::Serves => Due::Nothing,
-        Ending::Stops { until, was_empty } => due_of_stop(until, was_empty, is_empty, now),
-        Ending::Refuses { until } => due_of_refusals(until, is_empty, now),
+        StopStage::Serves => StopStep::Nothing,
+        StopStage::Stops { until, was_empty } => step_after_stop(until, was_empty, is_empty, now),
+        StopStage::Refuses { until } => step_after_refusals(until, is_empty, now),
     }
 }
 
-fn due_of_stop(until: Option<u64>, was_empty: bool, is_empty: bool, now: u64) -> Due
-    ensures { result ≡ due_of (Ending.Stops until was_empty) is_empty now }
+fn step_after_stop(until: Option<u64>, was_empty: bool, is_empty: bool, now: u64) -> StopStep
+    ensures { result ≡ next_stop_step (StopStage.Stops until was_empty) is_empty now }
 {
     if was_empty && is_empty {
-        return Due::End;
+        return StopStep::End;
     }
     if has_come(until, now) {
-        return Due::Refusals;
+        return StopStep::Refusals;
     }
     let was_empty = is_empty;
-    Due::Look(Ending::Stops { until, was_empty })
+    StopStep::Look(StopStage::Stops { until, was_empty })
 }
 
-fn due_of_refusals(until: u64, is_empty: bool, now: u64) -> Due
-    ensures { result ≡ due_of (Ending.Refuses until) is_empty now }
+fn step_after_refusals(until: u64, is_empty: bool, now: u64) -> StopStep
+    ensures { result ≡ next_stop_step (StopStage.Refuses until) is_empty now }
 {
     if is_empty || until <= now {
-        Due::End
+        StopStep::End
     } else {
-        Due::Look(Ending::Refuses { until })
+        StopStep::Look(StopStage::Refuses { until })
     }
 }
 

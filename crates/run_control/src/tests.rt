@@ -1,5 +1,5 @@
 use crate::steering::{Answer, Awaited, Steers, Tended};
-use crate::{Helm, Standing, Steered};
+use crate::{CommandExecutor, Standing, Steered};
 use due_key::Moment;
 use late_cert::Reports;
 use log_entries::{Intake, Refusal};
@@ -90,7 +90,7 @@ impl Steered for Noted {
     }
 }
 
-fn helm(alloc: Global) -> Result<Helm<Noted>, AllocError> {
+fn helm(alloc: Global) -> Result<CommandExecutor<Noted>, AllocError> {
     let mut list = Vec::new(alloc);
     list.push(String::from_str(alloc, "a")?)?;
     list.push(String::from_str(alloc, "b")?)?;
@@ -106,11 +106,15 @@ fn helm(alloc: Global) -> Result<Helm<Noted>, AllocError> {
         over: false,
         has_logs: false,
     };
-    Helm::new(alloc, noted, &[4, 0])
+    CommandExecutor::new(alloc, noted, &[4, 0])
 }
 
 // Returns what is answered at once.
-fn answer(helm: &mut Helm<Noted>, alloc: Global, line: &str) -> Result<String, AllocError> {
+fn answer(
+    helm: &mut CommandExecutor<Noted>,
+    alloc: Global,
+    line: &str,
+) -> Result<String, AllocError> {
     match helm.told(line.as_bytes())? {
         Answer::Now(text) | Answer::Then(text, _) => Ok(text),
         Answer::Later(_) => String::from_str(alloc, "later"),

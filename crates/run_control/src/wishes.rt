@@ -7,7 +7,7 @@ use std::marker::Model;
 
 /// The wish for a server: how many requests it is to take.
 #[derive(Clone, Copy, Debug, PartialEq, Eq)]
-pub struct Wish {
+pub struct IntakeWish {
     /// The configuration's limit; 0 is without limit.
     pub first: u32,
     /// The limit that was set last.
@@ -19,7 +19,7 @@ pub struct Wish {
 /// The wishes for the servers, in file order, and whether a pause keeps all of them closed.
 #[derive(Debug, Drop)]
 pub struct Wishes {
-    list: Vec<Wish>,
+    list: Vec<IntakeWish>,
     paused: bool,
 }
 
@@ -38,7 +38,7 @@ impl Wishes {
     {
         let mut list = Vec::new(alloc);
         for limit in limits {
-            list.push(Wish {
+            list.push(IntakeWish {
                 first: *limit,
                 limit: *limit,
                 drained: false,
@@ -77,7 +77,7 @@ impl Wishes {
 
     /// Sets how many requests a server is to take, as soon as no pause closes it.
     pub fn limit(&mut self, server: usize, intake: Intake)
-        ensures wish { (wish : Wish) → slice_get self.old.list server ≡ Some wish → self.new.list ≡ slice_set self.old.list server (with_intake intake wish) }
+        ensures wish { (wish : IntakeWish) → slice_get self.old.list server ≡ Some wish → self.new.list ≡ slice_set self.old.list server (with_intake intake wish) }
         ensures none { slice_get self.old.list server ≡ None → self.new.list ≡ self.old.list }
         ensures paused { self.new.paused ≡ self.old.paused }
     {
@@ -88,7 +88,7 @@ impl Wishes {
 
     /// Sets a server back to the configuration's limit, as soon as no pause closes it.
     pub fn ready(&mut self, server: usize)
-        ensures wish { (wish : Wish) → slice_get self.old.list server ≡ Some wish → self.new.list ≡ slice_set self.old.list server (as_at_first wish) }
+        ensures wish { (wish : IntakeWish) → slice_get self.old.list server ≡ Some wish → self.new.list ≡ slice_set self.old.list server (as_at_first wish) }
         ensures none { slice_get self.old.list server ≡ None → self.new.list ≡ self.old.list }
         ensures paused { self.new.paused ≡ self.old.paused }
     {
@@ -112,15 +112,15 @@ impl Wishes {
     }
 }
 
-fn with_intake(intake: Intake, wish: Wish) -> Wish
+fn with_intake(intake: Intake, wish: IntakeWish) -> IntakeWish
     ensures { result ≡ with_intake intake wish }
 {
     match intake {
-        Intake::Closed => Wish {
+        Intake::Closed => IntakeWish {
             drained: true,
             ..wish
         },
-        Intake::Open(limit) => Wish {
+        Intake::Open(limit) => IntakeWish {
             limit,
             drained: false,
             ..wish
@@ -128,10 +128,10 @@ fn with_intake(intake: Intake, wish: Wish) -> Wish
     }
 }
 
-fn as_at_first(wish: Wish) -> Wish
+fn as_at_first(wish: IntakeWish) -> IntakeWish
     ensures { result ≡ as_at_first wish }
 {
-    Wish {
+    IntakeWish {
         limit: wish.first,
         drained: false,
         ..wish

@@ -8,9 +8,9 @@ use crate::leaving::has_left;
 use crate::probing::Probe;
 use crate::waits::{duration, left, patience, turnaround};
 use base_places::{MOST_PLACES, PlaceSet};
-use dispatch_reports::Window;
+use dispatch_reports::EndedWindow;
 use due_key::Moment;
-use grant_board::BoardName;
+use locked_book::DeskName;
 use log_requests::CheckFailure;
 use relay_workers::{Gate, Slot};
 use std::alloc::{AllocError, Global};
@@ -164,7 +164,7 @@ impl<'a, R: Net<Listener = TcpListener, Stream = TcpStream> + Clock + Wait> Gate
         self.front.next(self.rt)
     }
 
-    fn connect<N: BoardName>(&mut self, slot: &Slot<'_, N>) -> Option<TcpStream> {
+    fn connect<N: DeskName>(&mut self, slot: &Slot<'_, N>) -> Option<TcpStream> {
         let number = slot.server();
         self.hold_back(slot.ticket(), number);
         let config = self.front.config;
@@ -205,7 +205,7 @@ impl<'a, R: Net<Listener = TcpListener, Stream = TcpStream> + Clock + Wait> Gate
         self.now()
     }
 
-    fn window(&mut self, window: Window) {
+    fn window(&mut self, window: EndedWindow) {
         let ended = self.now();
         self.front.windows.hand_over(self.rt, window, ended);
     }

@@ -5,7 +5,7 @@ use Rattle.std.specs.Prelude.{ℕ, ◌<◌, ◌≤◌, Option, IfSome}
 abbrev pub IsOneTo : Option ℕ → ℕ → Type 0
 IsOneTo given most = IfSome given (λ number. (0 < number) × (number ≤ most))
 
--- runners, loops, requests beyond the places, places and clients
+-- workers, loops, requests beyond the places, places and clients
 pub record LimitsAreWithin (workers loops waiting : Option ℕ) (places requests : ℕ) : Type 0 where
   pub workers_within : IsOneTo workers 256
   pub loops_within : IsOneTo loops 64

@@ -4,10 +4,10 @@ ghost use Rattle.run_parts.specs.Sizes.{IsOneTo, LimitsAreWithin};
 /// The most loops.
 pub const MOST_LOOPS: u32 = 64;
 
-/// The most runners.
+/// The most workers.
 pub const MOST_WORKERS: u32 = 256;
 
-/// The most requests that may wait beyond the places before no client is accepted.
+/// The most requests that may wait outside before no client is accepted.
 pub const MOST_WAITING: u32 = 65_536;
 
 /// The sizes that the command line gives.
@@ -29,12 +29,12 @@ pub struct LoopSizes {
     pub places: usize,
     /// The most requests that are at servers at a time.
     pub slots: usize,
-    /// While this number of requests wait for a place, no client is accepted.
+    /// While this number of requests wait outside, no client is accepted.
     pub waiting: u64,
 }
 
 impl RunLimits {
-    /// Checks the sizes: runners, 1 to 256, loops, 1 to 64, and requests that wait beyond the
+    /// Checks the sizes: workers, 1 to 256, loops, 1 to 64, and requests that wait beyond the
     /// places, 1 to 65,536, where they are given; live requests, 1 to 4,096; and the number of
     /// clients after which it ends, at most 999,999,999, where 0 is never. `None` where one of them
     /// is out of its range.

@@ -9,13 +9,13 @@ use dispatch_core::Core;
 use grant_board::{Board, KeeperSeat, RelaySeat};
 use late_cert::Running;
 use proxy_config::Config;
-use shared_desk::Queues;
+use shared_desk::DeskQueue;
 use std::alloc::{AllocError, Global};
 use std::sync::ledger::Blank;
 
 /// The parts of a desk, and the seat of its relays.
 pub struct Parts {
-    pub core: Core<Queues>,
+    pub core: Core<DeskQueue>,
     pub running: Running,
     pub board: Board,
     pub keeper: KeeperSeat,

@@ -21,7 +21,7 @@ use std::time::{Clock, Instant};
 
 /// The parts beside serving; no loop waits for them.
 #[derive(Drop)]
-pub struct Beside {
+pub struct ServiceParts {
     pub windows: WindowPrinter,
     pub addresses: Addresses,
     pub controls: Option<Controls>,
@@ -36,12 +36,12 @@ pub struct Beside {
 }
 
 /// Makes them for a configuration, with this number of loops and places.
-pub fn beside_of<R: Clock + AllocGlobal>(
+pub fn service_parts_of<R: Clock + AllocGlobal>(
     rt: &R,
     config: &Config,
     options: RunOptions,
     threads: LoopSizes,
-) -> Result<Beside, ServeFault> {
+) -> Result<ServiceParts, ServeFault> {
     let alloc = rt.alloc();
     let Ok(start) = Instant::now(rt) else {
         return Err(ServeFault::Read);
@@ -71,7 +71,7 @@ pub fn beside_of<R: Clock + AllocGlobal>(
         start,
         base,
     };
-    Ok(Beside {
+    Ok(ServiceParts {
         windows,
         addresses: Addresses::new(alloc, config)?,
         controls,
@@ -112,7 +112,7 @@ pub fn front_of<'a>(
     config: &'a Config,
     listener: TcpListener,
     requests: u64,
-    beside: &'a Beside,
+    beside: &'a ServiceParts,
 ) -> GateShared<'a>
     ensures { result.config.now ≡ config.now }
 {

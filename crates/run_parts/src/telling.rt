@@ -1,7 +1,7 @@
 //! What is printed at the end.
 
 use crate::fault::ServeFault;
-use grant_board::BoardName;
+use locked_book::DeskName;
 use log_sink::Sink;
 use relay_workers::Proxy;
 use run_windows::{WindowPrinter, end_text, lines_of};
@@ -9,7 +9,7 @@ use std::sync::ledger::Ledger;
 use std::sync::{Arc, Wait};
 
 /// Prints the servers' lines, summed over all windows, and the reports of the last one.
-pub fn tell_all<R: Print + Wait, N: BoardName + Ledger>(
+pub fn tell_all<R: Print + Wait, N: DeskName + Ledger>(
     rt: &R,
     proxy: &Proxy<N>,
     windows: WindowPrinter,

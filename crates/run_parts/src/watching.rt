@@ -5,7 +5,7 @@ use crate::writing::Writing;
 use due_key::Moment;
 use log_lines::{push_metrics, state_of};
 use log_requests::RequestLog;
-use run_admin::{Admin, Health, Pages, Told, attend};
+use run_admin::{Admin, NumberSource, Pages, Readiness, attend};
 use run_gate::GateShared;
 use std::alloc::AllocError;
 use std::sync::Wait;
@@ -20,18 +20,18 @@ struct Looking<'a, R> {
     log: &'a RequestLog,
 }
 
-impl<'a, R: Clock + Wait> Told for Looking<'a, R> {
+impl<'a, R: Clock + Wait> NumberSource for Looking<'a, R> {
     fn now(&self) -> u64 {
         let passed = self.front.start.elapsed(self.rt);
         let passed = passed.unwrap_or(Duration::from_millis(0));
         u64::try_from(passed.as_millis()).unwrap_or(u64::MAX)
     }
 
-    fn health(&self) -> Health {
+    fn health(&self) -> Readiness {
         match self.log.numbers(self.rt) {
-            Some(numbers) if numbers.is_stopping() => Health::Stops,
-            Some(numbers) if numbers.is_served() => Health::Serves,
-            _ => Health::Unserved,
+            Some(numbers) if numbers.is_stopping() => Readiness::Stops,
+            Some(numbers) if numbers.is_served() => Readiness::Serves,
+            _ => Readiness::Unserved,
         }
     }
 

@@ -1,7 +1,7 @@
 //! The thread that writes the logs.
 
 use crate::lending::Lends;
-use grant_board::BoardName;
+use locked_book::DeskName;
 use log_requests::RequestLog;
 use run_gate::GateShared;
 use std::sync::Wait;
@@ -30,7 +30,7 @@ pub fn start_writing<
     's,
     E,
     R: Clock + Threads + Wait + Sync,
-    N: BoardName + Ledger + Send + Sync + 's,
+    N: DeskName + Ledger + Send + Sync + 's,
     S: Lends<N> + Sync + 's,
 >(scope: &Scope<'s, E>, rt: &'s R, shared: &'s S, front: &'s GateShared<'_>) -> Writing {
     let Some(log) = front.log else {
@@ -39,7 +39,7 @@ pub fn start_writing<
     let Some(scribe) = log.take_scribe(rt) else {
         return Writing::Nothing;
     };
-    let site = log_requests::Site {
+    let site = log_requests::LogSubject {
         names: front.windows.names(),
         address: front.listener.local_addr().ok(),
     };

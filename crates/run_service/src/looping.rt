@@ -4,7 +4,8 @@ ghost use Rattle.std.specs.Prelude.{◌≡◌, ◌≤◌, ◌+◌, ◌^◌, true
 ghost use Rattle.run_service.specs.Returns.{ReturnsSeats};
 
 use crate::parts::parts_of;
-use grant_board::{BoardName, RelaySeat};
+use grant_board::RelaySeat;
+use locked_book::DeskName;
 use loop_events::{Shared, Site, join_all, run_all, split_off};
 use run_parts::LoopSizes;
 use std::alloc::AllocError;
@@ -37,7 +38,7 @@ pub enum LoopsFault {
 pub fn serve<
     'a,
     R: Net<Listener = TcpListener, Stream = TcpStream> + Clock + Print + Threads + Wait + Sync,
-    N: BoardName + Ledger + Send + Sync,
+    N: DeskName + Ledger + Send + Sync,
 >(
     rt: &R,
     site: &'a Site<'a, N>,

@@ -2,10 +2,10 @@
 
 ghost use Rattle.std.specs.Prelude.{◌≡◌, vec_len, IfOk};
 
-use grant_board::BoardName;
+use locked_book::DeskName;
 use loop_events::{
-    GateShared, Outside, Proxy, ServerConnections, SharedParts, Unbegun, UnusedCounts, empty_spots,
-    loops_of, most_connections, polls_of,
+    GateShared, Outside, Proxy, ServerConnections, SharedParts, UnstartedLoop, UnusedCounts,
+    empty_cells, loops_of, most_connections, polls_of,
 };
 use run_parts::LoopSizes;
 use std::alloc::AllocError;
@@ -14,13 +14,13 @@ use std::sync::ledger::Ledger;
 
 /// Makes the state that the threads of a proxy share, and its loops, with its listener in each
 /// loop's poll. Fails where memory is refused, or the system refuses a poll.
-pub(crate) fn parts_of<R: Net<Listener = TcpListener, Stream = TcpStream>, N: BoardName + Ledger>(
+pub(crate) fn parts_of<R: Net<Listener = TcpListener, Stream = TcpStream>, N: DeskName + Ledger>(
     rt: &R,
     proxy: &Proxy<N>,
     front: &GateShared<'_>,
     sizes: LoopSizes,
-) -> Result<(SharedParts, Vec<Unbegun>), AllocError>
-    ensures { IfOk result (λ made. vec_len made.0.spots ≡ sizes.places) }
+) -> Result<(SharedParts, Vec<UnstartedLoop>), AllocError>
+    ensures { IfOk result (λ made. vec_len made.0.cells ≡ sizes.places) }
 {
     let alloc = proxy.alloc;
     let (polls, mail) = polls_of(rt, alloc, front, sizes.loops)?;
@@ -36,14 +36,14 @@ pub(crate) fn parts_of<R: Net<Listener = TcpListener, Stream = TcpStream>, N: Bo
     );
     let unused = UnusedCounts::none(alloc, servers, most.unused)?;
     let outside = Outside::new(alloc, most.clients, proxy.config.queue_timeout)?;
-    match empty_spots(alloc, sizes.places) {
+    match empty_cells(alloc, sizes.places) {
         Err(refused) => {
             outside.end();
             Err(refused)
         }
-        Ok(spots) => {
+        Ok(cells) => {
             let parts = SharedParts {
-                spots,
+                cells,
                 mail,
                 most,
                 outside,

@@ -9,13 +9,13 @@ ghost use Rattle.run_parts.specs.Parts.{AreNew};
 
 use crate::looping::SeatSource;
 use crate::serving::{proxy_of, serve_clients};
-use grant_board::BoardName;
 use late_cert::Reports;
+use locked_book::DeskName;
 use loop_events::Proxy;
 use proxy_config::Config;
 use run_parts::{
-    Crew, GateShared, Lends, Logs, LoopSizes, Parts, Record, RunLimits, RunOptions, ServeFault,
-    Site, beside_of, crew_of, front_of, parts_of,
+    Crew, GateShared, Lends, LogCopy, Logs, LoopSizes, Parts, RunLimits, RunOptions, ServeFault,
+    Site, crew_of, front_of, parts_of, service_parts_of,
 };
 use std::marker::Brand;
 use std::net::{Net, TcpListener, TcpStream};
@@ -32,11 +32,11 @@ const PAUSE: u64 = 5;
 #[derive(Clone, Copy)]
 struct Watched<'a> {
     crew: Crew,
-    record: &'a Record,
+    copy: &'a LogCopy,
 }
 
 /// Serves as a configuration says at an open listener. Meanwhile the entries of the log's first
-/// window are copied to a record, and the reports of the last window are returned, where
+/// window are copied, and the reports of the last window are returned, where
 /// `listen_and_serve` prints them.
 pub fn serve_recorded<
     R: Net<Listener = TcpListener, Stream = TcpStream>
@@ -55,12 +55,12 @@ pub fn serve_recorded<
     config: Config,
     listener: TcpListener,
     sizes: RunLimits,
-    record: &Record,
+    copy: &LogCopy,
 ) -> Result<Reports, ServeFault>
     requires config { IsSoundConfig config }
 {
-    let served = serve_all(rt, config, listener, sizes, record);
-    record.end();
+    let served = serve_all(rt, config, listener, sizes, copy);
+    copy.end();
     served
 }
 
@@ -81,18 +81,18 @@ fn serve_all<
     config: Config,
     listener: TcpListener,
     sizes: RunLimits,
-    record: &Record,
+    copy: &LogCopy,
 ) -> Result<Reports, ServeFault>
     requires config { IsSoundConfig config }
 {
     let crew = crew_of(rt, &config, sizes);
     let parts = parts_of(rt.alloc(), &config, crew.threads.places)?;
-    serve_on::<Brand, _>(rt, config, parts, listener, Watched { crew, record })
+    serve_on::<Brand, _>(rt, config, parts, listener, Watched { crew, copy })
 }
 
 // The same at a desk that is made of these parts.
 fn serve_on<
-    N: BoardName + Ledger + Send + Sync,
+    N: DeskName + Ledger + Send + Sync,
     R: Net<Listener = TcpListener, Stream = TcpStream>
         + Clock
         + Print
@@ -115,7 +115,7 @@ fn serve_on<
     requires ledger { (parts.ledger.name ≡ N.name) × (parts.ledger.parts ≡ N.parts) }
     requires room { 2 ^ 64 ≤ parts.ledger.parts + 1 }
     requires sound { IsSoundConfig config }
-    requires parts { (setup : Setup) × AreNew setup parts × SetupIsAsked config setup × (N.terms ≡ terms_for setup) × (setup.places ≡ watched.crew.threads.places) }
+    requires parts { (setup : Setup) × AreNew setup parts × SetupIsAsked config setup × (N.terms ≡ terms_for setup) × (N.setup ≡ setup) × (setup.places ≡ watched.crew.threads.places) }
 {
     let alloc = rt.alloc();
     let (proxy, source) = proxy_of::<N>(alloc, config, parts);
@@ -133,7 +133,7 @@ fn serve_on<
         admin: None,
     };
     let threads = watched.crew.threads;
-    let beside = beside_of(rt, &proxy.config, options, threads)?;
+    let beside = service_parts_of(rt, &proxy.config, options, threads)?;
     let requests = watched.crew.requests;
     let front = front_of(alloc, &proxy.config, listener, requests, &beside);
     let site = Site {
@@ -146,7 +146,7 @@ fn serve_on<
 
 // Serves until no more clients come. The last entries are copied when all threads have ended.
 fn serve_watched<
-    N: BoardName + Ledger + Send + Sync,
+    N: DeskName + Ledger + Send + Sync,
     R: Net<Listener = TcpListener, Stream = TcpStream>
         + Clock
         + Print
@@ -172,7 +172,7 @@ fn serve_watched<
     requires room { 2 ^ 64 ≤ source.ledger.parts + 1 }
     requires places { watched.crew.threads.places ≡ N.terms.places }
 {
-    let Watched { crew, record } = watched;
+    let Watched { crew, copy } = watched;
     thread::scope(
         thread::scope_env(),
         rt,
@@ -184,18 +184,18 @@ fn serve_watched<
             requires room { 2 ^ 64 ≤ source.ledger.parts + 1 }
             requires places { crew.threads.places ≡ N.terms.places }
         {
-            if !start_copying(scope, rt, shared, record) {
+            if !start_copying(scope, rt, shared, copy) {
                 return Err(ServeFault::NoMemory);
             }
             let served = serve_lent(rt, shared, front, source, crew.threads);
-            record.close();
+            copy.close();
             served
         },
     )
 }
 
 fn serve_lent<
-    N: BoardName + Ledger + Send + Sync,
+    N: DeskName + Ledger + Send + Sync,
     R: Net<Listener = TcpListener, Stream = TcpStream>
         + Clock
         + Print
@@ -229,22 +229,20 @@ fn start_copying<
     's,
     E,
     R: Clock + Threads + Wait + Sync,
-    N: BoardName + Ledger + Send + Sync + 's,
+    N: DeskName + Ledger + Send + Sync + 's,
     S: Lends<N> + Sync + 's,
->(scope: &Scope<'s, E>, rt: &'s R, shared: &'s S, record: &'s Record) -> bool {
-    let started = scope
-        .spawn(move || copy_all(rt, shared.proxy(), record))
-        .ok();
+>(scope: &Scope<'s, E>, rt: &'s R, shared: &'s S, copy: &'s LogCopy) -> bool {
+    let started = scope.spawn(move || copy_all(rt, shared.proxy(), copy)).ok();
     started.is_some()
 }
 
 // Copies the log as it grows, until nothing more is decided.
-fn copy_all<N: BoardName + Ledger, R: Clock + Wait>(rt: &R, proxy: &Proxy<N>, record: &Record) {
+fn copy_all<N: DeskName + Ledger, R: Clock + Wait>(rt: &R, proxy: &Proxy<N>, copy: &LogCopy) {
     let mut copied = 0;
     for _ in rt.forever() {
-        let is_last = record.is_closed();
+        let is_last = copy.is_closed();
         if let Ok(later) = proxy.desk.entries_after(rt, proxy.alloc, copied) {
-            copied = record.add(rt, later.as_slice()).saturating_add(copied);
+            copied = copy.add(rt, later.as_slice()).saturating_add(copied);
         }
         if is_last {
             return;

@@ -7,13 +7,14 @@ ghost use Rattle.run_parts.specs.Parts.{AreNew};
 
 use crate::ending::fault_of;
 use crate::looping::{LoopsFault, SeatSource, serve};
-use grant_board::{BoardName, RelaySeat};
+use grant_board::RelaySeat;
+use locked_book::DeskName;
 use loop_events::Proxy;
 use proxy_config::Config;
 use run_parts::{
-    Beside, Crew, Doors, GateShared, Lends, LoopSizes, Parts, RunLimits, RunOptions, ServeFault,
-    Site, announce, announce_admin, beside_of, close_logs, crew_of, end_watching, end_writing,
-    front_of, open, parts_of, start_watching, start_writing, tell_all,
+    Crew, Doors, GateShared, Lends, LoopSizes, Parts, RunLimits, RunOptions, ServeFault,
+    ServiceParts, Site, announce, announce_admin, close_logs, crew_of, end_watching, end_writing,
+    front_of, open, parts_of, service_parts_of, start_watching, start_writing, tell_all,
 };
 use std::alloc::Global;
 use std::marker::Brand;
@@ -69,7 +70,7 @@ pub fn serve_at<
 
 // The same at a desk that is made of these parts.
 fn serve_on<
-    N: BoardName + Ledger + Send + Sync,
+    N: DeskName + Ledger + Send + Sync,
     R: Net<Listener = TcpListener, Stream = TcpStream>
         + Clock
         + Print
@@ -86,12 +87,12 @@ fn serve_on<
     requires ledger { (parts.ledger.name ≡ N.name) × (parts.ledger.parts ≡ N.parts) }
     requires room { 2 ^ 64 ≤ parts.ledger.parts + 1 }
     requires sound { IsSoundConfig config }
-    requires parts { (setup : Setup) × AreNew setup parts × SetupIsAsked config setup × (N.terms ≡ terms_for setup) × (setup.places ≡ crew.threads.places) }
+    requires parts { (setup : Setup) × AreNew setup parts × SetupIsAsked config setup × (N.terms ≡ terms_for setup) × (N.setup ≡ setup) × (setup.places ≡ crew.threads.places) }
 {
     let alloc = rt.alloc();
     let (proxy, source) = proxy_of::<N>(alloc, config, parts);
     let Doors { listener, options } = doors;
-    let beside = beside_of(rt, &proxy.config, options, crew.threads)?;
+    let beside = service_parts_of(rt, &proxy.config, options, crew.threads)?;
     let front = front_of(alloc, &proxy.config, listener, crew.requests, &beside);
     announce_admin(rt, &front);
     let site = Site {
@@ -100,7 +101,7 @@ fn serve_on<
     };
     let ended = serve_clients(rt, &site, &front, source, crew.threads);
     drop(front);
-    let Beside { windows, log, .. } = beside;
+    let ServiceParts { windows, log, .. } = beside;
     let told = tell_all(rt, &proxy, windows);
     close_logs(rt, log.as_ref());
     told?;
@@ -109,14 +110,14 @@ fn serve_on<
 
 /// Makes a fresh proxy of these parts, which are what the configuration describes, and the source
 /// of its relays' seats.
-pub(crate) fn proxy_of<N: BoardName + Ledger>(
+pub(crate) fn proxy_of<N: DeskName + Ledger>(
     alloc: Global,
     config: Config,
     parts: Parts,
 ) -> (Proxy<N>, SeatSource)
     requires named { parts.board ≡ N.board }
     requires sound { IsSoundConfig config }
-    requires parts { (setup : Setup) × AreNew setup parts × SetupIsAsked config setup × (N.terms ≡ terms_for setup) }
+    requires parts { (setup : Setup) × AreNew setup parts × SetupIsAsked config setup × (N.terms ≡ terms_for setup) × (N.setup ≡ setup) }
     ensures named { (result.1.first.board ≡ N.board) × (result.1.first.view.terms ≡ N.terms) }
     ensures first { result.1.first.view.first ≡ true }
     ensures idle { result.1.first.view.passes ≡ [] }
@@ -141,7 +142,7 @@ pub(crate) fn proxy_of<N: BoardName + Ledger>(
 /// Serves until no more clients come. Threads beside the loops look names up and print windows; all
 /// windows that were handed over are printed at the end.
 pub(crate) fn serve_clients<
-    N: BoardName + Ledger + Send + Sync,
+    N: DeskName + Ledger + Send + Sync,
     R: Net<Listener = TcpListener, Stream = TcpStream>
         + Clock
         + Print
@@ -175,7 +176,7 @@ pub(crate) fn serve_clients<
 
 // The same, where a thread that looks names up runs already.
 fn serve_printing<
-    N: BoardName + Ledger + Send + Sync,
+    N: DeskName + Ledger + Send + Sync,
     R: Net<Listener = TcpListener, Stream = TcpStream>
         + Clock
         + Print
@@ -240,7 +241,7 @@ fn unserved(source: SeatSource) -> (RelaySeat, Result<(), LoopsFault>) {
 
 fn serve_lent<
     R: Net<Listener = TcpListener, Stream = TcpStream> + Clock + Print + Threads + Wait + Sync,
-    N: BoardName + Ledger + Send + Sync,
+    N: DeskName + Ledger + Send + Sync,
     S: Lends<N> + Sync,
 >(rt: &R, shared: &S, source: SeatSource, threads: LoopSizes) -> (RelaySeat, Result<(), LoopsFault>)
     requires named { (source.first.board ≡ N.board) × (source.first.view.terms ≡ N.terms) }

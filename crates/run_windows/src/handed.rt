@@ -7,7 +7,7 @@ ghost use Rattle.run_windows.specs.Sums.{plus, nothing_for, with_window};
 
 use crate::printed::{PrintFault, PrintedWindows};
 use crate::sums::Sums;
-use dispatch_reports::Window;
+use dispatch_reports::EndedWindow;
 use due_key::Moment;
 use late_cert::Reports;
 use std::alloc::{AllocError, Global};
@@ -61,7 +61,7 @@ impl Handed {
 
     /// Adds a window that ended at this moment: it is counted, and waits to be printed, after the
     /// others. Where 16 wait already, it is left out.
-    pub fn hand_over(&mut self, window: Window, ended: Moment)
+    pub fn hand_over(&mut self, window: EndedWindow, ended: Moment)
         ensures windows { self.new.told.windows ≡ plus self.old.told.windows 1 }
         ensures sums { self.new.told.sums ≡ with_window window.servers.items self.old.told.sums }
         ensures room { length self.old.waiting.items < 16
@@ -70,7 +70,7 @@ impl Handed {
         ensures ended { self.new.ended ≡ ended }
         ensures same { (self.new.told.fault ≡ self.old.told.fault) × (self.new.is_over ≡ self.old.is_over) }
     {
-        let Window { reports, servers } = window;
+        let EndedWindow { reports, servers } = window;
         self.told.count(servers.as_slice());
         if self.waiting.len() < MOST {
             let number = self.told.windows;

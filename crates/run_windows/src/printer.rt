@@ -4,7 +4,7 @@ ghost use Rattle.run_windows.specs.Texts.{window_text};
 use crate::handed::{Handed, Numbered};
 use crate::printed::{PrintFault, PrintedWindows};
 use crate::text::push_window;
-use dispatch_reports::Window;
+use dispatch_reports::EndedWindow;
 use due_key::Moment;
 use log_lines::Dates;
 use log_sink::Sink;
@@ -63,7 +63,7 @@ impl WindowPrinter {
 
     /// Takes a window that ended at this moment. It is counted now, and printed later; where too
     /// many wait to be printed, it is left out.
-    pub fn hand_over<R: Wait>(&self, rt: &R, window: Window, ended: Moment) {
+    pub fn hand_over<R: Wait>(&self, rt: &R, window: EndedWindow, ended: Moment) {
         self.handed.lock(rt).hand_over(window, ended);
         self.bell.notify_all();
     }

@@ -15,7 +15,7 @@ use Rattle.log_entries.specs.declared.row.Phase.TheVariants.{Waiting}
 use Rattle.log_entries.specs.declared.row.Row.{Row}
 use Rattle.log_entries.specs.Rows.{Rows, IsRow, StandsAt, phase_waits_in}
 use Rattle.slot_ledger.specs.declared.places.Cell.{Cell}
-use Rattle.slot_ledger.specs.Slots.{StandsIn, rows_in}
+use Rattle.slot_ledger.specs.Cells.{StandsIn, rows_in}
 use Rattle.slot_ledger.proofs.Standing.{put_stands}
 use Rattle.server_pick.specs.declared.heads.Heads.{Heads}
 use Rattle.server_pick.specs.Heads.{AreHeads, IsHead}
@@ -45,28 +45,28 @@ heads_of_one heads server rows p row since stands only phase none head = record 
 
 module _ {H : Type 0} where
   -- a row is that of the request at its place
-  stands_as : (slots : List (Option (Cell H))) (p : ℕ) (s : Cell H) → StandsIn slots p s → StandsAt (rows_in slots) p s.row
-  stands_as slots p s stands = slice_get-map (option_map (λ (it : Cell H). it.row)) slots p ∙ ap (option_map (option_map (λ (it : Cell H). it.row))) stands
+  stands_as : (cells : List (Option (Cell H))) (p : ℕ) (s : Cell H) → StandsIn cells p s → StandsAt (rows_in cells) p s.row
+  stands_as cells p s stands = slice_get-map (option_map (λ (it : Cell H). it.row)) cells p ∙ ap (option_map (option_map (λ (it : Cell H). it.row))) stands
 
-  row_at : (slots : List (Option (Cell H))) (p : ℕ) (row : Row) → StandsAt (rows_in slots) p row → (s : Cell H) × StandsIn slots p s × (s.row ≡ row)
-  row_at slots p row stands = by_cell (slice_get slots p) refl (sym (slice_get-map (option_map (λ (it : Cell H). it.row)) slots p) ∙ stands)
+  row_at : (cells : List (Option (Cell H))) (p : ℕ) (row : Row) → StandsAt (rows_in cells) p row → (s : Cell H) × StandsIn cells p s × (s.row ≡ row)
+  row_at cells p row stands = by_cell (slice_get cells p) refl (sym (slice_get-map (option_map (λ (it : Cell H). it.row)) cells p) ∙ stands)
     where
-      by_cell : (cell : Option (Option (Cell H))) → slice_get slots p ≡ cell → option_map (option_map (λ (it : Cell H). it.row)) cell ≡ Some (Some row)
-          → (s : Cell H) × StandsIn slots p s × (s.row ≡ row)
+      by_cell : (cell : Option (Option (Cell H))) → slice_get cells p ≡ cell → option_map (option_map (λ (it : Cell H). it.row)) cell ≡ Some (Some row)
+          → (s : Cell H) × StandsIn cells p s × (s.row ≡ row)
       by_cell None at e = let f : None ≡ Some (Some row) = e in cc
       by_cell (Some None) at e = let f : Some None ≡ Some (Some row) = e in cc
       by_cell (Some (Some s)) at e = (s, at, same_Some s.row row (same_Some (Some s.row) (Some row) e))
 
   -- the first request that is put at a place is the only one
-  pub one_stands : (empty now : List (Option (Cell H))) (n p : ℕ) (slot : Cell H) → empty ≡ replicate n None → slice_get empty p ≡ Some None
-      → now ≡ set empty p (Some slot)
-      → StandsAt (rows_in now) p slot.row × ((other : Row) → IsRow (rows_in now) other → slot.row ≡ other)
-  one_stands empty now n p slot none free put =
-      (stands_as now p slot (put_stands empty now p slot free put), λ other live. alone other live.0 (row_at now live.0 other live.1))
+  pub one_stands : (empty now : List (Option (Cell H))) (n p : ℕ) (cell : Cell H) → empty ≡ replicate n None → slice_get empty p ≡ Some None
+      → now ≡ set empty p (Some cell)
+      → StandsAt (rows_in now) p cell.row × ((other : Row) → IsRow (rows_in now) other → cell.row ≡ other)
+  one_stands empty now n p cell none free put =
+      (stands_as now p cell (put_stands empty now p cell free put), λ other live. alone other live.0 (row_at now live.0 other live.1))
     where
-      alone : (other : Row) (q : ℕ) → (s : Cell H) × StandsIn now q s × (s.row ≡ other) → slot.row ≡ other
+      alone : (other : Row) (q : ℕ) → (s : Cell H) × StandsIn now q s × (s.row ≡ other) → cell.row ≡ other
       alone other q it =
-          elim (get-set_cases empty p q None (Some slot) (Some it.0) free (subst (λ (l : List (Option (Cell H))). StandsIn l q it.0) put it.1)) [
-            | inl same ↦ ap (λ (s : Cell H). s.row) (same_Some slot it.0 same.1) ∙ it.2
+          elim (get-set_cases empty p q None (Some cell) (Some it.0) free (subst (λ (l : List (Option (Cell H))). StandsIn l q it.0) put it.1)) [
+            | inl same ↦ ap (λ (s : Cell H). s.row) (same_Some cell it.0 same.1) ∙ it.2
             | inr older ↦ absurd (none_in_empty n q it.0 (subst (λ (l : List (Option (Cell H))). StandsIn l q it.0) none older.1))
           ]

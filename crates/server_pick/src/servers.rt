@@ -57,11 +57,11 @@ pub(crate) fn has_room<H: Drop>(ledger: &Ledger<H>, server: usize) -> bool
     ensures room { result ≡ has_room (scene_in ledger.now) server }
     ensures few { length ledger.now.setup.servers ≤ 64 }
 {
-    has_places(ledger, server) && is_usable(ledger, server)
+    has_queue_room(ledger, server) && is_usable(ledger, server)
 }
 
 /// Says whether a server serves and queues fewer requests than balancing may give it.
-fn has_places<H: Drop>(ledger: &Ledger<H>, server: usize) -> bool
+fn has_queue_room<H: Drop>(ledger: &Ledger<H>, server: usize) -> bool
     ensures places { result ≡ of_server (scene_in ledger.now) server (λ it. holds_beside (limit_of (scene_in ledger.now) server) it.maxqueue (load (scene_in ledger.now) server)) }
     ensures few { length ledger.now.setup.servers ≤ 64 }
 {

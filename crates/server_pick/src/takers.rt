@@ -3,7 +3,7 @@ ghost use Rattle.log_entries.specs.Grants.{CanTake, IsSettled, IsNextTaker};
 ghost use Rattle.log_entries.specs.Picks.{weight_of};
 ghost use Rattle.log_entries.specs.States.{cursor_after_granting};
 ghost use Rattle.slot_ledger.specs.Ledgers.{scene_in};
-ghost use Rattle.slot_ledger.specs.Slots.{rows_in};
+ghost use Rattle.slot_ledger.specs.Cells.{rows_in};
 ghost use Rattle.server_pick.specs.Heads.{AreHeads, IsLawfulTake, has_stay, queue_of, goes_first};
 ghost use Rattle.server_pick.specs.Picked.{IsFirstWeightless};
 ghost use Rattle.server_pick.specs.Sets.{IsIn};
@@ -36,7 +36,7 @@ pub fn next_taker<H: Drop>(ledger: &Ledger<H>, cursor: &mut Cursor) -> Option<us
 /// Returns the queue whose head the next taker takes: its own, or the backend's where the server is
 /// usable and the key there is smaller. `O(1)`.
 pub fn next_queue<H: Drop>(ledger: &Ledger<H>, heads: &Heads, server: usize) -> Queue
-    requires heads { AreHeads heads.now server (rows_in ledger.now.slots) }
+    requires heads { AreHeads heads.now server (rows_in ledger.now.cells) }
     ensures { (cursor : ℕ) → IsNextTaker (scene_in ledger.now) cursor server → IsLawfulTake (scene_in ledger.now) cursor heads.now server result }
 {
     queue_of(ledger, heads, server)

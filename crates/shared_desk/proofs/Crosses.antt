@@ -12,6 +12,7 @@ use Rattle.binom_queue.specs.contracts.single.Single as single
 use Rattle.binom_queue.proofs.forest.Forest.TheLaws.TheKnot as knot
 use Rattle.grant_board.specs.declared.board.BoardName as board_name
 use Rattle.locked_book.proofs.book.Book.TheSendSync as book
+use Rattle.locked_book.specs.declared.name.DeskName as desk_name
 use Rattle.due_key.proofs.key.Key.TheSendSync as key
 use Rattle.log_reading.proofs.tail.Tail.TheSendSync as tail
 use Rattle.grant_board.proofs.board.Board.TheSendSync as board
@@ -24,9 +25,9 @@ module _ (K V : RattleType) (k : IsSend K) (v : IsSend V) where
   pub single_send : IsSend (single.the_row K V)
   single_send = search (crosses, knot.crosses, sendable) depth 60 fits 20000
 
-pub desk_sync : (N : RattleType) (g : board_name.Ghosts N.Denot) → IsSync (desk.the_row N g)
-desk_sync N g =
-    recorded_sync (desk.the_field N g).row _ _ (desk.the_type N g).to_one (struct_sync (shape (desk.the_type N g)) (
+pub desk_sync : (N : RattleType) (d : desk_name.Ghosts N.Denot) (g : board_name.Ghosts N.Denot) → IsSync (desk.the_row N d g)
+desk_sync N d g =
+    recorded_sync (desk.the_field N d g).row _ _ (desk.the_type N d g).to_one (struct_sync (shape (desk.the_type N d g)) (
       search (queue_send, single_send, key.the_send, book.the_send, mutex.the_sync, crosses, sendable) depth 60 fits 20000,
       (
         search (board.the_sync, crosses, sendable) depth 60 fits 20000,

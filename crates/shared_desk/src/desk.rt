@@ -24,30 +24,31 @@ ghost use Rattle.locked_book.specs.Turns.{Turns, VisitsSome};
 use base_places::PlaceSet;
 use binom_queue::BinomQueue;
 use dispatch_core::Core;
-use dispatch_reports::{ServerLine, Window};
+use dispatch_reports::{EndedWindow, ServerLine};
 use dispatch_state::Ticketed;
 use due_key::{Class, Key, Moment};
-use grant_board::{Board, BoardName, Closing, KeeperSeat, RelaySeat, Return};
+use grant_board::{Board, Closing, KeeperSeat, RelaySeat, Return};
 use late_cert::{Reports, Running};
-use locked_book::{Book, Deferred, Wanted};
+use locked_book::{Book, Deferred, DeskName, Wanted};
 use log_entries::{Entry, Intake, Queue, Refusal};
 use log_reading::{Batch, Tail};
 use std::alloc::{AllocError, Global};
 use std::sync::{Mutex, MutexGuard, Wait};
 
 /// The queues of a desk's dispatcher.
-pub type Queues = BinomQueue<Key, usize>;
+pub type DeskQueue = BinomQueue<Key, usize>;
 
-/// A dispatcher that threads share: its book behind a lock, and the board that N names, which no lock guards.
+/// A dispatcher that threads share: its book behind a lock, of the setup that N names, and the board
+/// that N names, which no lock guards.
 ///
 /// Each call waits for the lock and makes the book's call of the same name. No clause can say what
 /// the lock held before and after the call; the clauses say that the reply is the book's for some
-/// state that the lock may have held. The places where a call offered verdicts are added to the
-/// caller's set while the lock is held, so that the caller can wake whoever waits there once the
-/// lock is free.
+/// state of that setup that the lock may have held. The places where a call offered verdicts are
+/// added to the caller's set while the lock is held, so that the caller can wake whoever waits
+/// there once the lock is free.
 #[derive(Drop)]
-pub struct Desk<N: BoardName> {
-    book: Mutex<Book<Queues, N>>,
+pub struct Desk<N: DeskName> {
+    book: Mutex<Book<DeskQueue, N>>,
     board: Board,
     /// The part of the log that waits to be read, where a reader follows it. A thread that takes
     /// both locks takes this one first.
@@ -55,14 +56,15 @@ pub struct Desk<N: BoardName> {
     ghost named: { board ≡ N.board },
 }
 
-impl<N: BoardName> Desk<N> {
-    /// Makes a desk of a fresh dispatcher and a fresh keeper's seat, where the board was opened for
-    /// the dispatcher's places and limits, and of an empty running worst for the dispatcher's
-    /// servers.
-    pub fn new(core: Core<Queues>, board: Board, seat: KeeperSeat, running: Running) -> Desk<N>
+impl<N: DeskName> Desk<N> {
+    /// Makes a desk of a fresh dispatcher of the setup that N names and a fresh keeper's seat,
+    /// where the board was opened for the dispatcher's places and limits, and of an empty running
+    /// worst for the dispatcher's servers.
+    pub fn new(core: Core<DeskQueue>, board: Board, seat: KeeperSeat, running: Running) -> Desk<N>
         requires first { core ≡ first_window core.setup [] }
         requires board { (board ≡ N.board) × (seat.board ≡ N.board) }
         requires terms { N.terms ≡ terms_for core.setup }
+        requires setup { N.setup ≡ core.setup }
         requires seat { seat.view ≡ new_keeper N.terms }
         requires running { IsNew running (length core.setup.servers) }
     {
@@ -89,9 +91,9 @@ impl<N: BoardName> Desk<N> {
         wanted: Wanted,
         woken: &mut PlaceSet,
     ) -> Result<Ticketed, Refusal>
-        ensures ok { IfOk result (λ it. SomeStep N.terms (λ old new. AddsEvent old.history new.history (Arrive (effective old.history moment) (record { ticket = it.ticket; class = wanted.class; due = pos (effective old.history moment) +ℤ wanted.offset; pin = wanted.pin; place = it.place })) × CarriesOut old new woken.old woken.new)) }
+        ensures ok { IfOk result (λ it. SomeStep N.terms N.setup (λ old new. AddsEvent old.history new.history (Arrive (effective old.history moment) (record { ticket = it.ticket; class = wanted.class; due = pos (effective old.history moment) +ℤ wanted.offset; pin = wanted.pin; place = it.place })) × CarriesOut old new woken.old woken.new)) }
         ensures place { IfOk result (λ it. it.place < N.terms.places) }
-        ensures err { IfErr result (λ refusal. SomeHeld N.terms (λ held. RefusedOrNoMemory (refuses_arrival held.history wanted.pin) refusal)) }
+        ensures err { IfErr result (λ refusal. SomeHeld N.terms N.setup (λ held. RefusedOrNoMemory (refuses_arrival held.history wanted.pin) refusal)) }
         ensures unchanged { OnErr result (woken.new ≡ woken.old) }
     {
         self.enter(rt)
@@ -108,9 +110,9 @@ impl<N: BoardName> Desk<N> {
         deferred: Deferred,
         woken: &mut PlaceSet,
     ) -> Result<Ticketed, Refusal>
-        ensures ok { IfOk result (λ it. SomeStep N.terms (λ old new. AddsEvent old.history new.history (Arrive (effective old.history moment) (record { ticket = it.ticket; class = deferred.class; due = due_at deferred.due (effective old.history moment); pin = deferred.pin; place = it.place })) × CarriesOut old new woken.old woken.new)) }
+        ensures ok { IfOk result (λ it. SomeStep N.terms N.setup (λ old new. AddsEvent old.history new.history (Arrive (effective old.history moment) (record { ticket = it.ticket; class = deferred.class; due = due_at deferred.due (effective old.history moment); pin = deferred.pin; place = it.place })) × CarriesOut old new woken.old woken.new)) }
         ensures place { IfOk result (λ it. it.place < N.terms.places) }
-        ensures err { IfErr result (λ refusal. SomeHeld N.terms (λ held. RefusedOrNoMemory (refuses_arrival held.history deferred.pin) refusal)) }
+        ensures err { IfErr result (λ refusal. SomeHeld N.terms N.setup (λ held. RefusedOrNoMemory (refuses_arrival held.history deferred.pin) refusal)) }
         ensures unchanged { OnErr result (woken.new ≡ woken.old) }
     {
         self.enter(rt)
@@ -125,8 +127,8 @@ impl<N: BoardName> Desk<N> {
         ticket: u64,
         woken: &mut PlaceSet,
     ) -> Result<(), Refusal>
-        ensures ok { OnOk result (SomeStep N.terms (λ old new. AddsEvent old.history new.history (Abort (effective old.history moment) ticket) × CarriesOut old new woken.old woken.new)) }
-        ensures err { IfErr result (λ refusal. SomeHeld N.terms (λ held. refuses_abort held.history ticket ≡ Some refusal)) }
+        ensures ok { OnOk result (SomeStep N.terms N.setup (λ old new. AddsEvent old.history new.history (Abort (effective old.history moment) ticket) × CarriesOut old new woken.old woken.new)) }
+        ensures err { IfErr result (λ refusal. SomeHeld N.terms N.setup (λ held. refuses_abort held.history ticket ≡ Some refusal)) }
         ensures unchanged { OnErr result (woken.new ≡ woken.old) }
     {
         self.enter(rt).abort(&self.board, moment, ticket, woken)
@@ -134,8 +136,8 @@ impl<N: BoardName> Desk<N> {
 
     /// Each request that has waited as long as it may is told so. Refused as the dispatcher's `tick` is.
     pub fn tick<R: Wait>(&self, rt: &R, moment: Moment, woken: &mut PlaceSet) -> Result<(), Refusal>
-        ensures ok { OnOk result (SomeStep N.terms (λ old new. AddsEvent old.history new.history (Tick (effective old.history moment)) × CarriesOut old new woken.old woken.new)) }
-        ensures err { IfErr result (λ refusal. SomeHeld N.terms (λ held. refuses_tick held.history ≡ Some refusal)) }
+        ensures ok { OnOk result (SomeStep N.terms N.setup (λ old new. AddsEvent old.history new.history (Tick (effective old.history moment)) × CarriesOut old new woken.old woken.new)) }
+        ensures err { IfErr result (λ refusal. SomeHeld N.terms N.setup (λ held. refuses_tick held.history ≡ Some refusal)) }
         ensures unchanged { OnErr result (woken.new ≡ woken.old) }
     {
         self.enter(rt).tick(&self.board, moment, woken)
@@ -150,8 +152,8 @@ impl<N: BoardName> Desk<N> {
         ok: bool,
         woken: &mut PlaceSet,
     ) -> Result<(), Refusal>
-        ensures ok { OnOk result (SomeStep N.terms (λ old new. AddsEvent old.history new.history (Check (effective old.history moment) server ok) × CarriesOut old new woken.old woken.new)) }
-        ensures err { IfErr result (λ refusal. SomeHeld N.terms (λ held. refuses_check held.history server ≡ Some refusal)) }
+        ensures ok { OnOk result (SomeStep N.terms N.setup (λ old new. AddsEvent old.history new.history (Check (effective old.history moment) server ok) × CarriesOut old new woken.old woken.new)) }
+        ensures err { IfErr result (λ refusal. SomeHeld N.terms N.setup (λ held. refuses_check held.history server ≡ Some refusal)) }
         ensures unchanged { OnErr result (woken.new ≡ woken.old) }
     {
         self.enter(rt).check(&self.board, moment, server, ok, woken)
@@ -167,8 +169,8 @@ impl<N: BoardName> Desk<N> {
         limit: Intake,
         woken: &mut PlaceSet,
     ) -> Result<(), Refusal>
-        ensures ok { OnOk result (SomeStep N.terms (λ old new. AddsEvent old.history new.history (Limit (effective old.history moment) server limit) × SetsBound old new server (mark_by (record { limit = limit; served = served server (state_of old.history).rows })) woken.old woken.new)) }
-        ensures err { IfErr result (λ refusal. SomeHeld N.terms (λ held. refuses_limit held.history server ≡ Some refusal)) }
+        ensures ok { OnOk result (SomeStep N.terms N.setup (λ old new. AddsEvent old.history new.history (Limit (effective old.history moment) server limit) × SetsBound old new server (mark_by (record { limit = limit; served = served server (state_of old.history).rows })) woken.old woken.new)) }
+        ensures err { IfErr result (λ refusal. SomeHeld N.terms N.setup (λ held. refuses_limit held.history server ≡ Some refusal)) }
         ensures unchanged { OnErr result (woken.new ≡ woken.old) }
     {
         self.enter(rt)
@@ -185,9 +187,9 @@ impl<N: BoardName> Desk<N> {
         woken: &mut PlaceSet,
     ) -> Result<Option<Return>, Refusal>
         requires in_range { place < N.terms.places }
-        ensures some { IfOk result (λ found. IfSome found (λ back. SomeStep N.terms (λ old new. TakesBack old new place (effective old.history moment) back woken.old woken.new))) }
-        ensures none { IfOk result (λ found. IfNone found (SomeStep N.terms (λ old new. FindsUnposted old.view new.view place) × (woken.new ≡ woken.old))) }
-        ensures err { IfErr result (λ refusal. (refusal ≡ LogFull) × SomeHeld N.terms (λ held. refuses_tick held.history ≡ Some LogFull)) }
+        ensures some { IfOk result (λ found. IfSome found (λ back. SomeStep N.terms N.setup (λ old new. TakesBack old new place (effective old.history moment) back woken.old woken.new))) }
+        ensures none { IfOk result (λ found. IfNone found (SomeStep N.terms N.setup (λ old new. FindsUnposted old.view new.view place) × (woken.new ≡ woken.old))) }
+        ensures err { IfErr result (λ refusal. (refusal ≡ LogFull) × SomeHeld N.terms N.setup (λ held. refuses_tick held.history ≡ Some LogFull)) }
         ensures unchanged { OnErr result (woken.new ≡ woken.old) }
     {
         self.enter(rt).collect_at(&self.board, moment, place, woken)
@@ -198,9 +200,9 @@ impl<N: BoardName> Desk<N> {
     /// place is out: the returns that were collected before are kept, and their places are in the
     /// set. `O(1)` for each place that is out, beside the events.
     pub fn turn<R: Wait>(&self, rt: &R, moment: Moment, woken: &mut PlaceSet) -> Result<(), Refusal>
-        ensures ok { OnOk result (SomeStep N.terms (λ old new. Turns moment old woken.old new woken.new)) }
-        ensures err { IfErr result (λ refusal. (refusal ≡ LogFull) × SomeHeld N.terms (λ held. refuses_tick held.history ≡ Some LogFull)) }
-        ensures stopped { OnErr result (SomeStep N.terms (λ old new. VisitsSome moment old woken.old new woken.new)) }
+        ensures ok { OnOk result (SomeStep N.terms N.setup (λ old new. Turns moment old woken.old new woken.new)) }
+        ensures err { IfErr result (λ refusal. (refusal ≡ LogFull) × SomeHeld N.terms N.setup (λ held. refuses_tick held.history ≡ Some LogFull)) }
+        ensures stopped { OnErr result (SomeStep N.terms N.setup (λ old new. VisitsSome moment old woken.old new woken.new)) }
     {
         let mut book = self.enter(rt);
         let turned = book.turn(&self.board, moment, woken);
@@ -211,8 +213,8 @@ impl<N: BoardName> Desk<N> {
 
     /// Begins the next window of the log, and returns what is told of the one that ended. Where
     /// memory is refused nothing changes.
-    pub fn roll<R: Wait>(&self, rt: &R, alloc: Global) -> Result<Window, AllocError>
-        ensures { IfOk result (λ window. SomeStep N.terms (λ old new. IsCertified old.history window.reports × AreLines old.history window.servers.items × (new ≡ record old { history = next_window old.history }))) }
+    pub fn roll<R: Wait>(&self, rt: &R, alloc: Global) -> Result<EndedWindow, AllocError>
+        ensures { IfOk result (λ window. SomeStep N.terms N.setup (λ old new. IsCertified old.history window.reports × AreLines old.history window.servers.items × (new ≡ record old { history = next_window old.history }))) }
     {
         let mut tail = self.tail.lock(rt);
         let mut book = self.enter(rt);
@@ -221,7 +223,7 @@ impl<N: BoardName> Desk<N> {
         let servers = book.servers(alloc)?;
         book.roll();
         turn(&mut tail);
-        Ok(Window { reports, servers })
+        Ok(EndedWindow { reports, servers })
     }
 
     /// Keeps new entries of the log for `read_new` from now on, at most this number at a time.
@@ -252,14 +254,14 @@ impl<N: BoardName> Desk<N> {
 
     /// Returns the reports of the present window. Fails only where memory is refused.
     pub fn report<R: Wait>(&self, rt: &R, alloc: Global) -> Result<Reports, AllocError>
-        ensures { IfOk result (λ reports. SomeHeld N.terms (λ held. IsCertified held.history reports)) }
+        ensures { IfOk result (λ reports. SomeHeld N.terms N.setup (λ held. IsCertified held.history reports)) }
     {
         self.enter(rt).report(alloc)
     }
 
     /// Returns a line for each server in file order, of the present window. Fails only where memory is refused.
     pub fn servers<R: Wait>(&self, rt: &R, alloc: Global) -> Result<Vec<ServerLine>, AllocError>
-        ensures { IfOk result (λ lines. SomeHeld N.terms (λ held. AreLines held.history lines.items)) }
+        ensures { IfOk result (λ lines. SomeHeld N.terms N.setup (λ held. AreLines held.history lines.items)) }
     {
         self.enter(rt).servers(alloc)
     }
@@ -271,7 +273,7 @@ impl<N: BoardName> Desk<N> {
         alloc: Global,
         count: usize,
     ) -> Result<Vec<Entry>, AllocError>
-        ensures { IfOk result (λ entries. SomeHeld N.terms (λ held. entries.items ≡ drop count held.history.log)) }
+        ensures { IfOk result (λ entries. SomeHeld N.terms N.setup (λ held. entries.items ≡ drop count held.history.log)) }
     {
         self.enter(rt).entries_after(alloc, count)
     }
@@ -279,16 +281,20 @@ impl<N: BoardName> Desk<N> {
     /// Returns the greatest lateness of a queue and class in the present window, in milliseconds;
     /// `None` only where none of its requests was granted a slot.
     pub fn worst<R: Wait>(&self, rt: &R, queue: Queue, class: Class) -> Option<i64>
-        ensures { SomeHeld N.terms (λ held. IsWorstIn (window_in held.history) queue class result) }
+        ensures { SomeHeld N.terms N.setup (λ held. IsWorstIn (window_in held.history) queue class result) }
     {
         self.enter(rt).worst(queue, class)
     }
 
     /// Begins the next window where the log has no room for an event, and returns what is told of
     /// the one that ended; `None` where it has room. Where memory is refused nothing changes.
-    pub fn make_room<R: Wait>(&self, rt: &R, alloc: Global) -> Result<Option<Window>, AllocError>
-        ensures none { IfOk result (λ found. IfNone found (SomeHeld N.terms (λ held. HasEntryRoom held.history))) }
-        ensures some { IfOk result (λ found. IfSome found (λ window. SomeStep N.terms (λ old new. (HasEntryRoom old.history → ⊥) × IsCertified old.history window.reports × AreLines old.history window.servers.items × (new ≡ record old { history = next_window old.history })))) }
+    pub fn make_room<R: Wait>(
+        &self,
+        rt: &R,
+        alloc: Global,
+    ) -> Result<Option<EndedWindow>, AllocError>
+        ensures none { IfOk result (λ found. IfNone found (SomeHeld N.terms N.setup (λ held. HasEntryRoom held.history))) }
+        ensures some { IfOk result (λ found. IfSome found (λ window. SomeStep N.terms N.setup (λ old new. (HasEntryRoom old.history → ⊥) × IsCertified old.history window.reports × AreLines old.history window.servers.items × (new ≡ record old { history = next_window old.history })))) }
     {
         let mut tail = self.tail.lock(rt);
         let mut book = self.enter(rt);
@@ -305,35 +311,35 @@ impl<N: BoardName> Desk<N> {
         requires named { relay.board ≡ N.board }
         ensures back { result.0 ≡ relay }
         ensures count { result.1 ≡ length relay.view.passes }
-        ensures outstanding { SomeHeld N.terms (λ held. AreIn relay.view.passes (outstanding (state_of held.history).rows)) }
+        ensures outstanding { SomeHeld N.terms N.setup (λ held. AreIn relay.view.passes (outstanding (state_of held.history).rows)) }
     {
         self.enter(rt).vouch(&self.board, relay)
     }
 
     /// Returns the number of requests that a server serves. `O(1)`.
     pub fn served<R: Wait>(&self, rt: &R, server: usize) -> usize
-        ensures { SomeHeld N.terms (λ held. result ≡ served server (state_of held.history).rows) }
+        ensures { SomeHeld N.terms N.setup (λ held. result ≡ served server (state_of held.history).rows) }
     {
         self.enter(rt).served(server)
     }
 
     /// Returns the number of requests that wait in a queue. `O(1)`.
     pub fn queued<R: Wait>(&self, rt: &R, queue: Queue) -> usize
-        ensures { SomeHeld N.terms (λ held. result ≡ queued queue (state_of held.history).rows) }
+        ensures { SomeHeld N.terms N.setup (λ held. result ≡ queued queue (state_of held.history).rows) }
     {
         self.enter(rt).queued(queue)
     }
 
     /// Says whether a server is up. `O(1)`.
     pub fn up<R: Wait>(&self, rt: &R, server: usize) -> bool
-        ensures { SomeHeld N.terms (λ held. result ≡ is_up (scene_of held.history) server) }
+        ensures { SomeHeld N.terms N.setup (λ held. result ≡ is_up (scene_of held.history) server) }
     {
         self.enter(rt).up(server)
     }
 
     /// Says whether a tick at this moment would tell a timeout. `O(1)`.
     pub fn expired<R: Wait>(&self, rt: &R, moment: Moment) -> bool
-        ensures { SomeHeld N.terms (λ held. IsTrue result ↔ SomeExpires held.history moment) }
+        ensures { SomeHeld N.terms N.setup (λ held. IsTrue result ↔ SomeExpires held.history moment) }
     {
         self.enter(rt).expired(moment)
     }
@@ -344,7 +350,7 @@ impl<N: BoardName> Desk<N> {
         requires named { relay.board ≡ N.board }
         requires first { relay.view.first ≡ true }
         requires settled { relay.view.split ≡ relay.view.joined }
-        ensures { SomeHeld N.terms (λ held. IsClosed held.view relay.view result.left) }
+        ensures { SomeHeld N.terms N.setup (λ held. IsClosed held.view relay.view result.left) }
     {
         let Desk {
             book,
@@ -358,8 +364,8 @@ impl<N: BoardName> Desk<N> {
     }
 
     // Takes the lock.
-    fn enter<R: Wait>(&self, rt: &R) -> MutexGuard<'_, Book<Queues, N>>
-        ensures { IsHeld N.terms (mutex_guard_value result) }
+    fn enter<R: Wait>(&self, rt: &R) -> MutexGuard<'_, Book<DeskQueue, N>>
+        ensures { IsHeld N.terms N.setup (mutex_guard_value result) }
     {
         let book = self.book.lock(rt);
         // This call states the book's invariant.

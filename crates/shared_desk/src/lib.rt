@@ -5,4 +5,4 @@
 
 mod desk;
 
-pub use desk::{Desk, Queues};
+pub use desk::{Desk, DeskQueue};

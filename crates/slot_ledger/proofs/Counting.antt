@@ -18,10 +18,10 @@ use Rattle.base_lists.proofs.Counts.{count-map}
 use Rattle.base_lists.proofs.Places.{tally, count-set}
 use Rattle.base_lists.proofs.Replicated.{count-replicate, index-replicate}
 use Rattle.slot_ledger.specs.declared.places.Cell.{Cell}
-use Rattle.slot_ledger.specs.Counts.{Counted, AreCounts, one_if, queued_at, IsPassed, Includes, AreAtMost}
+use Rattle.slot_ledger.specs.Counts.{Counted, AreCounts, one_if, queued_at, HasChangedPhase, Includes, AreAtMost}
 use Rattle.slot_ledger.specs.Ledgers.{IsLedger}
-use Rattle.slot_ledger.specs.Slots.{rows_in, StandsIn, with_slot}
-use Rattle.slot_ledger.proofs.Standing.{with_slot_at}
+use Rattle.slot_ledger.specs.Cells.{rows_in, StandsIn, with_cell}
+use Rattle.slot_ledger.proofs.Standing.{with_cell_at}
 
 -- a cell's row is in a phase; an empty cell counts as loose
 abbrev pub phase_in : Option Row → Phase
@@ -38,7 +38,7 @@ waits_cell (Some row) queue = refl
 
 -- counts after one row changed
 pub counts_passed : (counts now : Counted) (rows : Rows) (p : ℕ) (old new : Option Row) → AreCounts counts rows → slice_get rows p ≡ Some old
-    → IsPassed (phase_in old) (phase_in new) counts now → AreCounts now (set rows p new)
+    → HasChangedPhase (phase_in old) (phase_in new) counts now → AreCounts now (set rows p new)
 counts_passed counts now rows p old new are stood passed = record {
   serving = λ server.
       let count : served server (set rows p new) + tally (is_served_by server old) ≡ served server rows + tally (is_served_by server new) =
@@ -103,14 +103,14 @@ own_included inside counts phase queue since server same is waits one =
 
 none_counted : (H : Type 0) (test : Option Row → Bool) (n : ℕ) → test None ≡ false → count_by test (rows_in {H = H} (replicate n None)) ≡ 0
 none_counted H test n none =
-    let row : Option (Cell H) → Option Row = option_map (λ slot. slot.row) in
+    let row : Option (Cell H) → Option Row = option_map (λ cell. cell.row) in
     count-map test row (replicate n None) ∙ count-replicate (λ cell. test (row cell)) n None none
 
 module _ {H : Type 0} where
   -- a ledger without a request
-  pub ledger_new : (setup : Setup) (n : ℕ) (counts : Counted) (slots : List (Option (Cell H))) → IsSound setup → slots ≡ replicate setup.places None
-      → counts ≡ record { served = replicate n 0; own = replicate n 0; backend = 0 } → n ≡ length setup.servers → IsLedger setup slots counts
-  ledger_new setup n counts slots sound empty none many =
+  pub ledger_new : (setup : Setup) (n : ℕ) (counts : Counted) (cells : List (Option (Cell H))) → IsSound setup → cells ≡ replicate setup.places None
+      → counts ≡ record { served = replicate n 0; own = replicate n 0; backend = 0 } → n ≡ length setup.servers → IsLedger setup cells counts
+  ledger_new setup n counts cells sound empty none many =
       subst (λ (l : List (Option (Cell H))). IsLedger {H = H} setup l counts) (sym empty)
       (subst (λ (c : Counted). IsLedger {H = H} setup (replicate setup.places None) c)
       (sym (none ∙ ap (λ k. record { served = replicate k 0; own = replicate k 0; backend = 0 }) many)) (record {
@@ -132,53 +132,53 @@ module _ {H : Type 0} where
       by_queue Backend = sym (none_counted H (waits_in Backend) setup.places refl)
       by_queue (Server server) = index-replicate (length setup.servers) server 0 ∙ sym (none_counted H (waits_in (Server server)) setup.places refl)
 
-  -- the row of a slot
+  -- the row of a cell
   abbrev pub row_in : Option (Cell H) → Option Row
-  row_in cell = option_map (λ slot. slot.row) cell
+  row_in cell = option_map (λ cell. cell.row) cell
 
-  -- a ledger after one slot changed
-  pub ledger_passed : (setup : Setup) (slots next : List (Option (Cell H))) (counts now : Counted) (p : ℕ) (old new : Option (Cell H)) (before after : Phase)
-      → IsLedger setup slots counts → slice_get slots p ≡ Some old
+  -- a ledger after one cell changed
+  pub ledger_passed : (setup : Setup) (cells next : List (Option (Cell H))) (counts now : Counted) (p : ℕ) (old new : Option (Cell H)) (before after : Phase)
+      → IsLedger setup cells counts → slice_get cells p ≡ Some old
       → phase_in (row_in old) ≡ before → phase_in (row_in new) ≡ after
-      → next ≡ set slots p new → IsPassed before after counts now → length now.served ≡ length counts.served → length now.own ≡ length counts.own
+      → next ≡ set cells p new → HasChangedPhase before after counts now → length now.served ≡ length counts.served → length now.own ≡ length counts.own
       → IsLedger setup next now
-  ledger_passed setup slots next counts now p old new before after is stood was becomes written passed served_kept own_kept =
+  ledger_passed setup cells next counts now p old new before after is stood was becomes written passed served_kept own_kept =
       subst (λ (l : List (Option (Cell H))). IsLedger setup l now) (sym written) (record {
         sound = is.sound;
-        places = length-set slots p new ∙ is.places;
+        places = length-set cells p new ∙ is.places;
         counted =
-            subst (AreCounts now) (sym (map-set row_in slots p new))
-            (counts_passed counts now (rows_in slots) p (row_in old) (row_in new) is.counted (slice_get-map row_in slots p ∙ ap (option_map row_in) stood)
-            (subst (λ (x : Phase). IsPassed x (phase_in (row_in new)) counts now) (sym was)
-            (subst (λ (x : Phase). IsPassed before x counts now) (sym becomes) passed)));
+            subst (AreCounts now) (sym (map-set row_in cells p new))
+            (counts_passed counts now (rows_in cells) p (row_in old) (row_in new) is.counted (slice_get-map row_in cells p ∙ ap (option_map row_in) stood)
+            (subst (λ (x : Phase). HasChangedPhase x (phase_in (row_in new)) counts now) (sym was)
+            (subst (λ (x : Phase). HasChangedPhase before x counts now) (sym becomes) passed)));
         served = served_kept ∙ is.served;
         own = own_kept ∙ is.own;
       })
 
-  pub ledger_few : (setup : Setup) (slots : List (Option (Cell H))) (counts : Counted) → IsLedger setup slots counts → AreAtMost 4096 counts
-  ledger_few setup slots counts is = counts_few counts (rows_in slots) 4096 is.counted (let l = length-map slots row_in in let p = is.places in
+  pub ledger_few : (setup : Setup) (cells : List (Option (Cell H))) (counts : Counted) → IsLedger setup cells counts → AreAtMost 4096 counts
+  ledger_few setup cells counts is = counts_few counts (rows_in cells) 4096 is.counted (let l = length-map cells row_in in let p = is.places in
       let m = is.sound.places in omega arith)
 
-  pub ledger_includes : (setup : Setup) (slots : List (Option (Cell H))) (counts : Counted) (p : ℕ) (row : Row) → IsLedger setup slots counts
-      → (s : Cell H) × StandsIn slots p s × (s.row ≡ row) → Includes row.phase counts
-  ledger_includes setup slots counts p row is there =
-      counts_include counts (rows_in slots) p row is.counted (slice_get-map row_in slots p ∙ ap (option_map row_in) there.1
+  pub ledger_includes : (setup : Setup) (cells : List (Option (Cell H))) (counts : Counted) (p : ℕ) (row : Row) → IsLedger setup cells counts
+      → (s : Cell H) × StandsIn cells p s × (s.row ≡ row) → Includes row.phase counts
+  ledger_includes setup cells counts p row is there =
+      counts_include counts (rows_in cells) p row is.counted (slice_get-map row_in cells p ∙ ap (option_map row_in) there.1
       ∙ ap (λ (r : Row). Some (Some r)) there.2)
 
   -- a ledger after a request changed and stayed in its phase
-  pub ledger_same : (change : Cell H → Cell H) (setup : Setup) (slots next : List (Option (Cell H))) (counts : Counted) (p : ℕ) → IsLedger setup slots counts
-      → (s : Cell H) × StandsIn slots p s
-      → ((s : Cell H) → (change s).row.phase ≡ s.row.phase) → next ≡ with_slot change slots p → IsLedger setup next counts
-  ledger_same change setup slots next counts p is there stays written =
-      ledger_passed setup slots next counts counts p (Some there.0) (Some (change there.0)) there.0.row.phase there.0.row.phase is there.1 refl (stays there.0)
-      (written ∙ with_slot_at change slots p there.0 there.1)
+  pub ledger_same : (change : Cell H → Cell H) (setup : Setup) (cells next : List (Option (Cell H))) (counts : Counted) (p : ℕ) → IsLedger setup cells counts
+      → (s : Cell H) × StandsIn cells p s
+      → ((s : Cell H) → (change s).row.phase ≡ s.row.phase) → next ≡ with_cell change cells p → IsLedger setup next counts
+  ledger_same change setup cells next counts p is there stays written =
+      ledger_passed setup cells next counts counts p (Some there.0) (Some (change there.0)) there.0.row.phase there.0.row.phase is there.1 refl (stays there.0)
+      (written ∙ with_cell_at change cells p there.0 there.1)
       (record { serving = λ server. refl; waiting = λ queue. refl }) refl refl
 
   -- a ledger after a request went into another phase
-  pub ledger_changed : (change : Cell H → Cell H) (after : Phase) (setup : Setup) (slots next : List (Option (Cell H))) (counts now : Counted) (p : ℕ)
-      (row : Row) → IsLedger setup slots counts → (s : Cell H) × StandsIn slots p s × (s.row ≡ row)
-      → ((s : Cell H) → (change s).row.phase ≡ after) → next ≡ with_slot change slots p → IsPassed row.phase after counts now
+  pub ledger_changed : (change : Cell H → Cell H) (after : Phase) (setup : Setup) (cells next : List (Option (Cell H))) (counts now : Counted) (p : ℕ)
+      (row : Row) → IsLedger setup cells counts → (s : Cell H) × StandsIn cells p s × (s.row ≡ row)
+      → ((s : Cell H) → (change s).row.phase ≡ after) → next ≡ with_cell change cells p → HasChangedPhase row.phase after counts now
       → length now.served ≡ length counts.served → length now.own ≡ length counts.own → IsLedger setup next now
-  ledger_changed change after setup slots next counts now p row is there goes written passed served_kept own_kept =
-      ledger_passed setup slots next counts now p (Some there.0) (Some (change there.0)) row.phase after is there.1 (ap (λ (r : Row). r.phase) there.2)
-      (goes there.0) (written ∙ with_slot_at change slots p there.0 there.1) passed served_kept own_kept
+  ledger_changed change after setup cells next counts now p row is there goes written passed served_kept own_kept =
+      ledger_passed setup cells next counts now p (Some there.0) (Some (change there.0)) row.phase after is there.1 (ap (λ (r : Row). r.phase) there.2)
+      (goes there.0) (written ∙ with_cell_at change cells p there.0 there.1) passed served_kept own_kept

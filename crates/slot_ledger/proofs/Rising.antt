@@ -6,7 +6,7 @@ use Rattle.std.proofs.lemmas.List.Elements.{All-append, All-cons, All-contains, 
 use Rattle.std.proofs.lemmas.List.Elements.{All-nil, All-tail, All-weaker, filter_map-append, Contains-append_right}
 use Rattle.base_lists.proofs.Members.{all_front, all_back}
 use Rattle.slot_ledger.specs.declared.tickets.TicketPlace.{TicketPlace}
-use Rattle.slot_ledger.specs.Tickets.{TicketIsAbsent, IsBelowAll, IsRising, Removes, has_place, pair_of, pairs_in}
+use Rattle.slot_ledger.specs.Tickets.{TicketIsAbsent, IsBelowAll, IsRising, Removes, has_place, pair_of, number_pairs}
 
 -- what two parts are that rise together
 pub record AreRisingParts (front back : List TicketPlace) : Type 0 where
@@ -77,11 +77,11 @@ rising_filter test (e ∷ entries) up = rising_step (test e) e (filter test entr
 
 -- the pairs with an entry in the middle that has a place or has none
 pub pairs_around : (front back : List TicketPlace) (e : TicketPlace) (o : Option ℕ) → e.place ≡ o
-    → pairs_in (front ++ e ∷ back) ≡ pairs_in front ++ cons_option (option_map (λ place. (e.ticket, place)) o) (pairs_in back)
+    → number_pairs (front ++ e ∷ back) ≡ number_pairs front ++ cons_option (option_map (λ place. (e.ticket, place)) o) (number_pairs back)
 pairs_around front back e o is = filter_map-append pair_of front (e ∷ back)
-    ∙ ap (λ (p : Option ℕ). pairs_in front ++ cons_option (option_map (λ place. (e.ticket, place)) p) (pairs_in back)) is
+    ∙ ap (λ (p : Option ℕ). number_pairs front ++ cons_option (option_map (λ place. (e.ticket, place)) p) (number_pairs back)) is
 
-pub pairs_without : (front back : List TicketPlace) (e : TicketPlace) → e.place ≡ None → pairs_in (front ++ e ∷ back) ≡ pairs_in (front ++ back)
+pub pairs_without : (front back : List TicketPlace) (e : TicketPlace) → e.place ≡ None → number_pairs (front ++ e ∷ back) ≡ number_pairs (front ++ back)
 pairs_without front back e is = pairs_around front back e None is ∙ sym (filter_map-append pair_of front back)
 
 -- what holds of the tickets of entries holds of those of their pairs, and back where the entries have places
@@ -91,9 +91,9 @@ module _ (P : ℕ → Type 0) where
   pair_step e None pairs this rest = rest
   pair_step e (Some place) pairs this rest = All-cons (λ pair. P pair.0) (e.ticket, place) pairs this rest
 
-  pub each_pair : (entries : List TicketPlace) → All (λ entry. P entry.ticket) entries → All (λ pair. P pair.0) (pairs_in entries)
+  pub each_pair : (entries : List TicketPlace) → All (λ entry. P entry.ticket) entries → All (λ pair. P pair.0) (number_pairs entries)
   each_pair [] all = All-nil (λ pair. P pair.0)
-  each_pair (e ∷ entries) all = pair_step e e.place (pairs_in entries) (All-head (λ entry. P entry.ticket) e entries all)
+  each_pair (e ∷ entries) all = pair_step e e.place (number_pairs entries) (All-head (λ entry. P entry.ticket) e entries all)
       (each_pair entries (All-tail (λ entry. P entry.ticket) e entries all))
 
   kept_step : (e : TicketPlace) (o : Option ℕ) (pairs : List (ℕ × ℕ)) (kept : List TicketPlace)
@@ -105,14 +105,14 @@ module _ (P : ℕ → Type 0) where
       All-cons (λ entry. P entry.ticket) e kept (All-head (λ pair. P pair.0) (e.ticket, place) pairs all)
       (rest (All-tail (λ pair. P pair.0) (e.ticket, place) pairs all))
 
-  pub each_kept : (entries : List TicketPlace) → All (λ pair. P pair.0) (pairs_in entries) → All (λ entry. P entry.ticket) (filter has_place entries)
+  pub each_kept : (entries : List TicketPlace) → All (λ pair. P pair.0) (number_pairs entries) → All (λ entry. P entry.ticket) (filter has_place entries)
   each_kept [] all = All-nil (λ entry. P entry.ticket)
-  each_kept (e ∷ entries) all = kept_step e e.place (pairs_in entries) (filter has_place entries) (each_kept entries) all
+  each_kept (e ∷ entries) all = kept_step e e.place (number_pairs entries) (filter has_place entries) (each_kept entries) all
 
 -- the entries that have a place have all the pairs, and are as many
 module _ (e : TicketPlace) (kept : List TicketPlace) (pairs : List (ℕ × ℕ)) where
-  same_step : (o : Option ℕ) → e.place ≡ o → pairs_in kept ≡ pairs
-      → pairs_in (cond (is_some o) (e ∷ kept) kept) ≡ cons_option (option_map (λ place. (e.ticket, place)) o) pairs
+  same_step : (o : Option ℕ) → e.place ≡ o → number_pairs kept ≡ pairs
+      → number_pairs (cond (is_some o) (e ∷ kept) kept) ≡ cons_option (option_map (λ place. (e.ticket, place)) o) pairs
   same_step None is same = same
   same_step (Some place) is same = pairs_around [] kept e (Some place) is ∙ ap (λ (l : List (ℕ × ℕ)). (e.ticket, place) ∷ l) same
 
@@ -121,21 +121,21 @@ module _ (e : TicketPlace) (kept : List TicketPlace) (pairs : List (ℕ × ℕ))
   length_step None same = same
   length_step (Some place) same = omega arith
 
-pub pairs_kept : (entries : List TicketPlace) → pairs_in (filter has_place entries) ≡ pairs_in entries
+pub pairs_kept : (entries : List TicketPlace) → number_pairs (filter has_place entries) ≡ number_pairs entries
 pairs_kept [] = refl
-pairs_kept (e ∷ entries) = same_step e (filter has_place entries) (pairs_in entries) e.place refl (pairs_kept entries)
+pairs_kept (e ∷ entries) = same_step e (filter has_place entries) (number_pairs entries) e.place refl (pairs_kept entries)
 
-pub length-kept : (entries : List TicketPlace) → length (filter has_place entries) ≡ length (pairs_in entries)
+pub length-kept : (entries : List TicketPlace) → length (filter has_place entries) ≡ length (number_pairs entries)
 length-kept [] = refl
-length-kept (e ∷ entries) = length_step e (filter has_place entries) (pairs_in entries) e.place (length-kept entries)
+length-kept (e ∷ entries) = length_step e (filter has_place entries) (number_pairs entries) e.place (length-kept entries)
 
 -- an entry in the middle of what rises
 module _ (front back : List TicketPlace) (e : TicketPlace) (up : IsRising (front ++ e ∷ back)) where
   -- no other has its ticket
-  pub others_absent : TicketIsAbsent e.ticket (pairs_in front ++ pairs_in back)
+  pub others_absent : TicketIsAbsent e.ticket (number_pairs front ++ number_pairs back)
   others_absent =
       let parts = rising_parts front (e ∷ back) up in
-      All-append (λ pair. pair.0 ≢ e.ticket) (pairs_in front) (pairs_in back)
+      All-append (λ pair. pair.0 ≢ e.ticket) (number_pairs front) (number_pairs back)
       (each_pair (λ n. n ≢ e.ticket) front (All-weaker (λ x. IsBelowAll x (e ∷ back)) (λ x. x.ticket ≢ e.ticket)
       (λ x all same. let below : x.ticket < e.ticket = All-head (λ other. x.ticket < other.ticket) e back all in absurd (omega arith)) front parts.across))
       (each_pair (λ n. n ≢ e.ticket) back (All-weaker (λ x. e.ticket < x.ticket) (λ x. x.ticket ≢ e.ticket)
@@ -143,26 +143,26 @@ module _ (front back : List TicketPlace) (e : TicketPlace) (up : IsRising (front
 
   -- its place is that of its ticket's pair
   pub place_there : (o : Option ℕ) → e.place ≡ o
-      → MatchOption o (TicketIsAbsent e.ticket (pairs_in (front ++ e ∷ back))) (λ place. Contains (pairs_in (front ++ e ∷ back)) (e.ticket, place))
+      → MatchOption o (TicketIsAbsent e.ticket (number_pairs (front ++ e ∷ back))) (λ place. Contains (number_pairs (front ++ e ∷ back)) (e.ticket, place))
   place_there None is = subst (TicketIsAbsent e.ticket) (sym (pairs_around front back e None is)) others_absent
   place_there (Some place) is =
       subst (λ (l : List (ℕ × ℕ)). Contains l (e.ticket, place)) (sym (pairs_around front back e (Some place) is))
-      (Contains-append_right (pairs_in front) ((e.ticket, place) ∷ pairs_in back) (e.ticket, place) (0, omega arith, refl))
+      (Contains-append_right (number_pairs front) ((e.ticket, place) ∷ number_pairs back) (e.ticket, place) (0, omega arith, refl))
 
   -- where it loses its place, its pair is gone
-  pub place_removed : (d : TicketPlace) (place : ℕ) → d.place ≡ None → Contains (pairs_in (front ++ e ∷ back)) (e.ticket, place)
-      → Removes e.ticket (pairs_in (front ++ e ∷ back)) (pairs_in (front ++ d ∷ back))
+  pub place_removed : (d : TicketPlace) (place : ℕ) → d.place ≡ None → Contains (number_pairs (front ++ e ∷ back)) (e.ticket, place)
+      → Removes e.ticket (number_pairs (front ++ e ∷ back)) (number_pairs (front ++ d ∷ back))
   place_removed d place none among = by_place e.place refl
     where
-      after : pairs_in (front ++ d ∷ back) ≡ pairs_in front ++ pairs_in back
+      after : number_pairs (front ++ d ∷ back) ≡ number_pairs front ++ number_pairs back
       after = pairs_around front back d None none
 
-      by_place : (o : Option ℕ) → e.place ≡ o → Removes e.ticket (pairs_in (front ++ e ∷ back)) (pairs_in (front ++ d ∷ back))
-      by_place None is = absurd (All-contains (λ pair. pair.0 ≢ e.ticket) (pairs_in front ++ pairs_in back) (e.ticket, place) others_absent
+      by_place : (o : Option ℕ) → e.place ≡ o → Removes e.ticket (number_pairs (front ++ e ∷ back)) (number_pairs (front ++ d ∷ back))
+      by_place None is = absurd (All-contains (λ pair. pair.0 ≢ e.ticket) (number_pairs front ++ number_pairs back) (e.ticket, place) others_absent
           (subst (λ (l : List (ℕ × ℕ)). Contains l (e.ticket, place)) (pairs_around front back e None is) among) refl)
       by_place (Some own) is = record {
-        front = pairs_in front;
-        back = pairs_in back;
+        front = number_pairs front;
+        back = number_pairs back;
         place = own;
         before = pairs_around front back e (Some own) is;
         after = after;

@@ -9,7 +9,7 @@ use Rattle.std.proofs.lemmas.Bool.Decides.{nat_tests}
 use Rattle.std.proofs.lemmas.List.Elements.{All-append, filter_map-append}
 use Rattle.std.proofs.lemmas.Option.{slice_get-get_or, slice_get_within, get_or_from_slice_get}
 use Rattle.slot_ledger.specs.declared.tickets.TicketPlace.{TicketPlace}
-use Rattle.slot_ledger.specs.Tickets.{TicketIsAbsent, IsRising, HasTicketAmong, AreStretches, IsInStretches, Removes, pair_of, pairs_in, stretches}
+use Rattle.slot_ledger.specs.Tickets.{TicketIsAbsent, IsRising, HasTicketAmong, AreStretches, IsInStretches, Removes, pair_of, number_pairs, stretches}
 use Rattle.slot_ledger.proofs.Rising.{each_pair, rising_parts, rising_changed, place_there, place_removed}
 use Rattle.slot_ledger.proofs.Stretches.{IsAround, around, read_around}
 
@@ -32,7 +32,7 @@ module _ (ticket : ℕ) (entries : List TicketPlace) (up : IsRising entries) whe
 
   -- a binary search ends at the ticket's entry, or there is none
   pub searched : (r : Result ℕ ℕ) → IsSearchInRange r (length entries) → IsBinarySearchResult (λ e. nat_cmp e.ticket ticket) entries r
-      → MatchOption (result_ok r) (TicketIsAbsent ticket (pairs_in entries)) (λ at. HasTicketAmong ticket entries at)
+      → MatchOption (result_ok r) (TicketIsAbsent ticket (number_pairs entries)) (λ at. HasTicketAmong ticket entries at)
   searched (Ok at) in_range equal = found entries refl
     where
       found : (all : List TicketPlace) → entries ≡ all → HasTicketAmong ticket entries at
@@ -56,10 +56,10 @@ module _ (ticket kept next : ℕ) (entries : List TicketPlace) (are : AreStretch
   pub second_rises : IsRising (drop next entries)
   second_rises = (rising_parts (take kept entries) (drop next entries) are.rising).second
 
-  pub in_neither : TicketIsAbsent ticket (pairs_in (take kept entries)) → TicketIsAbsent ticket (pairs_in (drop next entries))
-      → TicketIsAbsent ticket (pairs_in (stretches kept next entries))
+  pub in_neither : TicketIsAbsent ticket (number_pairs (take kept entries)) → TicketIsAbsent ticket (number_pairs (drop next entries))
+      → TicketIsAbsent ticket (number_pairs (stretches kept next entries))
   in_neither first second = subst (TicketIsAbsent ticket) (sym (filter_map-append pair_of (take kept entries) (drop next entries)))
-      (All-append (λ pair. pair.0 ≢ ticket) (pairs_in (take kept entries)) (pairs_in (drop next entries)) first second)
+      (All-append (λ pair. pair.0 ≢ ticket) (number_pairs (take kept entries)) (number_pairs (drop next entries)) first second)
 
 get_in_take : (kept : ℕ) (entries : List TicketPlace) (at : ℕ) (e : TicketPlace) → slice_get (take kept entries) at ≡ Some e
     → (slice_get entries at ≡ Some e) × (at < kept)
@@ -104,12 +104,12 @@ module _ (ticket kept next at : ℕ) (entries : List TicketPlace) (x : TicketPla
   rising_there : IsRising (parts.0 ++ x ∷ parts.1)
   rising_there = subst IsRising read_parts are.rising
 
-  pub place_tells : MatchOption x.place (TicketIsAbsent ticket (pairs_in (stretches kept next entries)))
-      (λ place. Contains (pairs_in (stretches kept next entries)) (ticket, place))
+  pub place_tells : MatchOption x.place (TicketIsAbsent ticket (number_pairs (stretches kept next entries)))
+      (λ place. Contains (number_pairs (stretches kept next entries)) (ticket, place))
   place_tells =
-      subst (λ (l : List TicketPlace). MatchOption x.place (TicketIsAbsent ticket (pairs_in l)) (λ place. Contains (pairs_in l) (ticket, place))) (sym read_parts)
-      (subst (λ (n : ℕ). MatchOption x.place (TicketIsAbsent n (pairs_in (parts.0 ++ x ∷ parts.1)))
-      (λ place. Contains (pairs_in (parts.0 ++ x ∷ parts.1)) (n, place))) own_ticket
+      subst (λ (l : List TicketPlace). MatchOption x.place (TicketIsAbsent ticket (number_pairs l)) (λ place. Contains (number_pairs l) (ticket, place))) (sym read_parts)
+      (subst (λ (n : ℕ). MatchOption x.place (TicketIsAbsent n (number_pairs (parts.0 ++ x ∷ parts.1)))
+      (λ place. Contains (number_pairs (parts.0 ++ x ∷ parts.1)) (n, place))) own_ticket
       (place_there parts.0 parts.1 x rising_there x.place refl))
 
   pub still_stretches : (d : TicketPlace) → d.ticket ≡ ticket → AreStretches kept next (set entries at d)
@@ -122,12 +122,12 @@ module _ (ticket kept next at : ℕ) (entries : List TicketPlace) (x : TicketPla
         last = λ some. let last = are.last (omega arith) in omega arith;
       }
 
-  pub place_taken : (d : TicketPlace) (place : ℕ) → d.place ≡ None → Contains (pairs_in (stretches kept next entries)) (ticket, place)
-      → Removes ticket (pairs_in (stretches kept next entries)) (pairs_in (stretches kept next (set entries at d)))
+  pub place_taken : (d : TicketPlace) (place : ℕ) → d.place ≡ None → Contains (number_pairs (stretches kept next entries)) (ticket, place)
+      → Removes ticket (number_pairs (stretches kept next entries)) (number_pairs (stretches kept next (set entries at d)))
   place_taken d place none among =
-      subst (λ (l : List TicketPlace). Removes ticket (pairs_in (stretches kept next entries)) (pairs_in l)) (sym (parts.2.written d))
-      (subst (λ (l : List TicketPlace). Removes ticket (pairs_in l) (pairs_in (parts.0 ++ d ∷ parts.1))) (sym read_parts)
-      (subst (λ (n : ℕ). Removes n (pairs_in (parts.0 ++ x ∷ parts.1)) (pairs_in (parts.0 ++ d ∷ parts.1))) own_ticket
+      subst (λ (l : List TicketPlace). Removes ticket (number_pairs (stretches kept next entries)) (number_pairs l)) (sym (parts.2.written d))
+      (subst (λ (l : List TicketPlace). Removes ticket (number_pairs l) (number_pairs (parts.0 ++ d ∷ parts.1))) (sym read_parts)
+      (subst (λ (n : ℕ). Removes n (number_pairs (parts.0 ++ x ∷ parts.1)) (number_pairs (parts.0 ++ d ∷ parts.1))) own_ticket
       (place_removed parts.0 parts.1 x rising_there d place none
-      (subst (λ (n : ℕ). Contains (pairs_in (parts.0 ++ x ∷ parts.1)) (n, place)) (sym own_ticket)
-      (subst (λ (l : List TicketPlace). Contains (pairs_in l) (ticket, place)) read_parts among)))))
+      (subst (λ (n : ℕ). Contains (number_pairs (parts.0 ++ x ∷ parts.1)) (n, place)) (sym own_ticket)
+      (subst (λ (l : List TicketPlace). Contains (number_pairs l) (ticket, place)) read_parts among)))))

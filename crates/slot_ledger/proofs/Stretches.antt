@@ -8,7 +8,7 @@ use Rattle.std.proofs.lemmas.List.Elements.{All-append, All-cons, All-head, All-
 use Rattle.std.proofs.lemmas.Option.{slice_get_within, get_or_from_slice_get, slice_get-get_or}
 use Rattle.base_lists.proofs.Places.{set_read}
 use Rattle.slot_ledger.specs.declared.tickets.TicketPlace.{TicketPlace}
-use Rattle.slot_ledger.specs.Tickets.{IsBelowAll, IsRising, TicketsAreWithin, AreStretches, SweepsOneOn, IsAboveLast, has_place, pairs_in, stretches}
+use Rattle.slot_ledger.specs.Tickets.{IsBelowAll, IsRising, TicketsAreWithin, AreStretches, SweepsOneOn, IsAboveLast, has_place, number_pairs, stretches}
 use Rattle.slot_ledger.proofs.Rising.{rising_parts, rising_without, rising_more, rising_filter, pairs_around, pairs_without, pairs_kept, each_kept}
 
 -- what stands around a place that counts, whatever is written there
@@ -76,7 +76,7 @@ module _ (kept next : ℕ) (entries : List TicketPlace) (e : TicketPlace) (are :
       record {
         within = record { ordered = omega arith; within = omega arith };
         rising = rising_without (take kept entries) (drop (next + 1) entries) e (subst IsRising parts are.rising);
-        pairs = sym (pairs_without (take kept entries) (drop (next + 1) entries) e none) ∙ ap pairs_in (sym parts);
+        pairs = sym (pairs_without (take kept entries) (drop (next + 1) entries) e none) ∙ ap number_pairs (sym parts);
         len = refl;
       }
 
@@ -144,14 +144,14 @@ module _ (kept next : ℕ) (entries : List TicketPlace) (e : TicketPlace) (withi
 pub record AreReady (ticket kept next : ℕ) (entries : List TicketPlace) (pairs : List (ℕ × ℕ)) : Type 0 where
   pub are : AreStretches kept next entries
   pub below : All (λ entry. entry.ticket < ticket) (stretches kept next entries)
-  pub same : pairs_in (stretches kept next entries) ≡ pairs
+  pub same : number_pairs (stretches kept next entries) ≡ pairs
 
 module _ (ticket kept next : ℕ) (entries : List TicketPlace) (are : AreStretches kept next entries) where
-  pub ready_as_they_are : IsAboveLast ticket entries → AreReady ticket kept next entries (pairs_in (stretches kept next entries))
+  pub ready_as_they_are : IsAboveLast ticket entries → AreReady ticket kept next entries (number_pairs (stretches kept next entries))
   ready_as_they_are above = record { are = are; below = above_all kept next ticket entries are above; same = refl }
 
-  pub ready_compacted : All (λ pair. pair.0 < ticket) (pairs_in (stretches kept next entries))
-      → AreReady ticket 0 0 (filter has_place (stretches kept next entries)) (pairs_in (stretches kept next entries))
+  pub ready_compacted : All (λ pair. pair.0 < ticket) (number_pairs (stretches kept next entries))
+      → AreReady ticket 0 0 (filter has_place (stretches kept next entries)) (number_pairs (stretches kept next entries))
   ready_compacted highest = record {
     are = whole (filter has_place (stretches kept next entries)) (rising_filter has_place (stretches kept next entries) are.rising);
     below = each_kept (λ n. n < ticket) (stretches kept next entries) highest;
@@ -163,8 +163,8 @@ module _ (kept next : ℕ) (entries : List TicketPlace) (e : TicketPlace) (place
   pub pushed_are : AreStretches kept next (entries ++ e ∷ [])
   pushed_are = are-push kept next entries e ready.are.within ready.are.rising ready.below
 
-  pub pushed_pairs : pairs_in (stretches kept next (entries ++ e ∷ [])) ≡ pairs ++ (e.ticket, place) ∷ []
+  pub pushed_pairs : number_pairs (stretches kept next (entries ++ e ∷ [])) ≡ pairs ++ (e.ticket, place) ∷ []
   pushed_pairs =
-      ap pairs_in (stretches-push kept next entries e ready.are.within)
+      ap number_pairs (stretches-push kept next entries e ready.are.within)
       ∙ pairs_around (stretches kept next entries) [] e (Some place) is
       ∙ ap (λ (l : List (ℕ × ℕ)). l ++ (e.ticket, place) ∷ []) ready.same

@@ -42,7 +42,7 @@ pub record IsOneMore (phase : Phase) (old new : Counted) : Type 0 where
   pub waiting : (queue : Queue) → queued_at new queue ≡ queued_at old queue + one_if (phase_waits_in queue phase)
 
 -- a request moves from one phase into another
-pub record IsPassed (before after : Phase) (old new : Counted) : Type 0 where
+pub record HasChangedPhase (before after : Phase) (old new : Counted) : Type 0 where
   pub serving : (server : ℕ) → served_at new server + one_if (phase_is_served_by server before)
       ≡ served_at old server + one_if (phase_is_served_by server after)
   pub waiting : (queue : Queue) → queued_at new queue + one_if (phase_waits_in queue before) ≡ queued_at old queue + one_if (phase_waits_in queue after)

@@ -1,4 +1,4 @@
-pub mod Slots
+pub mod Cells
 pub mod Tickets
 pub mod Places
 pub mod Counts

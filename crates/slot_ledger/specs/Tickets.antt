@@ -1,4 +1,4 @@
--- The index of tickets, as a list of entries of which some have lost their places.
+-- The index of tickets, as a list of pairs of which some have lost their places.
 use Rattle.std.specs.Prelude.{◌≡◌, ◌≢◌, ◌⊎◌, ℕ, ◌+◌, ◌-◌, ◌<◌, ◌≤◌, ◌++◌, ◌∷◌, []}
 use Rattle.std.specs.Prelude.{Bool, List, Option, Some, All, option_map, is_some, length, take, drop, slice_get}
 use Rattle.std.specs.List.{filter_map}
@@ -22,58 +22,58 @@ pub record Removes (ticket : ℕ) (old new : List (ℕ × ℕ)) : Type 0 where
   pub after : new ≡ front ++ back
   pub gone : TicketIsAbsent ticket new
 
--- the ticket and the place of an entry that has one
+-- the ticket and the place of an pair that has one
 abbrev pub pair_of : TicketPlace → Option (ℕ × ℕ)
-pair_of entry = option_map (λ place. (entry.ticket, place)) entry.place
+pair_of pair = option_map (λ place. (pair.ticket, place)) pair.place
 
--- the tickets and places of those entries that have one
-abbrev pub pairs_in : List TicketPlace → List (ℕ × ℕ)
-pairs_in entries = filter_map pair_of entries
+-- the tickets and places of those pairs that have one
+abbrev pub number_pairs : List TicketPlace → List (ℕ × ℕ)
+number_pairs pairs = filter_map pair_of pairs
 
 abbrev pub has_place : TicketPlace → Bool
-has_place entry = is_some entry.place
+has_place pair = is_some pair.place
 
 -- each ticket is below all later ones
 abbrev pub IsBelowAll : TicketPlace → List TicketPlace → Type 0
-IsBelowAll entry later = All (λ other. entry.ticket < other.ticket) later
+IsBelowAll pair later = All (λ other. pair.ticket < other.ticket) later
 
 abbrev pub IsRising : List TicketPlace → Type 0
 IsRising [] = Unit {0}
-IsRising (entry ∷ entries) = IsBelowAll entry entries × IsRising entries
+IsRising (pair ∷ pairs) = IsBelowAll pair pairs × IsRising pairs
 
--- the entries that count stand in two stretches: the first so many, and those from the next place on; what lies between
+-- the pairs that count stand in two stretches: the first so many, and those from the next place on; what lies between
 -- is left over
 abbrev pub stretches : ℕ → ℕ → List TicketPlace → List TicketPlace
-stretches kept next entries = take kept entries ++ drop next entries
+stretches kept next pairs = take kept pairs ++ drop next pairs
 
 -- the second stretch begins no earlier than the first one ends, and no later than the list does
-pub record TicketsAreWithin (kept next : ℕ) (entries : List TicketPlace) : Type 0 where
+pub record TicketsAreWithin (kept next : ℕ) (pairs : List TicketPlace) : Type 0 where
   pub ordered : kept ≤ next
-  pub within : next ≤ length entries
+  pub within : next ≤ length pairs
 
 -- two stretches of a list: from the first through the second one each ticket is above those before it, and the list's last
--- entry counts
-pub record AreStretches (kept next : ℕ) (entries : List TicketPlace) : Type 0 where
-  pub within : TicketsAreWithin kept next entries
-  pub rising : IsRising (stretches kept next entries)
-  pub last : 0 < length entries → next < length entries
+-- pair counts
+pub record AreStretches (kept next : ℕ) (pairs : List TicketPlace) : Type 0 where
+  pub within : TicketsAreWithin kept next pairs
+  pub rising : IsRising (stretches kept next pairs)
+  pub last : 0 < length pairs → next < length pairs
 
--- a sweep goes one entry on: the second stretch begins one place later, the first one may have grown by the entry that was
+-- a sweep goes one pair on: the second stretch begins one place later, the first one may have grown by the pair that was
 -- passed, the tickets still rise, and no pair that counts has come or gone
 pub record SweepsOneOn (kept next more : ℕ) (old new : List TicketPlace) : Type 0 where
   pub within : TicketsAreWithin more (next + 1) new
   pub rising : IsRising (stretches more (next + 1) new)
-  pub pairs : pairs_in (stretches more (next + 1) new) ≡ pairs_in (stretches kept next old)
+  pub pairs : number_pairs (stretches more (next + 1) new) ≡ number_pairs (stretches kept next old)
   pub len : length new ≡ length old
 
--- the entry at a place of the list is that of a ticket
+-- the pair at a place of the list is that of a ticket
 abbrev pub HasTicketAmong : ℕ → List TicketPlace → ℕ → Type 0
-HasTicketAmong ticket entries at = (entry : TicketPlace) × (slice_get entries at ≡ Some entry) × (entry.ticket ≡ ticket)
+HasTicketAmong ticket pairs at = (pair : TicketPlace) × (slice_get pairs at ≡ Some pair) × (pair.ticket ≡ ticket)
 
 -- and it counts: its place lies in one of the two stretches
 abbrev pub IsInStretches : ℕ → ℕ → ℕ → List TicketPlace → ℕ → Type 0
-IsInStretches ticket kept next entries at = HasTicketAmong ticket entries at × ((at < kept) ⊎ (next ≤ at))
+IsInStretches ticket kept next pairs at = HasTicketAmong ticket pairs at × ((at < kept) ⊎ (next ≤ at))
 
--- the last entry has a lower ticket
+-- the last pair has a lower ticket
 abbrev pub IsAboveLast : ℕ → List TicketPlace → Type 0
-IsAboveLast ticket entries = (last : TicketPlace) → slice_get entries (length entries - 1) ≡ Some last → last.ticket < ticket
+IsAboveLast ticket pairs = (last : TicketPlace) → slice_get pairs (length pairs - 1) ≡ Some last → last.ticket < ticket

@@ -22,7 +22,7 @@ impl Model for Counts {
 }
 
 impl Counts {
-    ghost use Rattle.slot_ledger.specs.Counts.{IsPhaseOf, IsOneMore, IsPassed, Includes, AreAtMost, served_at, queued_at};
+    ghost use Rattle.slot_ledger.specs.Counts.{IsPhaseOf, IsOneMore, HasChangedPhase, Includes, AreAtMost, served_at, queued_at};
 
     /// Makes the counts without a request.
     pub(crate) fn new(alloc: Global, servers: usize) -> Result<Counts, AllocError>
@@ -51,12 +51,12 @@ impl Counts {
     }
 
     /// Moves a request from one phase into another.
-    pub(crate) fn pass(&mut self, before: Phase, after: Phase)
+    pub(crate) fn change_phase(&mut self, before: Phase, after: Phase)
         requires counted { Includes before self.old }
         requires within { IsPhaseOf (length self.old.served) after }
         requires own { length self.old.own ≡ length self.old.served }
         requires few { AreAtMost 4096 self.old }
-        ensures passed { IsPassed before after self.old self.new }
+        ensures passed { HasChangedPhase before after self.old self.new }
         ensures served { length self.new.served ≡ length self.old.served }
         ensures own { length self.new.own ≡ length self.old.own }
     {

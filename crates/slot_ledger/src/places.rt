@@ -18,7 +18,7 @@ pub struct Cell<H> {
 /// The requests by place, and where each ticket is.
 #[derive(Drop)]
 pub(crate) struct Places<H> {
-    slots: Vec<Option<Cell<H>>>,
+    cells: Vec<Option<Cell<H>>>,
     vacant: Vec<usize>,
     // The places of the tickets.
     index: Tickets,
@@ -31,27 +31,27 @@ impl<H> Model for Places<H> {
 
     ghost Value = { List (Option (Cell H)) };
 
-    ghost view = { λ places. places.slots.items };
+    ghost view = { λ places. places.cells.items };
 
-    ghost invariant = { λ places. PlacesAreKept places.slots.items places.vacant.items (vec_capacity places.vacant) places.index };
+    ghost invariant = { λ places. PlacesAreKept places.cells.items places.vacant.items (vec_capacity places.vacant) places.index };
 }
 
 impl<H: Drop> Places<H> {
     ghost use Rattle.slot_ledger.specs.declared.places.Cell.{Cell};
-    ghost use Rattle.slot_ledger.specs.Slots.{rows_in, HasRow, HasCountable, HasNode, HasTicketAt, HasNoTicket, AreBelow, with_phase, with_failure, unpinned, waiting, loosened};
+    ghost use Rattle.slot_ledger.specs.Cells.{rows_in, HasRow, HasCountable, HasNode, HasTicketAt, HasNoTicket, AreBelow, with_phase, with_failure, unpinned, waiting, loosened};
 
     /// Makes this number of free places. `O(n)`.
     pub(crate) fn new(alloc: Global, places: usize) -> Result<Places<H>, AllocError>
         ensures { IfOk result (λ made. made ≡ replicate places None) }
     {
-        let mut slots = Vec::with_capacity(alloc, places)?;
+        let mut cells = Vec::with_capacity(alloc, places)?;
         let mut vacant = Vec::with_capacity(alloc, places)?;
         for place in 0..places {
-            slots.push_reserved(None);
+            cells.push_reserved(None);
             vacant.push_reserved(places - 1 - place);
         }
         Ok(Places {
-            slots,
+            cells,
             vacant,
             index: Tickets::with_room(alloc, places)?,
         })
@@ -61,7 +61,7 @@ impl<H: Drop> Places<H> {
     pub(crate) fn places(&self) -> usize
         ensures { result ≡ length self.now }
     {
-        self.slots.len()
+        self.cells.len()
     }
 
     /// Returns the number of live requests. `O(1)`.
@@ -83,7 +83,7 @@ impl<H: Drop> Places<H> {
             unreachable!()
         };
         self.index.push(row.key.ticket, place);
-        self.slots[place] = Some(Cell { row, node: None });
+        self.cells[place] = Some(Cell { row, node: None });
         place
     }
 
@@ -97,10 +97,10 @@ impl<H: Drop> Places<H> {
     /// Returns the row at a place.
     pub(crate) fn row(&self, place: usize) -> Row
         requires { HasRow self.now place }
-        ensures { (slot : Cell H) × (slice_get self.now place ≡ Some (Some slot)) × (slot.row ≡ result) }
+        ensures { (cell : Cell H) × (slice_get self.now place ≡ Some (Some cell)) × (cell.row ≡ result) }
     {
-        match &self.slots[place] {
-            Some(slot) => slot.row,
+        match &self.cells[place] {
+            Some(cell) => cell.row,
             None => unreachable!(),
         }
     }
@@ -110,8 +110,8 @@ impl<H: Drop> Places<H> {
         requires { place < length self.now }
         ensures { slice_get (rows_in self.now) place ≡ Some result }
     {
-        match &self.slots[place] {
-            Some(slot) => Some(slot.row),
+        match &self.cells[place] {
+            Some(cell) => Some(cell.row),
             None => None,
         }
     }
@@ -121,10 +121,10 @@ impl<H: Drop> Places<H> {
         requires { HasRow self.old place }
         ensures { self.new ≡ with_phase phase self.old place }
     {
-        let Some(slot) = &mut self.slots[place] else {
+        let Some(cell) = &mut self.cells[place] else {
             unreachable!()
         };
-        slot.row.phase = phase;
+        cell.row.phase = phase;
     }
 
     /// Counts one more failed connection of the row.
@@ -132,10 +132,10 @@ impl<H: Drop> Places<H> {
         requires { HasCountable self.old place }
         ensures { self.new ≡ with_failure self.old place }
     {
-        let Some(slot) = &mut self.slots[place] else {
+        let Some(cell) = &mut self.cells[place] else {
             unreachable!()
         };
-        slot.row.failures += 1;
+        cell.row.failures += 1;
     }
 
     /// Removes the row's pin.
@@ -143,22 +143,22 @@ impl<H: Drop> Places<H> {
         requires { HasRow self.old place }
         ensures { self.new ≡ unpinned self.old place }
     {
-        let Some(slot) = &mut self.slots[place] else {
+        let Some(cell) = &mut self.cells[place] else {
             unreachable!()
         };
-        slot.row.pin = None;
+        cell.row.pin = None;
     }
 
     /// Lets the row wait in a queue from this moment on, and returns its node.
     pub(crate) fn wait(&mut self, place: usize, queue: Queue, since: Moment) -> H
         requires { HasNode self.old place }
-        ensures node { (slot : Cell H) × (slice_get self.old place ≡ Some (Some slot)) × (slot.node ≡ Some result) }
+        ensures node { (cell : Cell H) × (slice_get self.old place ≡ Some (Some cell)) × (cell.node ≡ Some result) }
         ensures waiting { self.new ≡ waiting queue since self.old place }
     {
-        match &mut self.slots[place] {
-            Some(slot) => {
-                slot.row.phase = Phase::Waiting(queue, since);
-                match slot.node.take() {
+        match &mut self.cells[place] {
+            Some(cell) => {
+                cell.row.phase = Phase::Waiting(queue, since);
+                match cell.node.take() {
                     Some(node) => node,
                     None => unreachable!(),
                 }
@@ -172,11 +172,11 @@ impl<H: Drop> Places<H> {
         requires { HasRow self.old place }
         ensures { self.new ≡ loosened node self.old place }
     {
-        let Some(slot) = &mut self.slots[place] else {
+        let Some(cell) = &mut self.cells[place] else {
             unreachable!()
         };
-        slot.row.phase = Phase::Loose;
-        slot.node = Some(node);
+        cell.row.phase = Phase::Loose;
+        cell.node = Some(node);
     }
 
     /// Removes the row, whose place is free then. `O(log n)`.
@@ -184,10 +184,10 @@ impl<H: Drop> Places<H> {
         requires { HasRow self.old place }
         ensures { self.new ≡ slice_set self.old place None }
     {
-        let Some(slot) = self.slots[place].take() else {
+        let Some(cell) = self.cells[place].take() else {
             unreachable!()
         };
-        self.index.remove(slot.row.key.ticket);
+        self.index.remove(cell.row.key.ticket);
         self.vacant.push_reserved(place);
     }
 }

@@ -1,5 +1,5 @@
 ghost use Rattle.std.specs.Prelude.{◌≡◌, ℕ, ◌<◌, ◌≤◌, [], ◌∷◌, ◌++◌, true, IfOk, All, Contains, MatchOption, IfSome, filter, length, vec_len, vec_capacity};
-ghost use Rattle.slot_ledger.specs.Tickets.{AreStretches, HasTicketAmong, IsAboveLast, TicketIsAbsent, IsInStretches, IsRising, TicketsAreWithin, SweepsOneOn, Removes, has_place, pairs_in, stretches};
+ghost use Rattle.slot_ledger.specs.Tickets.{AreStretches, HasTicketAmong, IsAboveLast, TicketIsAbsent, IsInStretches, IsRising, TicketsAreWithin, SweepsOneOn, Removes, has_place, number_pairs, stretches};
 
 use std::alloc::{AllocError, Global};
 use std::marker::Model;
@@ -13,29 +13,29 @@ struct TicketPlace {
 
 /// The places of tickets. Each call is `O(log n)` while each new ticket is above all before it.
 ///
-/// A removed ticket stays as an entry without a place until a sweep passes it, and each new ticket
-/// moves the sweep on by four entries. With at most `p` tickets, a sweep that begins with `f`
-/// entries is over after `f / 3` new tickets, rounded up, and leaves at most `p - 1` entries and
-/// one for each of these. So none begins with more than `3p / 2` entries, and there are never more
+/// A removed ticket stays as an pair without a place until a sweep passes it, and each new ticket
+/// moves the sweep on by four pairs. With at most `p` tickets, a sweep that begins with `f`
+/// pairs is over after `f / 3` new tickets, rounded up, and leaves at most `p - 1` pairs and
+/// one for each of these. So none begins with more than `3p / 2` pairs, and there are never more
 /// than `2p`.
 #[derive(Drop)]
 pub(crate) struct Tickets {
-    // By rising ticket: the entries before `kept`, which the sweep has passed, and those from
-    // `next` on. The entries between them no longer count.
-    entries: Vec<TicketPlace>,
+    // By rising ticket: the pairs before `kept`, which the sweep has passed, and those from
+    // `next` on. The pairs between them no longer count.
+    pairs: Vec<TicketPlace>,
     kept: usize,
     next: usize,
 }
 
 impl Model for Tickets {
     ghost use Rattle.std.specs.Prelude.{vec_capacity};
-    ghost use Rattle.slot_ledger.specs.Tickets.{AreStretches, Indexed, pairs_in, stretches};
+    ghost use Rattle.slot_ledger.specs.Tickets.{AreStretches, Indexed, number_pairs, stretches};
 
     ghost Value = { Indexed };
 
-    ghost view = { λ index. record { pairs = pairs_in (stretches index.kept index.next index.entries.items); room = vec_capacity index.entries } };
+    ghost view = { λ index. record { pairs = number_pairs (stretches index.kept index.next index.pairs.items); room = vec_capacity index.pairs } };
 
-    ghost invariant = { λ index. AreStretches index.kept index.next index.entries.items };
+    ghost invariant = { λ index. AreStretches index.kept index.next index.pairs.items };
 }
 
 impl Tickets {
@@ -45,7 +45,7 @@ impl Tickets {
         ensures room { IfOk result (λ index. places ≤ index.room) }
     {
         Ok(Tickets {
-            entries: Vec::with_capacity(alloc, places.saturating_mul(2))?,
+            pairs: Vec::with_capacity(alloc, places.saturating_mul(2))?,
             kept: 0,
             next: 0,
         })
@@ -55,8 +55,8 @@ impl Tickets {
     pub(crate) fn get(&self, ticket: u64) -> Option<usize>
         ensures { MatchOption result (TicketIsAbsent ticket self.now.pairs) (λ place. Contains self.now.pairs (ticket, place)) }
     {
-        let at = position(&self.entries, self.kept, self.next, ticket)?;
-        self.entries[at].place
+        let at = position(&self.pairs, self.kept, self.next, ticket)?;
+        self.pairs[at].place
     }
 
     /// Adds a ticket above all others. `O(1)`, and `O(n)` where a higher one was removed.
@@ -70,12 +70,12 @@ impl Tickets {
             self.sweep();
         }
         // A ticket above all removed ones always finds room.
-        if !takes(&self.entries, ticket) {
-            compact(&mut self.entries, self.kept, self.next);
+        if !takes(&self.pairs, ticket) {
+            compact(&mut self.pairs, self.kept, self.next);
             self.kept = 0;
             self.next = 0;
         }
-        self.entries.push_reserved(TicketPlace {
+        self.pairs.push_reserved(TicketPlace {
             ticket,
             place: Some(place),
         });
@@ -87,107 +87,105 @@ impl Tickets {
         ensures removed { Removes ticket self.old.pairs self.new.pairs }
         ensures room { self.new.room ≡ self.old.room }
     {
-        if let Some(at) = position(&self.entries, self.kept, self.next, ticket) {
-            self.entries[at] = TicketPlace {
+        if let Some(at) = position(&self.pairs, self.kept, self.next, ticket) {
+            self.pairs[at] = TicketPlace {
                 ticket,
                 place: None,
             };
         }
     }
 
-    // Passes one entry, and begins again after the last one.
+    // Passes one pair, and begins again after the last one.
     fn sweep(&mut self)
         ensures { self.new ≡ self.old }
     {
-        if self.entries.is_empty() {
+        if self.pairs.is_empty() {
             return;
         }
-        self.kept = pass(&mut self.entries, self.kept, self.next);
+        self.kept = keep_if_placed(&mut self.pairs, self.kept, self.next);
         self.next += 1;
-        if self.next == self.entries.len() {
-            self.entries.truncate(self.kept);
+        if self.next == self.pairs.len() {
+            self.pairs.truncate(self.kept);
             self.kept = 0;
             self.next = 0;
         }
     }
 }
 
-// Keeps the entry at `next` if it has a place. Returns how many are kept then.
-fn pass(entries: &mut [TicketPlace], kept: usize, next: usize) -> usize
-    requires within { next < length entries.old }
-    requires stretches { AreStretches kept next entries.old }
-    ensures { SweepsOneOn kept next result entries.old entries.new }
+// Keeps the pair at `next` if it has a place. Returns how many are kept then.
+fn keep_if_placed(pairs: &mut [TicketPlace], kept: usize, next: usize) -> usize
+    requires within { next < length pairs.old }
+    requires stretches { AreStretches kept next pairs.old }
+    ensures { SweepsOneOn kept next result pairs.old pairs.new }
 {
-    let entry = entries[next];
-    if entry.place.is_none() {
+    let pair = pairs[next];
+    if pair.place.is_none() {
         return kept;
     }
-    entries[kept] = entry;
+    pairs[kept] = pair;
     kept + 1
 }
 
 // Says whether the ticket can be appended as it is.
-fn takes(entries: &Vec<TicketPlace>, ticket: u64) -> bool
-    ensures room { result ≡ true → vec_len entries.now < vec_capacity entries.now }
-    ensures highest { result ≡ true → IsAboveLast ticket entries.now.items }
+fn takes(pairs: &Vec<TicketPlace>, ticket: u64) -> bool
+    ensures room { result ≡ true → vec_len pairs.now < vec_capacity pairs.now }
+    ensures highest { result ≡ true → IsAboveLast ticket pairs.now.items }
 {
-    entries.len() < entries.capacity() && entries.last().is_none_or(|last| last.ticket < ticket)
+    pairs.len() < pairs.capacity() && pairs.last().is_none_or(|last| last.ticket < ticket)
 }
 
-// Keeps the entries that have a place alone. `O(n)`.
-fn compact(entries: &mut Vec<TicketPlace>, kept: usize, next: usize)
-    requires { TicketsAreWithin kept next entries.old.items }
-    ensures items { entries.new.items ≡ filter has_place (stretches kept next entries.old.items) }
-    ensures capacity { vec_capacity entries.new ≡ vec_capacity entries.old }
+// Keeps the pairs that have a place alone. `O(n)`.
+fn compact(pairs: &mut Vec<TicketPlace>, kept: usize, next: usize)
+    requires { TicketsAreWithin kept next pairs.old.items }
+    ensures items { pairs.new.items ≡ filter has_place (stretches kept next pairs.old.items) }
+    ensures capacity { vec_capacity pairs.new ≡ vec_capacity pairs.old }
 {
-    cut(entries, kept, next);
-    entries.retain(|entry| entry.place.is_some());
+    cut(pairs, kept, next);
+    pairs.retain(|pair| pair.place.is_some());
 }
 
-// Removes the entries from one position up to another.
-fn cut(entries: &mut Vec<TicketPlace>, from: usize, to: usize)
-    requires { TicketsAreWithin from to entries.old.items }
-    ensures items { entries.new.items ≡ stretches from to entries.old.items }
-    ensures capacity { vec_capacity entries.new ≡ vec_capacity entries.old }
+// Removes the pairs from one position up to another.
+fn cut(pairs: &mut Vec<TicketPlace>, from: usize, to: usize)
+    requires { TicketsAreWithin from to pairs.old.items }
+    ensures items { pairs.new.items ≡ stretches from to pairs.old.items }
+    ensures capacity { vec_capacity pairs.new ≡ vec_capacity pairs.old }
 {
-    entries.drain(from..to);
+    pairs.drain(from..to);
 }
 
-// Returns the position of a ticket's entry.
-fn position(entries: &[TicketPlace], kept: usize, next: usize, ticket: u64) -> Option<usize>
-    requires { AreStretches kept next entries.now }
-    ensures { MatchOption result (TicketIsAbsent ticket (pairs_in (stretches kept next entries.now))) (λ at. IsInStretches ticket kept next entries.now at) }
+// Returns the position of a ticket's pair.
+fn position(pairs: &[TicketPlace], kept: usize, next: usize, ticket: u64) -> Option<usize>
+    requires { AreStretches kept next pairs.now }
+    ensures { MatchOption result (TicketIsAbsent ticket (number_pairs (stretches kept next pairs.now))) (λ at. IsInStretches ticket kept next pairs.now at) }
 {
-    if let Some(ahead) = guess(&entries[next..], ticket) {
+    if let Some(ahead) = guess(&pairs[next..], ticket) {
         return Some(next + ahead);
     }
-    if let Some(at) = search(&entries[..kept], ticket) {
+    if let Some(at) = search(&pairs[..kept], ticket) {
         return Some(at);
     }
-    let at = search(&entries[next..], ticket)?;
+    let at = search(&pairs[next..], ticket)?;
     Some(next + at)
 }
 
-// The same among entries by rising ticket.
-fn search(entries: &[TicketPlace], ticket: u64) -> Option<usize>
-    requires { IsRising entries.now }
-    ensures { MatchOption result (TicketIsAbsent ticket (pairs_in entries.now)) (λ at. HasTicketAmong ticket entries.now at) }
+// The same among pairs by rising ticket.
+fn search(pairs: &[TicketPlace], ticket: u64) -> Option<usize>
+    requires { IsRising pairs.now }
+    ensures { MatchOption result (TicketIsAbsent ticket (number_pairs pairs.now)) (λ at. HasTicketAmong ticket pairs.now at) }
 {
-    if let Some(at) = guess(entries, ticket) {
+    if let Some(at) = guess(pairs, ticket) {
         return Some(at);
     }
-    entries
-        .binary_search_by_key(&ticket, |entry| entry.ticket)
-        .ok()
+    pairs.binary_search_by_key(&ticket, |pair| pair.ticket).ok()
 }
 
 // The same at once where no ticket is missing from the first to it, as when requests end in the
 // order in which they came.
-fn guess(entries: &[TicketPlace], ticket: u64) -> Option<usize>
-    ensures { IfSome result (λ at. HasTicketAmong ticket entries.now at) }
+fn guess(pairs: &[TicketPlace], ticket: u64) -> Option<usize>
+    ensures { IfSome result (λ at. HasTicketAmong ticket pairs.now at) }
 {
-    let at = ticket.checked_sub(entries.first()?.ticket)? as usize;
-    if entries.get(at)?.ticket == ticket {
+    let at = ticket.checked_sub(pairs.first()?.ticket)? as usize;
+    if pairs.get(at)?.ticket == ticket {
         Some(at)
     } else {
         None

@@ -11,9 +11,9 @@ use base_verdict::Ending;
 use dispatch_core::Core;
 use dispatch_state::Ticketed;
 use due_key::{Class, Key, Moment, Offset};
-use grant_board::{Board, BoardName, KeeperSeat, RelaySeat, Taking};
+use grant_board::{Board, KeeperSeat, RelaySeat, Taking};
 use late_cert::Running;
-use locked_book::{Book, Wanted};
+use locked_book::{Book, DeskName, Wanted};
 use log_entries::{Queue, ServerSet, Servers, Setup};
 use pend_queue::ListQueue;
 use std::alloc::Global;
@@ -47,7 +47,7 @@ fn dispatcher(rt: &impl Abort, alloc: Global) -> Core<Lists>
 }
 
 // A request without a class, an offset and a pin arrives.
-fn arrive<N: BoardName>(
+fn arrive<N: DeskName>(
     rt: &impl Abort,
     alloc: Global,
     board: &Board,
@@ -67,7 +67,7 @@ fn arrive<N: BoardName>(
 }
 
 // Makes a turn, and returns the first place that it wakes.
-fn turn<N: BoardName>(rt: &impl Abort, board: &Board, book: &mut Book<Lists, N>) -> Option<usize>
+fn turn<N: DeskName>(rt: &impl Abort, board: &Board, book: &mut Book<Lists, N>) -> Option<usize>
     requires { board.now ≡ N.board }
 {
     let mut woken = PlaceSet::new();
@@ -76,12 +76,12 @@ fn turn<N: BoardName>(rt: &impl Abort, board: &Board, book: &mut Book<Lists, N>)
     woken.next(0)
 }
 
-fn worst<N: BoardName>(book: &Book<Lists, N>) -> Option<i64> {
+fn worst<N: DeskName>(book: &Book<Lists, N>) -> Option<i64> {
     book.worst(Queue::Backend, Class::clamp(0))
 }
 
 // Returns the number of passes that the seat has between its take and its post, and after it.
-fn vouch<N: BoardName>(
+fn vouch<N: DeskName>(
     rt: &impl Abort,
     board: &Board,
     book: &mut Book<Lists, N>,
@@ -104,7 +104,7 @@ fn vouch<N: BoardName>(
 
 // Two requests arrive; the second one is offered once the first one is over. Returns the passes,
 // the place that was woken and the worst lateness.
-fn serve_two<N: BoardName>(
+fn serve_two<N: DeskName>(
     rt: &impl Abort,
     alloc: Global,
     board: &Board,
@@ -121,7 +121,7 @@ fn serve_two<N: BoardName>(
     (taken, posted, woken, worst(book))
 }
 
-fn keep_book<N: BoardName>(
+fn keep_book<N: DeskName>(
     rt: &impl Abort,
     alloc: Global,
     core: Core<Lists>,
@@ -131,6 +131,7 @@ fn keep_book<N: BoardName>(
     requires first { core ≡ first_window core.setup [] }
     requires named { (opened.0 ≡ N.board) × (opened.1.board ≡ N.board) × (opened.2.board ≡ N.board) }
     requires terms { N.terms ≡ terms_for core.setup }
+    requires setup { N.setup ≡ core.setup }
     requires seats { (opened.1.view ≡ new_keeper N.terms) × (opened.2.view.terms ≡ N.terms) }
     requires running { IsNew running (length core.setup.servers) }
 {

@@ -9,14 +9,14 @@ ghost use Rattle.dispatch_reports.specs.Reporting.{IsNew};
 use base_places::PlaceSet;
 use base_verdict::{Cause, Ending, Verdict};
 use dispatch_core::Core;
-use dispatch_reports::{ServerLine, Window};
+use dispatch_reports::{EndedWindow, ServerLine};
 use dispatch_state::Ticketed;
 use due_key::{Class, Due, Moment, Offset};
-use grant_board::{Board, BoardName, Closing, KeeperSeat, RelaySeat, Taking};
+use grant_board::{Board, Closing, KeeperSeat, RelaySeat, Taking};
 use late_cert::{Report, Reports, Running, Stay};
-use locked_book::Wanted;
+use locked_book::{DeskName, Wanted};
 use log_entries::{Intake, Queue, Refusal, ServerSet, Servers, Setup};
-use shared_desk::{Desk, Queues};
+use shared_desk::{Desk, DeskQueue};
 use std::alloc::{AllocError, Global};
 use std::marker::Brand;
 use std::process::Abort;
@@ -33,7 +33,7 @@ mod windows;
 // A fresh dispatcher and the board for its places and limits.
 #[derive(Drop)]
 struct Opened {
-    core: Core<Queues>,
+    core: Core<DeskQueue>,
     board: Board,
     seat: KeeperSeat,
     relay: RelaySeat,
@@ -43,6 +43,19 @@ struct Opened {
     ghost keeper: { seat.view ≡ new_keeper (terms_for core.setup) },
     ghost views: { relay.view ≡ new_relay (terms_for core.setup) true },
     ghost told_nothing: { IsNew running (length core.setup.servers) },
+}
+
+// Says whether a window ended.
+fn has_ended(made: Option<EndedWindow>) -> bool {
+    match made {
+        Some(
+            EndedWindow {
+                reports: _,
+                servers: _,
+            },
+        ) => true,
+        None => false,
+    }
 }
 
 // A server whose health one check result decides.
@@ -103,9 +116,10 @@ fn setup_of_one(alloc: Global, places: usize, log: usize, limit: u32) -> Result<
 }
 
 // Makes a desk of what was opened, and the first of the seats that take passes.
-fn start<N: BoardName>(opened: Opened) -> (Desk<N>, RelaySeat)
+fn start<N: DeskName>(opened: Opened) -> (Desk<N>, RelaySeat)
     requires named { opened.board ≡ N.board }
     requires terms { N.terms ≡ terms_for opened.core.setup }
+    requires setup { N.setup ≡ opened.core.setup }
     ensures board { result.1.board ≡ N.board }
     ensures view { result.1.view ≡ new_relay N.terms true }
 {
@@ -134,7 +148,7 @@ fn at(millis: u64) -> Moment {
 }
 
 // Lets a request arrive that isn't refused.
-fn arrive<N: BoardName, R: Abort + Wait>(
+fn arrive<N: DeskName, R: Abort + Wait>(
     rt: &R,
     alloc: Global,
     desk: &Desk<N>,
@@ -149,14 +163,14 @@ fn arrive<N: BoardName, R: Abort + Wait>(
 }
 
 // Makes a turn that isn't refused, and returns the first place that it woke.
-fn turn<N: BoardName, R: Abort + Wait>(rt: &R, desk: &Desk<N>, moment: u64) -> Option<usize> {
+fn turn<N: DeskName, R: Abort + Wait>(rt: &R, desk: &Desk<N>, moment: u64) -> Option<usize> {
     let mut woken = PlaceSet::new();
     let answer = desk.turn(rt, at(moment), &mut woken);
     answer.expect(rt, "a turn");
     woken.next(0)
 }
 
-fn check<N: BoardName, R: Abort + Wait>(
+fn check<N: DeskName, R: Abort + Wait>(
     rt: &R,
     desk: &Desk<N>,
     moment: u64,
@@ -185,11 +199,11 @@ fn serve(board: &Board, relay: &mut RelaySeat, it: Ticketed) -> Option<Verdict>
 }
 
 // Returns the greatest lateness of a class in the backend's queue.
-fn worst<N: BoardName, R: Wait>(rt: &R, desk: &Desk<N>, class: i64) -> Option<i64> {
+fn worst<N: DeskName, R: Wait>(rt: &R, desk: &Desk<N>, class: i64) -> Option<i64> {
     desk.worst(rt, Queue::Backend, Class::clamp(class))
 }
 
-fn reports<N: BoardName, R: Abort + Wait>(rt: &R, alloc: Global, desk: &Desk<N>) -> Reports {
+fn reports<N: DeskName, R: Abort + Wait>(rt: &R, alloc: Global, desk: &Desk<N>) -> Reports {
     desk.report(rt, alloc).expect(rt, "memory")
 }
 

@@ -3,7 +3,7 @@ ghost use Rattle.log_entries.specs.Histories.{first_window};
 
 use crate::assertions::{holds, same};
 use dispatch_core::{Core, Event};
-use dispatch_reports::{ReportingCore, ServerLine};
+use dispatch_reports::{EndedWindow, ReportingCore, ServerLine};
 use due_key::{Class, Key, Moment, Offset};
 use late_cert::Running;
 use log_entries::{Queue, ServerSet, Servers, Setup};
@@ -89,7 +89,7 @@ fn make_room(
     core: &mut ReportingCore<Lists>,
 ) -> Option<(usize, usize)> {
     match core.make_room(alloc).expect(rt, "memory") {
-        Some(window) => Some((window.reports.len(), window.servers.len())),
+        Some(EndedWindow { reports, servers }) => Some((reports.len(), servers.len())),
         None => None,
     }
 }

@@ -1,14 +1,14 @@
 //! Tests of the command line: what its words ask for.
 
 use crate::assertions::holds;
-use config_command::{AdminFault, Input, Numbers, Sections, Subcommand, admin_address, parse};
+use config_command::{AdminFault, Input, RunNumbers, Sections, Subcommand, admin_address, parse};
 use due_key::Class;
 use std::alloc::Global;
 use std::process::Abort;
 
 /// What is asked for, with static texts.
 enum Expected {
-    Run(&'static str, Numbers),
+    Run(&'static str, RunNumbers),
     Replay(From),
     Demo(bool),
     Check(&'static str),
@@ -31,7 +31,7 @@ enum From {
 /// The words of a command line with a blank between each two, and what they ask for.
 type CommandRow = (&'static str, Expected);
 
-const SIZES: Numbers = Numbers {
+const SIZES: RunNumbers = RunNumbers {
     workers: Some(7),
     loops: None,
     waiting: None,
@@ -43,7 +43,7 @@ const SIZES: Numbers = Numbers {
     forwarded_for: false,
 };
 
-const STAYING: Numbers = Numbers {
+const STAYING: RunNumbers = RunNumbers {
     workers: None,
     loops: None,
     waiting: None,
@@ -165,7 +165,7 @@ fn an_admin_address_is_one_of_this_machine(rt: HostRuntime) {
     }
 }
 
-fn is_run(asked: &Subcommand, name: &str, numbers: &Numbers) -> bool {
+fn is_run(asked: &Subcommand, name: &str, numbers: &RunNumbers) -> bool {
     match asked {
         Subcommand::Run(file, sizes, _) => file.as_str() == name && sizes == numbers,
         _ => false,

@@ -1,5 +1,5 @@
 ghost use Rattle.std.specs.Prelude.{◌≡◌, ℕ, ◌<◌, None, length, replicate};
-ghost use Rattle.slot_ledger.specs.Slots.{AreBelow};
+ghost use Rattle.slot_ledger.specs.Cells.{AreBelow};
 
 use crate::assertions::{holds, same};
 use base_verdict::Cause;
@@ -17,7 +17,7 @@ fn moment(number: u64) -> Moment {
 // Two servers of one slot each, and no request.
 fn made(rt: &impl Abort, alloc: Global, places: usize) -> Ledger<char>
     ensures servers { length result.setup.servers ≡ 2 }
-    ensures empty { result.slots ≡ replicate places None }
+    ensures empty { result.cells ≡ replicate places None }
 {
     let server = ServerSet {
         limit: 1,
@@ -61,8 +61,8 @@ fn row_of(ticket: u64, pin: Option<usize>, phase: Phase) -> Row
 
 // Puts a row with the ticket at a free place.
 fn admit(rt: &impl Abort, ledger: &mut Ledger<char>, ticket: u64) -> usize
-    requires { AreBelow ticket ledger.old.slots }
-    ensures { (n : ℕ) → ticket < n → AreBelow n ledger.new.slots }
+    requires { AreBelow ticket ledger.old.cells }
+    ensures { (n : ℕ) → ticket < n → AreBelow n ledger.new.cells }
 {
     holds(rt, ledger.len() < ledger.places());
     let key = key_of(ticket);
@@ -76,7 +76,7 @@ fn admit(rt: &impl Abort, ledger: &mut Ledger<char>, ticket: u64) -> usize
 }
 
 fn end(rt: &impl Abort, ledger: &mut Ledger<char>, ticket: u64)
-    ensures { (n : ℕ) → AreBelow n ledger.old.slots → AreBelow n ledger.new.slots }
+    ensures { (n : ℕ) → AreBelow n ledger.old.cells → AreBelow n ledger.new.cells }
 {
     let place = ledger.find(ticket).expect(rt, "a place");
     ledger.end(place);
@@ -84,7 +84,7 @@ fn end(rt: &impl Abort, ledger: &mut Ledger<char>, ticket: u64)
 
 // A request comes and goes.
 fn pass(rt: &impl Abort, ledger: &mut Ledger<char>, ticket: u64)
-    requires { AreBelow ticket ledger.old.slots }
+    requires { AreBelow ticket ledger.old.cells }
     ensures { ledger.new ≡ ledger.old }
 {
     holds(rt, ledger.len() < ledger.places());
@@ -107,7 +107,7 @@ fn an_old_ticket_is_found_after_many(rt: HostRuntime) {
 }
 
 fn find_the_first(rt: &impl Abort, ledger: &mut Ledger<char>)
-    requires { ledger.old.slots ≡ replicate 4 None }
+    requires { ledger.old.cells ≡ replicate 4 None }
 {
     let place = admit(rt, ledger, 0);
     for ticket in 1..200 {
@@ -131,7 +131,7 @@ fn a_lower_ticket_comes_after_a_higher_one(rt: HostRuntime) {
 }
 
 fn find_both(rt: &impl Abort, ledger: &mut Ledger<char>)
-    requires { ledger.old.slots ≡ replicate 2 None }
+    requires { ledger.old.cells ≡ replicate 2 None }
 {
     let first = admit(rt, ledger, 3);
     pass(rt, ledger, 9);
@@ -153,7 +153,7 @@ fn a_request_goes_its_way(rt: HostRuntime) {
 
 fn go_its_way(rt: &impl Abort, ledger: &mut Ledger<char>)
     requires servers { length ledger.old.setup.servers ≡ 2 }
-    requires empty { ledger.old.slots ≡ replicate 2 None }
+    requires empty { ledger.old.cells ≡ replicate 2 None }
 {
     same(
         rt,
@@ -194,7 +194,7 @@ fn a_server_goes_down_and_up(rt: HostRuntime) {
 
 fn go_down_and_up(rt: &impl Abort, ledger: &mut Ledger<char>)
     requires servers { length ledger.old.setup.servers ≡ 2 }
-    requires empty { ledger.old.slots ≡ replicate 2 None }
+    requires empty { ledger.old.cells ≡ replicate 2 None }
 {
     same(
         rt,
@@ -236,7 +236,7 @@ fn a_limit_is_set_while_a_request_is_served(rt: HostRuntime) {
 
 fn set_a_limit(rt: &impl Abort, ledger: &mut Ledger<char>)
     requires servers { length ledger.old.setup.servers ≡ 2 }
-    requires empty { ledger.old.slots ≡ replicate 2 None }
+    requires empty { ledger.old.cells ≡ replicate 2 None }
 {
     let place = ledger.admit(row_of(5, None, Phase::Serving(0)));
     same(

@@ -76,7 +76,7 @@ fn sets_have_what_was_inserted(rt: HostRuntime) {
 // Three servers of one slot each, and four places without a request.
 fn three_servers(rt: &impl Abort, alloc: Global) -> Ledger<char>
     ensures servers { length result.setup.servers ≡ 3 }
-    ensures empty { result.slots ≡ replicate 4 None }
+    ensures empty { result.cells ≡ replicate 4 None }
 {
     let server = ServerSet {
         limit: 1,
@@ -139,7 +139,7 @@ fn a_server_that_is_down_takes_nothing(rt: HostRuntime) {
 
 fn take_past_a_fall(rt: &impl Abort, ledger: &mut Ledger<char>, key: &Key)
     requires servers { length ledger.old.setup.servers ≡ 3 }
-    requires empty { ledger.old.slots ≡ replicate 4 None }
+    requires empty { ledger.old.cells ≡ replicate 4 None }
 {
     ledger.admit(Row {
         key: *key,
@@ -177,7 +177,7 @@ fn a_server_takes_up_to_its_present_limit(rt: HostRuntime) {
 // The first server serves a request.
 fn serve_one(ledger: &mut Ledger<char>)
     requires servers { length ledger.old.setup.servers ≡ 3 }
-    requires empty { ledger.old.slots ≡ replicate 4 None }
+    requires empty { ledger.old.cells ≡ replicate 4 None }
 {
     ledger.admit(Row {
         key: key(1),

@@ -286,8 +286,8 @@ impl Desk {
                 let pass = dialing.abandon();
                 self.take(rt, Outcome::Posts(pass, Ending::Done));
             }
-            Exchange::Passing(passing) => {
-                let pass = passing.abandon();
+            Exchange::Forwarding(forwarding) => {
+                let pass = forwarding.abandon();
                 self.take(rt, Outcome::Posts(pass, Ending::Done));
             }
             Exchange::Asking(_)

@@ -1,7 +1,7 @@
 //! Tests of exchanges, each cut in many ways in both directions, with the sides in many orders.
 
 use crate::playing::{Cut, Move, Stage, Table};
-use exchange_events::Clock;
+use exchange_events::TimeoutKind;
 use std::alloc::Global;
 use std::process::Abort;
 use std::test::Fail;
@@ -230,7 +230,7 @@ static FAULTS: [Row; 9] = [
             Move::Client(GET),
             Move::Grant,
             Move::Connected(true),
-            Move::Over(Clock::Server),
+            Move::Over(TimeoutKind::Server),
         ],
         aborts: false,
         sent: GET,
@@ -312,7 +312,7 @@ static REFUSALS: [Row; 4] = [
     },
     Row {
         name: "no pass",
-        moves: &[Move::Client(GET), Move::Over(Clock::Queue)],
+        moves: &[Move::Client(GET), Move::Over(TimeoutKind::Queue)],
         aborts: false,
         sent: b"",
         told: UNAVAILABLE,
@@ -321,7 +321,7 @@ static REFUSALS: [Row; 4] = [
     },
     Row {
         name: "half a head",
-        moves: &[Move::Client(b"GET /a HT"), Move::Over(Clock::Client)],
+        moves: &[Move::Client(b"GET /a HT"), Move::Over(TimeoutKind::Client)],
         aborts: false,
         sent: b"",
         told: BAD,
@@ -471,7 +471,7 @@ static AGAIN: [Row; 2] = [
             Move::Connected(true),
             Move::ServerEnd,
             Move::Free,
-            Move::Over(Clock::Connect),
+            Move::Over(TimeoutKind::Connect),
         ],
         aborts: false,
         sent: b"",

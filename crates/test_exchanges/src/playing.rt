@@ -3,7 +3,7 @@ ghost use Rattle.std.specs.Prelude.{◌<◌};
 
 use crate::till::Till;
 use base_verdict::Ending;
-use exchange_events::{Clock, Event, Exchange, Outcome, Rules, Step};
+use exchange_events::{Event, Exchange, Outcome, Rules, Step, TimeoutKind};
 use exchange_machine::Terms;
 use grant_board::Pass;
 use http_texts::{Additions, Persistence};
@@ -30,7 +30,7 @@ pub(crate) enum Move {
     ServerEnd,
     ServerFailed,
     ServerDeaf,
-    Over(Clock),
+    Over(TimeoutKind),
     /// The client asks again, and may.
     Again,
     /// It may not ask again.
@@ -112,7 +112,7 @@ pub(crate) enum Stage {
     Asking,
     Waiting,
     Dialing,
-    Passing,
+    Forwarding,
     Settling,
     Leaving,
     Telling,
@@ -410,10 +410,10 @@ impl Table {
                 self.post(rt, pass, Ending::Done);
                 Stage::Dialing
             }
-            Exchange::Passing(passing) => {
-                let pass = passing.abandon();
+            Exchange::Forwarding(forwarding) => {
+                let pass = forwarding.abandon();
                 self.post(rt, pass, Ending::Done);
-                Stage::Passing
+                Stage::Forwarding
             }
             Exchange::Settling(_) => Stage::Settling,
             Exchange::Leaving(_) => Stage::Leaving,

@@ -1,6 +1,6 @@
 //! Tests of calls that a signal interrupts.
 
-use exchange_driver::{Duplex, Heard, Said, Socket};
+use exchange_driver::{Duplex, ReadResult, Socket, WriteResult};
 use std::alloc::Global;
 use std::io;
 use std::io::{Read, Write};
@@ -69,9 +69,12 @@ fn signalled(alloc: Global, signals: u32) -> Duplex<Giver, Taker> {
 fn a_signal_is_neither_an_end_nor_a_failure(rt: HostRuntime) {
     let mut side = signalled(rt.alloc(), 3);
     let mut buffer = [0u8; 4];
-    assert_eq!(rt; side.read_now(&mut buffer), Heard::Bytes(2));
+    assert_eq!(rt; side.read_now(&mut buffer), ReadResult::Bytes(2));
     assert_eq!(rt; &buffer[..2], b"hi".as_slice());
-    assert_eq!(rt; side.read_now(&mut buffer), Heard::Ended { well: true });
-    assert_eq!(rt; side.write_now(b"yes"), Said::Bytes(3));
+    assert_eq!(rt;
+        side.read_now(&mut buffer),
+        ReadResult::Ended { well: true }
+    );
+    assert_eq!(rt; side.write_now(b"yes"), WriteResult::Bytes(3));
     assert_eq!(rt; side.writes.bytes.as_slice(), b"yes".as_slice());
 }

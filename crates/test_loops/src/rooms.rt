@@ -1,7 +1,7 @@
 use crate::assertions::{holds, same};
 use due_key::{Class, Due, Key, Moment, Offset};
 use pend_queue::ListQueue;
-use queue_outside::{Cause, OutsideOrder, remaining};
+use queue_outside::{OutsideOrder, RoomFault, remaining};
 use std::alloc::Global;
 
 type Room = OutsideOrder<ListQueue<Key, usize>>;
@@ -17,7 +17,7 @@ fn come(
     wish: (i64, i64),
     millis: u64,
     guest: usize,
-) -> Result<Key, Cause> {
+) -> Result<Key, RoomFault> {
     let (class, offset) = (Class::clamp(wish.0), Offset::clamp(wish.1));
     room.come(alloc, class, offset, at(millis), guest)
 }
@@ -30,7 +30,11 @@ fn guests_leave_by_class_and_due_date(rt: HostRuntime) {
     let urgent = come(&mut room, alloc, (0, -50), 20, 8);
     let behind = come(&mut room, alloc, (1, -90), 30, 9);
     holds(&rt, late.is_ok() && behind.is_ok());
-    same(&rt, come(&mut room, alloc, (0, 0), 40, 6), Err(Cause::Full));
+    same(
+        &rt,
+        come(&mut room, alloc, (0, 0), 40, 6),
+        Err(RoomFault::Full),
+    );
     let first = room.first().map(|it| it.1);
     same(&rt, first, Some(8));
     same(&rt, room.leave(urgent.expect(&rt, "a key")), Some(8));

@@ -1,25 +1,25 @@
 use crate::assertions::{holds, same};
 use due_key::Moment;
-use loop_table::{Limits, Overdue, Slots};
+use loop_table::{Overdue, Timers, TokenTable};
 
 fn at(millis: u64) -> Moment {
     Moment::new(millis).unwrap_or(Moment::zero())
 }
 
 // Returns the key of an expired timeout.
-fn over(limits: &mut Limits) -> Option<usize> {
+fn over(limits: &mut Timers) -> Option<usize> {
     match limits.take_overdue() {
         None => None,
         Some(overdue) => {
-            let Overdue { keyword: _, key } = overdue;
-            Some(key)
+            let Overdue { keyword: _, cell } = overdue;
+            Some(cell)
         }
     }
 }
 
 #[test]
 fn a_token_names_one_value(rt: HostRuntime) {
-    let mut slots = Slots::<u64>::with_room(rt.alloc(), 1).expect(&rt, "memory");
+    let mut slots = TokenTable::<u64>::with_room(rt.alloc(), 1).expect(&rt, "memory");
     let first = slots.put(11).expect(&rt, "a slot");
     same(&rt, slots.get(first).copied(), Some(11));
     holds(&rt, slots.is_full() && slots.is_held(first));
@@ -40,7 +40,7 @@ fn a_token_names_one_value(rt: HostRuntime) {
 
 #[test]
 fn who_began_first_is_over_first(rt: HostRuntime) {
-    let mut limits = Limits::new(rt.alloc());
+    let mut limits = Timers::new(rt.alloc());
     let keyword = limits.add(rt.alloc(), 10, 4).expect(&rt, "memory");
     limits.begin(keyword, 1);
     limits.look_at_clock(at(5));

@@ -28,7 +28,8 @@ impl Passage {
         let _turns = self.pipe.turns();
         let mut source = Counted::new(input);
         let mut sink = Counted::new(&mut self.output);
-        self.pipe.pass_body(&mut source, &mut sink, framing, framed)
+        self.pipe
+            .forward_body(&mut source, &mut sink, framing, framed)
     }
 
     fn flush(&mut self) -> Result<(), Fault> {

@@ -3,7 +3,7 @@
 use base_verdict::Cause;
 use due_key::{Class, Due, Moment, Offset};
 use log_entries::{Arrival, Entry, Queue};
-use log_lines::{Account, By, During, Follower, Proportions, ProxyNumbers, push_metrics};
+use log_lines::{Account, During, EndedBy, Follower, Proportions, ProxyNumbers, push_metrics};
 use log_texts::Names;
 use std::alloc::Global;
 use std::process::Abort;
@@ -121,7 +121,7 @@ fn who_was_aborted_since_its_time_was_over_timed_out(rt: HostRuntime) {
         Entry::Left(2, Cause::Aborted),
     ];
     let (mut numbers, follower) = counted(&rt, rt.alloc(), &entries);
-    for (ticket, by) in [(1, By::Client), (2, By::ServerTime)] {
+    for (ticket, by) in [(1, EndedBy::Client), (2, EndedBy::ServerTime)] {
         let mut account = Account::new(None, moment(&rt, 0));
         account.ticket = Some(ticket);
         account.end_by(by, During::Queue);

@@ -1,4 +1,4 @@
-use run_admin::{Answers, Health, Method, Pages, Question, Status, Told};
+use run_admin::{Answers, Method, NumberSource, Pages, Question, Readiness, Status};
 use std::alloc::{AllocError, Global};
 use std::cell::Cell;
 
@@ -6,17 +6,17 @@ use std::cell::Cell;
 struct Fake {
     alloc: Global,
     now: Cell<u64>,
-    health: Health,
+    health: Readiness,
 }
 
-impl Told for Fake {
+impl NumberSource for Fake {
     fn now(&self) -> u64 {
         let now = self.now.get();
         self.now.set(now.saturating_add(60));
         now
     }
 
-    fn health(&self) -> Health {
+    fn health(&self) -> Readiness {
         self.health
     }
 
@@ -42,7 +42,7 @@ fn each_path_has_its_answer(rt: HostRuntime) {
     let fake = Fake {
         alloc: rt.alloc(),
         now: Cell::new(0),
-        health: Health::Stops,
+        health: Readiness::Stops,
     };
     let mut pages = Pages::new(rt.alloc(), fake);
     let health = pages
@@ -67,7 +67,7 @@ fn a_text_is_made_anew_seldom(rt: HostRuntime) {
     let fake = Fake {
         alloc: rt.alloc(),
         now: Cell::new(0),
-        health: Health::Serves,
+        health: Readiness::Serves,
     };
     let mut pages = Pages::new(rt.alloc(), fake);
     for wanted in ["made before 60\n", "made before 60\n", "made before 180\n"] {

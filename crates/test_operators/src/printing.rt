@@ -1,4 +1,4 @@
-use dispatch_reports::{ServerLine, Window};
+use dispatch_reports::{EndedWindow, ServerLine};
 use due_key::Moment;
 use late_cert::Reports;
 use log_texts::Names;
@@ -10,13 +10,13 @@ use std::thread;
 use std::thread::Threads;
 
 // A window in which the only server was given this number of requests on arrival.
-fn window(rt: &impl Abort, alloc: Global, direct: usize) -> Window {
+fn window(rt: &impl Abort, alloc: Global, direct: usize) -> EndedWindow {
     let line = ServerLine {
         up: true,
         direct,
         granted: 0,
     };
-    Window {
+    EndedWindow {
         reports: Reports::new(alloc),
         servers: vec![in alloc; line].expect(rt, "memory"),
     }

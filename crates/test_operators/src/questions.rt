@@ -1,4 +1,4 @@
-use run_admin::{Answers, Asked, Method, Page, Question, Status, asked_of, push_answer};
+use run_admin::{AdminPage, Answers, Asked, Method, Question, Status, asked_of, push_answer};
 use std::alloc::{AllocError, Global};
 
 #[test]
@@ -22,12 +22,12 @@ struct Echo {
 }
 
 impl Answers for Echo {
-    fn answer(&mut self, question: &Question) -> Result<Page, AllocError> {
+    fn answer(&mut self, question: &Question) -> Result<AdminPage, AllocError> {
         let mut body = String::new(self.alloc);
         for byte in question.path {
             body.push(char::from(*byte))?;
         }
-        Ok(Page {
+        Ok(AdminPage {
             status: Status::Good,
             kind: "text/plain",
             body,

@@ -1,6 +1,6 @@
 use crate::assertions::{holds, same};
 use crate::samples::trace_of;
-use config_command::Only;
+use config_command::DrawnQueue;
 use due_key::Class;
 use std::alloc::Global;
 use std::io::{Read, Write};
@@ -171,10 +171,10 @@ static UNDRAWN: [Undrawn; 10] = [
     },
 ];
 
-fn asked(rt: &impl Abort, alloc: Global, queue: Option<&str>) -> Option<Only> {
+fn asked(rt: &impl Abort, alloc: Global, queue: Option<&str>) -> Option<DrawnQueue> {
     match queue {
         None => None,
-        Some(name) => Some(Only {
+        Some(name) => Some(DrawnQueue {
             queue: String::from_str(alloc, name).expect(rt, "memory"),
             class: Class::clamp(0),
         }),

@@ -6,7 +6,8 @@ ghost use Rattle.relay_workers.specs.Admissions.{IsRequestAt};
 use crate::workers::{Opened, open, start};
 use base_verdict::{Ending, Verdict};
 use dispatch_state::Ticketed;
-use grant_board::{Board, BoardName, Pass, RelaySeat, Taking};
+use grant_board::{Board, Pass, RelaySeat, Taking};
+use locked_book::DeskName;
 use log_texts::Names;
 use proxy_config::{Config, read};
 use relay_workers::{Gate, Slot, arrive};
@@ -76,7 +77,7 @@ fn checked<G: Gate>(clock: &impl Clock, gate: &mut G) -> Option<bool> {
 }
 
 // Returns a connection to the server of a pass, where it is for a slot.
-fn connect_by<N: BoardName, G: Gate>(
+fn connect_by<N: DeskName, G: Gate>(
     gate: &mut G,
     relay: &RelaySeat,
     pass: &Pass,
@@ -86,7 +87,7 @@ fn connect_by<N: BoardName, G: Gate>(
     requires named { (relay.now.board ≡ N.board) × (relay.now.view.terms ≡ N.terms) }
     requires held { relay.now.view.passes ≡ pass.now ∷ [] }
     requires its_own { (pass.now.place ≡ at.place) × (pass.now.ticket ≡ at.ticket) }
-    requires arrived { IsRequestAt N.terms head.now at }
+    requires arrived { IsRequestAt N.terms N.setup head.now at }
 {
     match pass.verdict() {
         Verdict::Serve(server) => gate.connect(&Slot::<N>::new(relay, pass, head, at, server)),
@@ -104,12 +105,13 @@ fn give_back(board: &Board, relay: &mut RelaySeat, pass: Pass)
 
 // A request arrives and gets its slot, and the gate connects to the slot's server.
 fn connects<
-    N: BoardName,
+    N: DeskName,
     R: Abort + Wait + Net<Listener = TcpListener, Stream = TcpStream>,
     G: Gate,
 >(rt: &R, alloc: Global, gate: &mut G, far: &TcpListener, opened: Opened)
     requires named { opened.board ≡ N.board }
     requires terms { N.terms ≡ terms_for opened.core.setup }
+    requires setup { N.setup ≡ opened.core.setup }
     requires sound { IsSoundConfig opened.config }
 {
     let Viewed::Whole(head, _) = view(alloc, b"GET / HTTP/1.1\r\nHost: h\r\n\r\n") else {

@@ -1,6 +1,6 @@
 //! Tests of windows that are printed while standard output is slow.
 
-use dispatch_reports::{ServerLine, Window};
+use dispatch_reports::{EndedWindow, ServerLine};
 use due_key::Moment;
 use late_cert::Reports;
 use log_texts::Names;
@@ -62,13 +62,13 @@ impl<'a, R: Eprint> Eprint for Slow<'a, R> {
 impl<'a, R: Wait> Wait for Slow<'a, R> {}
 
 // A window in which the only server was given one request on arrival.
-fn window(rt: &impl Abort, alloc: Global) -> Window {
+fn window(rt: &impl Abort, alloc: Global) -> EndedWindow {
     let line = ServerLine {
         up: true,
         direct: 1,
         granted: 0,
     };
-    Window {
+    EndedWindow {
         reports: Reports::new(alloc),
         servers: vec![in alloc; line].expect(rt, "memory"),
     }

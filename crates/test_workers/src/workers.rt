@@ -11,13 +11,14 @@ use base_places::PlaceSet;
 use board_seats::Idle;
 use config_setup::{limits_of, setup_of};
 use dispatch_core::Core;
-use dispatch_reports::Window;
+use dispatch_reports::EndedWindow;
 use due_key::Moment;
-use grant_board::{Board, BoardName, Closing, KeeperSeat, RelaySeat};
+use grant_board::{Board, Closing, KeeperSeat, RelaySeat};
 use late_cert::Running;
+use locked_book::DeskName;
 use proxy_config::{Config, read};
 use relay_workers::{Gate, Pause, Proxy, Slot, Stopped, Tally, checker, worker};
-use shared_desk::{Desk, Queues};
+use shared_desk::{Desk, DeskQueue};
 use std::alloc::Global;
 use std::io::{self, Read, Write};
 use std::marker::Brand;
@@ -44,7 +45,7 @@ struct Found {
 #[derive(Drop)]
 pub(crate) struct Opened {
     config: Config,
-    core: Core<Queues>,
+    core: Core<DeskQueue>,
     board: Board,
     seat: KeeperSeat,
     relay: RelaySeat,
@@ -71,6 +72,7 @@ pub(crate) fn open(rt: &impl Abort, alloc: Global, config: Config, log: usize) -
     ensures sound { IsSoundConfig result.config }
 {
     let setup = setup_of(alloc, &config, 4, log).expect(rt, "memory");
+    assert!(rt; setup.sound());
     let limits = limits_of(alloc, &setup).expect(rt, "memory");
     let running = Running::new(alloc, limits.len()).expect(rt, "memory");
     let core = Core::new(alloc, setup).expect(rt, "a dispatcher");
@@ -95,9 +97,10 @@ fn open_text(rt: &impl Abort, alloc: Global, text: &[u8], log: usize) -> Opened
 }
 
 /// Makes a proxy of what was opened, and the first of the seats that take passes.
-pub(crate) fn start<N: BoardName>(alloc: Global, opened: Opened) -> (Proxy<N>, Idle<N>)
+pub(crate) fn start<N: DeskName>(alloc: Global, opened: Opened) -> (Proxy<N>, Idle<N>)
     requires named { opened.board ≡ N.board }
     requires terms { N.terms ≡ terms_for opened.core.setup }
+    requires setup { N.setup ≡ opened.core.setup }
     requires sound { IsSoundConfig opened.config }
     ensures { result.1.seat.view ≡ new_relay N.terms true }
 {
@@ -114,7 +117,7 @@ pub(crate) fn start<N: BoardName>(alloc: Global, opened: Opened) -> (Proxy<N>, I
 }
 
 /// Returns what is left on a proxy's board once its threads have ended.
-pub(crate) fn close<N: BoardName>(proxy: Proxy<N>, idle: Idle<N>) -> Closing
+pub(crate) fn close<N: DeskName>(proxy: Proxy<N>, idle: Idle<N>) -> Closing
     requires first { idle.seat.view.first ≡ true }
     requires settled { idle.seat.view.split ≡ idle.seat.view.joined }
 {

@@ -54,14 +54,14 @@ fn push_lane(text: &mut String, scene: &Scene, band: &Band) -> Result<(), AllocE
     }
     if MOST_CAPTIONS < written {
         let more = written - MOST_CAPTIONS;
-        push_place(text, band, MOST_CAPTIONS)?;
+        push_band_lane(text, band, MOST_CAPTIONS)?;
         writeln!(text, "and {more} more</text>")?;
     }
     Ok(())
 }
 
 // Writes the beginning of a line of text below a lane.
-fn push_place(text: &mut String, band: &Band, line: usize) -> Result<(), AllocError> {
+fn push_band_lane(text: &mut String, band: &Band, line: usize) -> Result<(), AllocError> {
     let below = line
         .saturating_add(1)
         .saturating_mul(LINE)
@@ -77,7 +77,7 @@ fn push_caption(
     line: usize,
     report: &ReportLine,
 ) -> Result<(), AllocError> {
-    push_place(text, band, line)?;
+    push_band_lane(text, band, line)?;
     if !scene.subject.rolls.is_empty() {
         let window = window_of(scene.subject.rolls, report.before);
         write!(text, "window {window}, ")?;

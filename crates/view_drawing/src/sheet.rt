@@ -46,7 +46,7 @@ pub(crate) struct Sheet {
     /// The distance of rows from each other, and the height of a bar.
     pub(crate) pitch: usize,
     pub(crate) thick: usize,
-    // The lanes' places by number; `None` where a lane isn't drawn.
+    // The lanes' positions by number; `None` where a lane isn't drawn.
     bands: Vec<Option<Band>>,
     pub(crate) height: usize,
 }
@@ -112,7 +112,7 @@ impl Sheet {
         })
     }
 
-    /// Returns the lanes, each with its place where it is drawn.
+    /// Returns the lanes, each with its position where it is drawn.
     pub(crate) fn bands(&self) -> &[Option<Band>] {
         self.bands.as_slice()
     }

@@ -2,7 +2,7 @@
 
 use crate::input::{InputFault, queue_of, read_input};
 use crate::there::is_waited_in;
-use config_command::Only;
+use config_command::DrawnQueue;
 use due_key::Class;
 use log_entries::Queue;
 use std::alloc::Global;
@@ -28,7 +28,7 @@ pub fn draw<R: Read, W: Write>(
     alloc: Global,
     reader: &mut R,
     writer: &mut W,
-    only: &Option<Only>,
+    only: &Option<DrawnQueue>,
 ) -> Result<(), DrawFault> {
     let trace = match read_input(alloc, reader) {
         Ok(trace) => trace,
@@ -42,7 +42,11 @@ pub fn draw<R: Read, W: Write>(
 }
 
 // Returns the queue and the class of these words, if a request of the class waits in the queue.
-fn subject_of(alloc: Global, trace: &Trace, only: &Only) -> Result<(Queue, Class), DrawFault> {
+fn subject_of(
+    alloc: Global,
+    trace: &Trace,
+    only: &DrawnQueue,
+) -> Result<(Queue, Class), DrawFault> {
     let Some(queue) = queue_of(&trace.names, only.queue.as_str()) else {
         return Err(DrawFault::NoQueue);
     };

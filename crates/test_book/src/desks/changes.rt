@@ -6,7 +6,7 @@ use super::*;
 use crate::assertions::{holds, same};
 
 // Sets the server's limit, and returns the first place that was woken.
-fn limit<N: BoardName, R: Abort + Wait>(
+fn limit<N: DeskName, R: Abort + Wait>(
     rt: &R,
     desk: &Desk<N>,
     moment: u64,
@@ -20,7 +20,7 @@ fn limit<N: BoardName, R: Abort + Wait>(
 
 // Of four requests two are served. The limit falls to one, so that the end of the first one frees
 // no slot; then the limit is lifted.
-fn lower_and_lift<N: BoardName, R: Abort + Wait>(
+fn lower_and_lift<N: DeskName, R: Abort + Wait>(
     rt: &R,
     alloc: Global,
     desk: &Desk<N>,
@@ -49,13 +49,14 @@ fn lower_and_lift<N: BoardName, R: Abort + Wait>(
     reports(rt, alloc, desk)
 }
 
-fn change_limits<N: BoardName, R: Abort + Wait>(
+fn change_limits<N: DeskName, R: Abort + Wait>(
     rt: &R,
     alloc: Global,
     opened: Opened,
 ) -> (Reports, Closing)
     requires named { opened.board ≡ N.board }
     requires terms { N.terms ≡ terms_for opened.core.setup }
+    requires setup { N.setup ≡ opened.core.setup }
 {
     let (desk, mut relay) = start::<N>(opened);
     let told = lower_and_lift(rt, alloc, &desk, &mut relay);

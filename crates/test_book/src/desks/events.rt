@@ -15,7 +15,7 @@ struct Four {
 }
 
 // The third one isn't told before its timeout.
-fn come<N: BoardName, R: Abort + Wait>(
+fn come<N: DeskName, R: Abort + Wait>(
     rt: &R,
     alloc: Global,
     desk: &Desk<N>,
@@ -43,14 +43,14 @@ fn come<N: BoardName, R: Abort + Wait>(
     }
 }
 
-fn abort<N: BoardName, R: Abort + Wait>(rt: &R, desk: &Desk<N>, moment: u64, ticket: u64) {
+fn abort<N: DeskName, R: Abort + Wait>(rt: &R, desk: &Desk<N>, moment: u64, ticket: u64) {
     let mut woken = PlaceSet::new();
     let answer = desk.abort(rt, at(moment), ticket, &mut woken);
     answer.expect(rt, "an abort");
 }
 
 // Returns what each of the four was told.
-fn tell_each<N: BoardName, R: Abort + Wait>(
+fn tell_each<N: DeskName, R: Abort + Wait>(
     rt: &R,
     alloc: Global,
     desk: &Desk<N>,
@@ -71,13 +71,14 @@ fn tell_each<N: BoardName, R: Abort + Wait>(
     verdicts
 }
 
-fn each_event<N: BoardName, R: Abort + Wait>(
+fn each_event<N: DeskName, R: Abort + Wait>(
     rt: &R,
     alloc: Global,
     opened: Opened,
 ) -> ([Option<Verdict>; 4], Closing)
     requires named { opened.board ≡ N.board }
     requires terms { N.terms ≡ terms_for opened.core.setup }
+    requires setup { N.setup ≡ opened.core.setup }
 {
     let (desk, mut relay) = start::<N>(opened);
     let told = tell_each(rt, alloc, &desk, &mut relay);
@@ -100,7 +101,7 @@ fn each_is_told(rt: HostRuntime) {
 }
 
 // Returns the number of passes that the seat has between its take and its post, and after it.
-fn vouch<N: BoardName, R: Abort + Wait>(
+fn vouch<N: DeskName, R: Abort + Wait>(
     rt: &R,
     desk: &Desk<N>,
     relay: RelaySeat,
@@ -121,7 +122,7 @@ fn vouch<N: BoardName, R: Abort + Wait>(
 }
 
 // Returns the ticket that comes back from a place.
-fn collect<N: BoardName, R: Abort + Wait>(
+fn collect<N: DeskName, R: Abort + Wait>(
     rt: &R,
     desk: &Desk<N>,
     moment: u64,
@@ -136,7 +137,7 @@ fn collect<N: BoardName, R: Abort + Wait>(
 }
 
 // Says whether a tick at this moment would tell a timeout, before the tick and after it.
-fn tick<N: BoardName, R: Abort + Wait>(rt: &R, desk: &Desk<N>, moment: u64) -> (bool, bool) {
+fn tick<N: DeskName, R: Abort + Wait>(rt: &R, desk: &Desk<N>, moment: u64) -> (bool, bool) {
     let before = desk.expired(rt, at(moment));
     let mut woken = PlaceSet::new();
     let answer = desk.tick(rt, at(moment), &mut woken);
@@ -145,7 +146,7 @@ fn tick<N: BoardName, R: Abort + Wait>(rt: &R, desk: &Desk<N>, moment: u64) -> (
 }
 
 // Of three requests for one slot, one is over and one has waited too long.
-fn ask_on<N: BoardName, R: Abort + Wait>(rt: &R, alloc: Global, desk: &Desk<N>, relay: RelaySeat)
+fn ask_on<N: DeskName, R: Abort + Wait>(rt: &R, alloc: Global, desk: &Desk<N>, relay: RelaySeat)
     requires named { relay.board ≡ N.board }
     requires terms { relay.view.terms ≡ N.terms }
 {
@@ -158,9 +159,10 @@ fn ask_on<N: BoardName, R: Abort + Wait>(rt: &R, alloc: Global, desk: &Desk<N>, 
     same(rt, tick(rt, desk, 12), (true, false));
 }
 
-fn ask<N: BoardName, R: Abort + Wait>(rt: &R, alloc: Global, opened: Opened)
+fn ask<N: DeskName, R: Abort + Wait>(rt: &R, alloc: Global, opened: Opened)
     requires named { opened.board ≡ N.board }
     requires terms { N.terms ≡ terms_for opened.core.setup }
+    requires setup { N.setup ≡ opened.core.setup }
 {
     let (desk, relay) = start::<N>(opened);
     ask_on(rt, alloc, &desk, relay);

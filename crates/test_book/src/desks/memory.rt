@@ -24,7 +24,7 @@ fn open_in_the_end(alloc: Global) -> Result<Opened, Fail> {
     Ok(opened)
 }
 
-fn come<N: BoardName, R: Wait>(
+fn come<N: DeskName, R: Wait>(
     rt: &R,
     alloc: Global,
     desk: &Desk<N>,
@@ -39,7 +39,7 @@ fn come<N: BoardName, R: Wait>(
 }
 
 // Returns the number of reports.
-fn report<N: BoardName, R: Wait>(
+fn report<N: DeskName, R: Wait>(
     rt: &R,
     alloc: Global,
     desk: &Desk<N>,
@@ -51,11 +51,7 @@ fn report<N: BoardName, R: Wait>(
 }
 
 // Returns the number of servers' lines.
-fn lines<N: BoardName, R: Wait>(
-    rt: &R,
-    alloc: Global,
-    desk: &Desk<N>,
-) -> Result<usize, AllocError> {
+fn lines<N: DeskName, R: Wait>(rt: &R, alloc: Global, desk: &Desk<N>) -> Result<usize, AllocError> {
     match desk.servers(rt, alloc) {
         Ok(lines) => Ok(lines.len()),
         Err(_) => Ok(desk.servers(rt, alloc)?.len()),
@@ -63,14 +59,14 @@ fn lines<N: BoardName, R: Wait>(
 }
 
 // Says whether there was no room, so that a window ended.
-fn room<N: BoardName, R: Wait>(rt: &R, alloc: Global, desk: &Desk<N>) -> Result<bool, AllocError> {
+fn room<N: DeskName, R: Wait>(rt: &R, alloc: Global, desk: &Desk<N>) -> Result<bool, AllocError> {
     match desk.make_room(rt, alloc) {
-        Ok(window) => Ok(window.is_some()),
-        Err(_) => Ok(desk.make_room(rt, alloc)?.is_some()),
+        Ok(made) => Ok(has_ended(made)),
+        Err(_) => Ok(has_ended(desk.make_room(rt, alloc)?)),
     }
 }
 
-fn tell<N: BoardName, R: Wait>(
+fn tell<N: DeskName, R: Wait>(
     rt: &R,
     alloc: Global,
     desk: &Desk<N>,
@@ -83,7 +79,7 @@ fn tell<N: BoardName, R: Wait>(
 }
 
 // A request arrives and is served, and its return waits on the board until there is room.
-fn use_up<N: BoardName, R: Wait>(
+fn use_up<N: DeskName, R: Wait>(
     rt: &R,
     alloc: Global,
     desk: &Desk<N>,
@@ -101,13 +97,14 @@ fn use_up<N: BoardName, R: Wait>(
     Ok(tell(rt, alloc, desk)?)
 }
 
-fn use_up_one<N: BoardName, R: Wait>(
+fn use_up_one<N: DeskName, R: Wait>(
     rt: &R,
     alloc: Global,
     opened: Opened,
 ) -> (Result<(usize, usize, bool), Fail>, Closing)
     requires named { opened.board ≡ N.board }
     requires terms { N.terms ≡ terms_for opened.core.setup }
+    requires setup { N.setup ≡ opened.core.setup }
 {
     let (desk, mut relay) = start::<N>(opened);
     let told = use_up(rt, alloc, &desk, &mut relay);

@@ -6,7 +6,7 @@ use super::*;
 use crate::assertions::{holds, same};
 
 // Of two waiting requests the later one is due earlier: it is woken and served first.
-fn overtake<N: BoardName, R: Abort + Wait>(
+fn overtake<N: DeskName, R: Abort + Wait>(
     rt: &R,
     alloc: Global,
     desk: &Desk<N>,
@@ -47,16 +47,16 @@ struct Told {
     is_full: bool,
 }
 
-fn tell<N: BoardName, R: Abort + Wait>(rt: &R, alloc: Global, desk: &Desk<N>) -> Told {
+fn tell<N: DeskName, R: Abort + Wait>(rt: &R, alloc: Global, desk: &Desk<N>) -> Told {
     Told {
         reports: reports(rt, alloc, desk),
         servers: desk.servers(rt, alloc).expect(rt, "memory"),
         worst: (worst(rt, desk, 0), worst(rt, desk, 1)),
-        is_full: desk.make_room(rt, alloc).expect(rt, "memory").is_some(),
+        is_full: has_ended(desk.make_room(rt, alloc).expect(rt, "memory")),
     }
 }
 
-fn overtake_and_tell<N: BoardName, R: Abort + Wait>(
+fn overtake_and_tell<N: DeskName, R: Abort + Wait>(
     rt: &R,
     alloc: Global,
     desk: &Desk<N>,
@@ -72,13 +72,14 @@ fn overtake_and_tell<N: BoardName, R: Abort + Wait>(
     told
 }
 
-fn overtake_once<N: BoardName, R: Abort + Wait>(
+fn overtake_once<N: DeskName, R: Abort + Wait>(
     rt: &R,
     alloc: Global,
     opened: Opened,
 ) -> (Told, Closing)
     requires named { opened.board ≡ N.board }
     requires terms { N.terms ≡ terms_for opened.core.setup }
+    requires setup { N.setup ≡ opened.core.setup }
 {
     let (desk, mut relay) = start::<N>(opened);
     let told = overtake_and_tell(rt, alloc, &desk, &mut relay);

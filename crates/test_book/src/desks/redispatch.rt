@@ -33,7 +33,7 @@ fn pinned(millis: i64) -> Wanted {
 }
 
 // Four requests are pinned to the first server. When it falls, two of those that wait are given the other servers.
-fn take_down<N: BoardName, R: Abort + Wait>(
+fn take_down<N: DeskName, R: Abort + Wait>(
     rt: &R,
     alloc: Global,
     desk: &Desk<N>,
@@ -48,13 +48,14 @@ fn take_down<N: BoardName, R: Abort + Wait>(
     (worst(rt, desk, 0), reports(rt, alloc, desk))
 }
 
-fn fall_once<N: BoardName, R: Abort + Wait>(
+fn fall_once<N: DeskName, R: Abort + Wait>(
     rt: &R,
     alloc: Global,
     opened: Opened,
 ) -> (Option<i64>, Reports)
     requires named { opened.board ≡ N.board }
     requires terms { N.terms ≡ terms_for opened.core.setup }
+    requires setup { N.setup ≡ opened.core.setup }
 {
     let (desk, _) = start::<N>(opened);
     let told = take_down(rt, alloc, &desk);

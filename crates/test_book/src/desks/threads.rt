@@ -53,15 +53,19 @@ impl Sums {
 }
 
 // Hands over the window where the log is full.
-fn make_room<N: BoardName, R: Wait>(rt: &R, alloc: Global, desk: &Desk<N>, sums: &mut Sums) {
-    if let Ok(Some(window)) = desk.make_room(rt, alloc) {
-        sums.add_lines(window.servers.as_slice());
-        sums.add_reports(&window.reports);
+fn make_room<N: DeskName, R: Wait>(rt: &R, alloc: Global, desk: &Desk<N>, sums: &mut Sums) {
+    match desk.make_room(rt, alloc) {
+        Ok(Some(window)) => {
+            let EndedWindow { reports, servers } = window;
+            sums.add_lines(servers.as_slice());
+            sums.add_reports(&reports);
+        }
+        Ok(None) | Err(_) => {}
     }
 }
 
 // Lets a request arrive, once the log has room. `None` where it is refused for another reason.
-fn admit<N: BoardName, R: Wait>(
+fn admit<N: DeskName, R: Wait>(
     rt: &R,
     alloc: Global,
     desk: &Desk<N>,
@@ -80,7 +84,7 @@ fn admit<N: BoardName, R: Wait>(
     unreachable!()
 }
 
-fn turn_round<N: BoardName, R: Wait>(rt: &R, alloc: Global, desk: &Desk<N>, sums: &mut Sums) {
+fn turn_round<N: DeskName, R: Wait>(rt: &R, alloc: Global, desk: &Desk<N>, sums: &mut Sums) {
     let mut woken = PlaceSet::new();
     if desk.turn(rt, Moment::zero(), &mut woken).is_err() {
         make_room(rt, alloc, desk, sums);
@@ -88,7 +92,7 @@ fn turn_round<N: BoardName, R: Wait>(rt: &R, alloc: Global, desk: &Desk<N>, sums
 }
 
 // A request arrives, and is over once it was offered.
-fn come<N: BoardName, R: Wait>(
+fn come<N: DeskName, R: Wait>(
     rt: &R,
     alloc: Global,
     desk: &Desk<N>,
@@ -112,7 +116,7 @@ fn come<N: BoardName, R: Wait>(
 }
 
 // Changes the server's limit now and then.
-fn change<N: BoardName, R: Wait>(rt: &R, desk: &Desk<N>, number: u32) {
+fn change<N: DeskName, R: Wait>(rt: &R, desk: &Desk<N>, number: u32) {
     if number % 64 == 63 {
         let mut woken = PlaceSet::new();
         let _ = desk.limit(
@@ -126,7 +130,7 @@ fn change<N: BoardName, R: Wait>(rt: &R, desk: &Desk<N>, number: u32) {
 }
 
 // Serves this number of requests, each once the one before is over.
-fn come_and_go<N: BoardName, R: Wait>(
+fn come_and_go<N: DeskName, R: Wait>(
     rt: &R,
     alloc: Global,
     desk: &Desk<N>,
@@ -147,7 +151,7 @@ fn come_and_go<N: BoardName, R: Wait>(
 }
 
 // Two threads, each with a seat and its number of requests.
-fn pair<N: BoardName + Send + Sync, R: Threads + Wait + Sync>(
+fn pair<N: DeskName + Send + Sync, R: Threads + Wait + Sync>(
     rt: &R,
     alloc: Global,
     desk: &Desk<N>,
@@ -174,12 +178,7 @@ fn pair<N: BoardName + Send + Sync, R: Threads + Wait + Sync>(
 }
 
 // Makes the last turn, and adds the numbers of the last window.
-fn finish<N: BoardName, R: Abort + Wait>(
-    rt: &R,
-    alloc: Global,
-    desk: &Desk<N>,
-    sums: Sums,
-) -> Sums {
+fn finish<N: DeskName, R: Abort + Wait>(rt: &R, alloc: Global, desk: &Desk<N>, sums: Sums) -> Sums {
     turn(rt, desk, 1);
     let mut sums = sums;
     let lines = desk.servers(rt, alloc).expect(rt, "memory");
@@ -188,13 +187,14 @@ fn finish<N: BoardName, R: Abort + Wait>(
     sums
 }
 
-fn two_come<N: BoardName + Send + Sync, R: Abort + Threads + Wait + Sync>(
+fn two_come<N: DeskName + Send + Sync, R: Abort + Threads + Wait + Sync>(
     rt: &R,
     alloc: Global,
     opened: Opened,
 ) -> (Sums, Closing)
     requires named { opened.board ≡ N.board }
     requires terms { N.terms ≡ terms_for opened.core.setup }
+    requires setup { N.setup ≡ opened.core.setup }
 {
     let (desk, mut first) = start::<N>(opened);
     let second = first.split(desk.board());
@@ -222,7 +222,7 @@ struct Seats {
 }
 
 // Two pairs of threads, with this number of requests each.
-fn crowd<N: BoardName + Send + Sync, R: Threads + Wait + Sync>(
+fn crowd<N: DeskName + Send + Sync, R: Threads + Wait + Sync>(
     rt: &R,
     alloc: Global,
     desk: &Desk<N>,
@@ -255,13 +255,14 @@ fn crowd<N: BoardName + Send + Sync, R: Threads + Wait + Sync>(
     (seats, sums.plus(more))
 }
 
-fn four_come<N: BoardName + Send + Sync, R: Abort + Threads + Wait + Sync>(
+fn four_come<N: DeskName + Send + Sync, R: Abort + Threads + Wait + Sync>(
     rt: &R,
     alloc: Global,
     opened: Opened,
 ) -> (Sums, Closing)
     requires named { opened.board ≡ N.board }
     requires terms { N.terms ≡ terms_for opened.core.setup }
+    requires setup { N.setup ≡ opened.core.setup }
 {
     let (desk, mut first) = start::<N>(opened);
     let second = first.split(desk.board());

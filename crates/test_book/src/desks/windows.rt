@@ -6,7 +6,7 @@ use super::*;
 use crate::assertions::{holds, same};
 
 // Two requests wait when the next window begins, and are served in it.
-fn wait_over_a_roll<N: BoardName, R: Abort + Wait>(
+fn wait_over_a_roll<N: DeskName, R: Abort + Wait>(
     rt: &R,
     alloc: Global,
     desk: &Desk<N>,
@@ -18,9 +18,12 @@ fn wait_over_a_roll<N: BoardName, R: Abort + Wait>(
     let first = arrive(rt, alloc, desk, 0, offset(0));
     arrive(rt, alloc, desk, 1, offset(0));
     let third = arrive(rt, alloc, desk, 2, offset(-5));
-    let ended = desk.roll(rt, alloc).expect(rt, "memory");
-    holds(rt, ended.reports.is_empty());
-    same(rt, ended.servers.len(), 1);
+    let EndedWindow {
+        reports: told,
+        servers,
+    } = desk.roll(rt, alloc).expect(rt, "memory");
+    holds(rt, told.is_empty());
+    same(rt, servers.len(), 1);
     serve(desk.board(), relay, first);
     turn(rt, desk, 10);
     serve(desk.board(), relay, third);
@@ -28,9 +31,10 @@ fn wait_over_a_roll<N: BoardName, R: Abort + Wait>(
     reports(rt, alloc, desk)
 }
 
-fn roll_once<N: BoardName, R: Abort + Wait>(rt: &R, alloc: Global, opened: Opened) -> Reports
+fn roll_once<N: DeskName, R: Abort + Wait>(rt: &R, alloc: Global, opened: Opened) -> Reports
     requires named { opened.board ≡ N.board }
     requires terms { N.terms ≡ terms_for opened.core.setup }
+    requires setup { N.setup ≡ opened.core.setup }
 {
     let (desk, mut relay) = start::<N>(opened);
     let told = wait_over_a_roll(rt, alloc, &desk, &mut relay);
@@ -51,12 +55,12 @@ fn who_waits_joined_at_the_base(rt: HostRuntime) {
 }
 
 // A return finds no room in the log, and stays on the board until there is room.
-fn make_room<N: BoardName, R: Abort + Wait>(
+fn make_room<N: DeskName, R: Abort + Wait>(
     rt: &R,
     alloc: Global,
     desk: &Desk<N>,
     relay: &mut RelaySeat,
-) -> Window
+) -> EndedWindow
     requires named { relay.old.board ≡ N.board }
     requires terms { relay.old.view.terms ≡ N.terms }
     ensures { IsSameSeat relay.old relay.new }
@@ -70,9 +74,14 @@ fn make_room<N: BoardName, R: Abort + Wait>(
     window
 }
 
-fn fill<N: BoardName, R: Abort + Wait>(rt: &R, alloc: Global, opened: Opened) -> (Window, Closing)
+fn fill<N: DeskName, R: Abort + Wait>(
+    rt: &R,
+    alloc: Global,
+    opened: Opened,
+) -> (EndedWindow, Closing)
     requires named { opened.board ≡ N.board }
     requires terms { N.terms ≡ terms_for opened.core.setup }
+    requires setup { N.setup ≡ opened.core.setup }
 {
     let (desk, mut relay) = start::<N>(opened);
     let window = make_room(rt, alloc, &desk, &mut relay);
@@ -80,7 +89,7 @@ fn fill<N: BoardName, R: Abort + Wait>(rt: &R, alloc: Global, opened: Opened) ->
 }
 
 // The answer of a turn.
-fn turned<N: BoardName, R: Wait>(rt: &R, desk: &Desk<N>, moment: u64) -> Result<(), Refusal> {
+fn turned<N: DeskName, R: Wait>(rt: &R, desk: &Desk<N>, moment: u64) -> Result<(), Refusal> {
     let mut woken = PlaceSet::new();
     desk.turn(rt, at(moment), &mut woken)
 }
@@ -90,18 +99,19 @@ fn a_full_log_makes_room(rt: HostRuntime) {
     let alloc = rt.alloc();
     let opened = one_server(&rt, alloc, 1, 10, 1);
     let (window, closing) = fill::<Brand, _>(&rt, alloc, opened);
-    same(&rt, window.reports.len(), 0);
+    let EndedWindow { reports, servers } = window;
+    same(&rt, reports.len(), 0);
     let line = ServerLine {
         up: true,
         direct: 1,
         granted: 0,
     };
-    holds(&rt, window.servers.as_slice() == [line].as_slice());
+    holds(&rt, servers.as_slice() == [line].as_slice());
     same(&rt, closing, Closing { left: 0 });
 }
 
 // A full log refuses the turn, and what was posted stays on the board.
-fn leave<N: BoardName, R: Abort + Wait>(
+fn leave<N: DeskName, R: Abort + Wait>(
     rt: &R,
     alloc: Global,
     desk: &Desk<N>,
@@ -116,13 +126,14 @@ fn leave<N: BoardName, R: Abort + Wait>(
     turned(rt, desk, 1)
 }
 
-fn leave_one<N: BoardName, R: Abort + Wait>(
+fn leave_one<N: DeskName, R: Abort + Wait>(
     rt: &R,
     alloc: Global,
     opened: Opened,
 ) -> (Result<(), Refusal>, Closing)
     requires named { opened.board ≡ N.board }
     requires terms { N.terms ≡ terms_for opened.core.setup }
+    requires setup { N.setup ≡ opened.core.setup }
 {
     let (desk, mut relay) = start::<N>(opened);
     let refused = leave(rt, alloc, &desk, &mut relay);

@@ -12,7 +12,7 @@ use std::sync::atomic::AtomicBool;
 type Checked = (u64, bool);
 
 // The checker's pauses are spent, or it was told to stop before.
-fn check_thrice<N: BoardName, R: Abort + Wait>(
+fn check_thrice<N: DeskName, R: Abort + Wait>(
     rt: &R,
     proxy: &Proxy<N>,
     up: bool,
@@ -28,9 +28,10 @@ fn check_thrice<N: BoardName, R: Abort + Wait>(
 }
 
 // A server fails its checks, isn't checked by a checker that was told to stop, and then passes.
-fn down_and_up<N: BoardName, R: Abort + Wait>(rt: &R, alloc: Global, opened: Opened) -> [Checked; 3]
+fn down_and_up<N: DeskName, R: Abort + Wait>(rt: &R, alloc: Global, opened: Opened) -> [Checked; 3]
     requires named { opened.board ≡ N.board }
     requires terms { N.terms ≡ terms_for opened.core.setup }
+    requires setup { N.setup ≡ opened.core.setup }
     requires sound { IsSoundConfig opened.config }
 {
     let (proxy, idle) = start::<N>(alloc, opened);

@@ -10,13 +10,14 @@ use relay_workers::serve;
 use std::thread::Threads;
 
 // Two workers serve one client each; the first one's server answers only once the second one's has.
-fn serve_two<N: BoardName + Send + Sync, R: Abort + Threads + Wait + Sync>(
+fn serve_two<N: DeskName + Send + Sync, R: Abort + Threads + Wait + Sync>(
     rt: &R,
     alloc: Global,
     opened: Opened,
 ) -> Found
     requires named { opened.board ≡ N.board }
     requires terms { N.terms ≡ terms_for opened.core.setup }
+    requires setup { N.setup ≡ opened.core.setup }
     requires sound { IsSoundConfig opened.config }
 {
     let (proxy, idle) = start::<N>(alloc, opened);

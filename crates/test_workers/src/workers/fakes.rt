@@ -139,7 +139,7 @@ impl<'a> Gate for Fake<'a> {
         })
     }
 
-    fn connect<N: BoardName>(&mut self, _slot: &Slot<'_, N>) -> Option<Peer<'a>> {
+    fn connect<N: DeskName>(&mut self, _slot: &Slot<'_, N>) -> Option<Peer<'a>> {
         let before = self.seen.connects.fetch_add(1, Ordering::SeqCst);
         if before < self.scene.failing {
             return None;
@@ -169,7 +169,11 @@ impl<'a> Gate for Fake<'a> {
         Moment::new(self.now).unwrap_or(Moment::zero())
     }
 
-    fn window(&mut self, _window: Window) {
+    fn window(&mut self, window: EndedWindow) {
+        let EndedWindow {
+            reports: _,
+            servers: _,
+        } = window;
         self.seen.windows.fetch_add(1, Ordering::SeqCst);
     }
 

@@ -9,9 +9,10 @@ use super::scenes::{ANSWERED, BAD_GATEWAY, BAD_REQUEST, FORWARDED, UNAVAILABLE, 
 use super::*;
 
 // One worker serves all clients of a scene; then the board is closed.
-fn work<N: BoardName, R: Wait>(rt: &R, alloc: Global, opened: Opened, scene: Scene) -> Found
+fn work<N: DeskName, R: Wait>(rt: &R, alloc: Global, opened: Opened, scene: Scene) -> Found
     requires named { opened.board ≡ N.board }
     requires terms { N.terms ≡ terms_for opened.core.setup }
+    requires setup { N.setup ≡ opened.core.setup }
     requires sound { IsSoundConfig opened.config }
 {
     let (proxy, mut idle) = start::<N>(alloc, opened);

@@ -15,7 +15,7 @@ use grant_board::Taking;
 use locked_book::Wanted;
 
 // A request that has a slot before any client comes.
-fn come_first<N: BoardName, R: Abort + Wait>(rt: &R, alloc: Global, desk: &Desk<N>) -> Ticketed
+fn come_first<N: DeskName, R: Abort + Wait>(rt: &R, alloc: Global, desk: &Desk<N>) -> Ticketed
     ensures { result.place < N.terms.places }
 {
     let wanted = Wanted {
@@ -29,7 +29,7 @@ fn come_first<N: BoardName, R: Abort + Wait>(rt: &R, alloc: Global, desk: &Desk<
 }
 
 // Ends its exchange. Says whether it had its slot, and its return was collected.
-fn go_last<N: BoardName, R: Wait>(
+fn go_last<N: DeskName, R: Wait>(
     rt: &R,
     desk: &Desk<N>,
     relay: &mut RelaySeat,
@@ -51,7 +51,7 @@ fn go_last<N: BoardName, R: Wait>(
 }
 
 // Clients come while the only slot is taken.
-fn come_behind<N: BoardName, R: Abort + Wait>(
+fn come_behind<N: DeskName, R: Abort + Wait>(
     rt: &R,
     proxy: &Proxy<N>,
     idle: &mut Idle<N>,
@@ -65,7 +65,7 @@ fn come_behind<N: BoardName, R: Abort + Wait>(
     tally
 }
 
-fn work_behind<N: BoardName, R: Abort + Wait>(
+fn work_behind<N: DeskName, R: Abort + Wait>(
     rt: &R,
     alloc: Global,
     opened: Opened,
@@ -73,6 +73,7 @@ fn work_behind<N: BoardName, R: Abort + Wait>(
 ) -> Found
     requires named { opened.board ≡ N.board }
     requires terms { N.terms ≡ terms_for opened.core.setup }
+    requires setup { N.setup ≡ opened.core.setup }
     requires sound { IsSoundConfig opened.config }
 {
     let (proxy, mut idle) = start::<N>(alloc, opened);

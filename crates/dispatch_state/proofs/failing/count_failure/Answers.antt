@@ -5,7 +5,7 @@ use Rattle.dispatch_state.proofs.Failures.{counted_once, counted_unpinned}
 use Rattle.dispatch_state.proofs.failing.count_failure.Goals as goal
 
 pub unpin-requires : goal.unpin-requires
-unpin-requires g c = still_stands _ _ _ c.args.place (c.requires.0, c.requires.1) (ap (λ (k : Kept _). k.slots) c.fail.ensures)
+unpin-requires g c = still_stands _ _ _ c.args.place (c.requires.0, c.requires.1) (ap (λ (k : Kept _). k.cells) c.fail.ensures)
 
 pub returns-then-redispatches-clause-counted : goal.returns-then-redispatches-clause-counted
 returns-then-redispatches-clause-counted g c =

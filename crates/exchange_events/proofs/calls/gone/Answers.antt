@@ -1,14 +1,14 @@
 use Rattle.exchange_machine.specs.Histories.{signed}
-use Rattle.exchange_machine.proofs.EventLemmas.{asking_signed, waiting_signed, dialing_signed, passing_signed, settling_signed, leaving_signed, telling_signed, over_signed, asking_over, waiting_over, settling_over, leaving_over, telling_over}
+use Rattle.exchange_machine.proofs.EventLemmas.{asking_signed, waiting_signed, dialing_signed, forwarding_signed, settling_signed, leaving_signed, telling_signed, over_signed, asking_over, waiting_over, settling_over, leaving_over, telling_over}
 use Rattle.exchange_events.proofs.StepLemmas.{at_as}
 use Rattle.exchange_events.proofs.calls.gone.Goals as goal
 
 pub returns-in-Dialing-clause-at : goal.returns-in-Dialing-clause-at
 returns-in-Dialing-clause-at c h is = c.abandon-pass.ensures.ends (signed h c.args.sign) (dialing_signed c.in-Dialing.dialing h c.args.sign (at_as h c.in-Dialing.is is))
 
-pub returns-in-Passing-clause-at : goal.returns-in-Passing-clause-at
-returns-in-Passing-clause-at c h is = c.abandon-pass-in-Passing.ensures.ends (signed h c.args.sign) (passing_signed c.in-Passing.passing h c.args.sign
-    (at_as h c.in-Passing.is is))
+pub returns-in-Forwarding-clause-at : goal.returns-in-Forwarding-clause-at
+returns-in-Forwarding-clause-at c h is = c.abandon-pass-in-Forwarding.ensures.ends (signed h c.args.sign) (forwarding_signed c.in-Forwarding.forwarding h c.args.sign
+    (at_as h c.in-Forwarding.is is))
 
 pub returns-in-Asking-clause-at : goal.returns-in-Asking-clause-at
 returns-in-Asking-clause-at c h is = c.quiet.ensures.at (signed h c.args.sign) (asking_over c.in-Asking._asking (signed h c.args.sign)

@@ -2,12 +2,12 @@ use Rattle.std.proofs.Common.{◌∷◌, ◌++◌, [], subst}
 use Rattle.exchange_machine.specs.Reasons.{Shows}
 use Rattle.exchange_machine.specs.declared.signs.Sign.{Sign}
 use Rattle.exchange_machine.specs.Histories.{signed}
-use Rattle.exchange_machine.proofs.EventLemmas.{passing_signed, shows_last}
+use Rattle.exchange_machine.proofs.EventLemmas.{forwarding_signed, shows_last}
 use Rattle.exchange_events.proofs.StepLemmas.{at_as}
 use Rattle.exchange_events.proofs.calls.server_ended.Goals as goal
 
-pub returns-in-Passing-clause-at : goal.returns-in-Passing-clause-at
-returns-in-Passing-clause-at c h is = c.go_on-next.ensures.at (signed h c.args.sign) (c.server_ended.ensures.passes (signed h c.args.sign)
-    (passing_signed c.in-Passing.passing h c.args.sign (at_as h c.in-Passing.is is))
+pub returns-in-Forwarding-clause-at : goal.returns-in-Forwarding-clause-at
+returns-in-Forwarding-clause-at c h is = c.go_on-next.ensures.at (signed h c.args.sign) (c.server_ended.ensures.passes (signed h c.args.sign)
+    (forwarding_signed c.in-Forwarding.forwarding h c.args.sign (at_as h c.in-Forwarding.is is))
     (record { sign = c.args.sign; shows = shows_last h.signs c.args.sign; tells = c.requires })
     (λ well. subst (λ (s : Sign). Shows (h.signs ++ c.args.sign ∷ []) s) (c.is_end.ensures.end well) (shows_last h.signs c.args.sign)))

@@ -1,6 +1,6 @@
 use Rattle.std.proofs.Common.{refl}
 use Rattle.exchange_machine.specs.Reasons.Reason.{of_sign}
-use Rattle.exchange_machine.proofs.EventLemmas.{passing_signed, shows_last}
+use Rattle.exchange_machine.proofs.EventLemmas.{forwarding_signed, shows_last}
 use Rattle.exchange_machine.specs.Histories.{signed}
 use Rattle.exchange_machine.specs.declared.signs.Sign.TheVariants.{ServerOver}
 use Rattle.http_texts.specs.declared.refusals.Code.TheVariants.{BadGateway}
@@ -10,7 +10,7 @@ pub returns-clause-at : goal.returns-clause-at
 returns-clause-at c h is =
     let late = signed h ServerOver in
     c.left.ensures.at late
-    (c.refuse.ensures late (passing_signed c.args.passing h ServerOver is) (of_sign ServerOver BadGateway (shows_last h.signs ServerOver) refl))
+    (c.refuse.ensures late (forwarding_signed c.args.forwarding h ServerOver is) (of_sign ServerOver BadGateway (shows_last h.signs ServerOver) refl))
 
 pub returns-then-has_begun-clause-at : goal.returns-then-has_begun-clause-at
-returns-then-has_begun-clause-at c h is = c.ends.ensures.at (signed h ServerOver) (passing_signed c.args.passing h ServerOver is)
+returns-then-has_begun-clause-at c h is = c.ends.ensures.at (signed h ServerOver) (forwarding_signed c.args.forwarding h ServerOver is)

@@ -1,4 +1,4 @@
-use Rattle.exchange_machine.proofs.SideLemmas.{fresh_sound, asking_sound, waiting_sound, dialing_sound, passing_sound, leaving_sound}
+use Rattle.exchange_machine.proofs.SideLemmas.{fresh_sound, asking_sound, waiting_sound, dialing_sound, forwarding_sound, leaving_sound}
 use Rattle.exchange_machine.proofs.SettlingLemmas.{settling_sound}
 use Rattle.exchange_machine.proofs.EventLemmas.{telling_over, over_sound}
 use Rattle.exchange_machine.proofs.laws.what_holds.Goals as goal
@@ -18,8 +18,8 @@ returns-clause-waiting c = waiting_sound
 pub returns-clause-dialing : goal.returns-clause-dialing
 returns-clause-dialing c = dialing_sound
 
-pub returns-clause-passing : goal.returns-clause-passing
-returns-clause-passing c = passing_sound
+pub returns-clause-forwarding : goal.returns-clause-forwarding
+returns-clause-forwarding c = forwarding_sound
 
 pub returns-clause-leaving : goal.returns-clause-leaving
 returns-clause-leaving c = leaving_sound

@@ -5,7 +5,7 @@ use Rattle.proxy_config.specs.declared.parts.Config.{Config}
 use Rattle.proxy_config.specs.declared.parts.Pin.{Pin}
 use Rattle.proxy_config.specs.declared.parts.Server.{Server}
 use Rattle.proxy_config.specs.declared.progress.Progress.{Progress}
-use Rattle.proxy_config.specs.declared.wishes.Wish.{Wish}
+use Rattle.proxy_config.specs.declared.wishes.UnresolvedUseServer.{UnresolvedUseServer}
 use Rattle.proxy_config.specs.Resolved.{Resolved, start}
 use Rattle.proxy_config.specs.File.{FileAnswers, declared_servers, finished, is_line, run, survey}
 use Rattle.proxy_config.specs.Progress.{decided, settled, take_line, unless_known, with_pins}
@@ -29,7 +29,7 @@ coming_kept servers long p next n too_long left rest line all so_far is length_i
     ∙ sym (coming-take servers long p n line rest) ∙ ap (λ (ls : List (List ℕ)). coming servers long p n ls) (sym is) ∙ so_far
 
 -- behind no pin the known fault is the first
-behind_none : (servers : List Server) (wishes : List Wish) (known : Option ConfigFault) (fault : ConfigFault) (more : List Pin → Result Resolved ConfigFault)
+behind_none : (servers : List Server) (wishes : List UnresolvedUseServer) (known : Option ConfigFault) (fault : ConfigFault) (more : List Pin → Result Resolved ConfigFault)
     → Some fault ≡ decided wishes known → with_pins servers wishes (λ ps. unless_known known (more ps)) ≡ Err fault
 behind_none servers [] None fault more is = absurd (let none = is in cc)
 behind_none servers [] (Some first) fault more is = cc

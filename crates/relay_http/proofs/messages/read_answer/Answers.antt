@@ -13,7 +13,7 @@ use Rattle.http_texts.specs.Texts.{framed_for}
 use Rattle.http_texts.specs.declared.fault.Fault.TheVariants.{Read}
 use Rattle.http_texts.specs.declared.plans.Plan.{Plan}
 use Rattle.http_texts.proofs.Alone.{answer_alone}
-use Rattle.http_texts.proofs.Passing.{heads_then, interims_more, interims_text_more}
+use Rattle.http_texts.proofs.Forwarding.{heads_then, interims_more, interims_text_more}
 use Rattle.relay_http.proofs.Failing.{moves_fails, moves_put, moves_halts, fails_as, fails_plainly, fails_end}
 use Rattle.relay_http.proofs.Seeing.{used_front, fails_unseen}
 use Rattle.req_view.specs.Answer.{Answer, answer_of}
@@ -61,14 +61,14 @@ returns-in-Refused-clause-err g c =
           c.in-Refused.ensures so_far.4,
     )
 
-pub pass_before-requires : goal.pass_before-requires
-pass_before-requires g c =
+pub forward_before-requires : goal.forward_before-requires
+forward_before-requires g c =
     let so_far = c.heads.invariant in
     let later = Countable-later so_far.4.reads c.requires in
     omega (arith, later.writes, c.consume-in-Interim.ensures.turns)
 
-pub returns-in_err-pass_before-in-Interim-clause-err : goal.returns-in_err-pass_before-in-Interim-clause-err
-returns-in_err-pass_before-in-Interim-clause-err g c =
+pub returns-in_err-forward_before-in-Interim-clause-err : goal.returns-in_err-forward_before-in-Interim-clause-err
+returns-in_err-forward_before-in-Interim-clause-err g c =
     let method = c.args.view.now.method in
     let framed = framed_for c.args.view.now.version in
     let so_far = c.heads.invariant in
@@ -95,7 +95,7 @@ returns-in_err-pass_before-in-Interim-clause-err g c =
     at_exit _ _ _ c.from_residual.ensures.1 (
       hs ++ h ∷ [],
       interims_more method hs h so_far.1 below is,
-      fails_as (LacksAnswer method) (flat_last print_response hs h) text (moves_halts (LacksAnswer method) read c.in_err-pass_before-in-Interim.ensures.err),
+      fails_as (LacksAnswer method) (flat_last print_response hs h) text (moves_halts (LacksAnswer method) read c.in_err-forward_before-in-Interim.ensures.err),
     )
 
 pub heads-preserved-in-Interim : goal.heads-preserved-in-Interim
@@ -123,13 +123,13 @@ heads-preserved-in-Interim g c =
     let told = c.is_framed-framed.ensures ∙ ap framed_for c.version.ensures in
     let text = interims_text_more framed c.is_framed-framed.result hs h c.in-Interim.head told says.answer in
     let below : length hs < 8 = omega (arith, so_far.2, role.2) in
-    let passed = moves_put (g.S.Source.stream c.heads.source) c.in_ok-pass_before-in-Interim.ensures.ok in
+    let sent_on = moves_put (g.S.Source.stream c.heads.source) c.in_ok-forward_before-in-Interim.ensures.ok in
     let are = interims_more method hs h so_far.1 below is in (
       hs ++ h ∷ [],
       are.each,
       omega (arith, so_far.2, length-append hs (h ∷ [])),
       omega (arith, so_far.2, below),
-      moves_as (append-nil (print_heads hs ++ print_response h) ∙ flat_last print_response hs h) text (moves_trans read passed),
+      moves_as (append-nil (print_heads hs ++ print_response h) ∙ flat_last print_response hs h) text (moves_trans read sent_on),
     )
 
 pub returns-in_err-came-in-More-clause-err : goal.returns-in_err-came-in-More-clause-err

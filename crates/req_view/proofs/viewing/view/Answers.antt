@@ -34,10 +34,10 @@ returns-in-Err c = overflow-never c.args.bytes.now c.min.result c.in-Err.ensures
 pub copied-requires-clause-names : goal.copied-requires-clause-names
 copied-requires-clause-names c =
     let spans = c.in-Ok-Complete.spans in
-    let places = c.parse_request.new.headers in
+    let field_spans = c.parse_request.new.headers in
     let front = take c.min.result c.args.bytes.now in
-    let within : IsRequestWithin front places spans =
-    of_complete _ _ (IsRequestWithin front places) c.in-Ok-Complete.field-0-is c.in-Ok-Complete.ensures.within in
-    let found : IsRequestOf front places spans = of_complete _ _ (IsRequestOf front places) c.in-Ok-Complete.field-0-is c.in-Ok-Complete.ensures.complete in
+    let within : IsRequestWithin front field_spans spans =
+    of_complete _ _ (IsRequestWithin front field_spans) c.in-Ok-Complete.field-0-is c.in-Ok-Complete.ensures.within in
+    let found : IsRequestOf front field_spans spans = of_complete _ _ (IsRequestOf front field_spans) c.in-Ok-Complete.field-0-is c.in-Ok-Complete.ensures.complete in
     let short : spans.len ≤ 16384 = omega (arith, within.section.len_fits, length-take c.min.result c.args.bytes.now) in
-    field-names front spans.len (take spans.headers places) found.0.fields short found.1.fields found.1.reads.0.fields within.section.headers_fit
+    field-names front spans.len (take spans.headers field_spans) found.0.fields short found.1.fields found.1.reads.0.fields within.section.headers_fit

@@ -8,25 +8,25 @@ pub search-requires : goal.search-requires
 search-requires c = first_rises c.args.ticket _ _ _ c.requires
 
 pub returns-in-Some-search : goal.returns-in-Some-search
-returns-in-Some-search c = in_first c.args.ticket c.args.kept c.args.next c.args.entries.now c.in-Some-search.at c.in-Some-search.ensures
+returns-in-Some-search c = in_first c.args.ticket c.args.kept c.args.next c.args.pairs.now c.in-Some-search.at c.in-Some-search.ensures
 
 -- a part up to the end is the rest
 pub search-requires-2 : goal.search-requires-2
-search-requires-2 c = rw (take_rest c.args.entries.now c.args.next) (second_rises c.args.ticket _ _ _ c.requires)
+search-requires-2 c = rw (take_rest c.args.pairs.now c.args.next) (second_rises c.args.ticket _ _ _ c.requires)
 
 pub returns-in_err-at : goal.returns-in_err-at
 returns-in_err-at c =
     rw c.from_residual.ensures
-    (in_neither c.args.ticket c.args.kept c.args.next c.args.entries.now c.requires c.in_default-search.ensures
-    (rw (take_rest c.args.entries.now c.args.next) at c.in_err-at.ensures))
+    (in_neither c.args.ticket c.args.kept c.args.next c.args.pairs.now c.requires c.in_default-search.ensures
+    (rw (take_rest c.args.pairs.now c.args.next) at c.in_err-at.ensures))
 
 pub overflow_add-result-2 : goal.overflow_add-result-2
 overflow_add-result-2 c =
-    let has = rw (take_rest c.args.entries.now c.args.next) at c.in_ok-at.ensures in
-    let within = slice_get_within (drop c.args.next c.args.entries.now) c.in_ok-at.at has.0 has.1 in
-    let long = length-drop c.args.next c.args.entries.now in
+    let has = rw (take_rest c.args.pairs.now c.args.next) at c.in_ok-at.ensures in
+    let within = slice_get_within (drop c.args.next c.args.pairs.now) c.in_ok-at.at has.0 has.1 in
+    let long = length-drop c.args.next c.args.pairs.now in
     omega arith
 
 pub returns : goal.returns
-returns c = in_second c.args.ticket c.args.kept c.args.next c.args.entries.now c.in_ok-at.at
-    (rw (take_rest c.args.entries.now c.args.next) at c.in_ok-at.ensures)
+returns c = in_second c.args.ticket c.args.kept c.args.next c.args.pairs.now c.in_ok-at.at
+    (rw (take_rest c.args.pairs.now c.args.next) at c.in_ok-at.ensures)

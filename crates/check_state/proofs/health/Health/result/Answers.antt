@@ -13,20 +13,20 @@ pub returns-then-ok-self-clause-change : goal.returns-then-ok-self-clause-change
 returns-then-ok-self-clause-change c rise fall results is =
     (same_result rise fall results _ c.args.ok (subst (IsHealthOf rise fall results) (sym c.self.view_is) is) c.self.invariant c.if-ok-self.true).change_is
 
-pub returns-then-self-limit-clause-health : goal.returns-then-self-limit-clause-health
-returns-then-self-limit-clause-health c rise fall results is =
+pub returns-then-self-needed-clause-health : goal.returns-then-self-needed-clause-health
+returns-then-self-needed-clause-health c rise fall results is =
     (further_result rise fall results _ c.args.ok (subst (IsHealthOf rise fall results) (sym c.self.view_is) is) c.self.invariant c.if-ok-self.false
-    (subst (λ n. c.self.inside.against + 1 < n) (c.limit-limit.ensures ∙ ap results_to_turn (sym c.self.view_is)) c.if-self-limit.true)).health
+    (subst (λ n. c.self.inside.against + 1 < n) (c.results_to_turn-needed.ensures ∙ ap results_to_turn (sym c.self.view_is)) c.if-self-needed.true)).health
 
-pub returns-then-self-limit-clause-change : goal.returns-then-self-limit-clause-change
-returns-then-self-limit-clause-change c rise fall results is =
+pub returns-then-self-needed-clause-change : goal.returns-then-self-needed-clause-change
+returns-then-self-needed-clause-change c rise fall results is =
     (further_result rise fall results _ c.args.ok (subst (IsHealthOf rise fall results) (sym c.self.view_is) is) c.self.invariant c.if-ok-self.false
-    (subst (λ n. c.self.inside.against + 1 < n) (c.limit-limit.ensures ∙ ap results_to_turn (sym c.self.view_is)) c.if-self-limit.true)).change_is
+    (subst (λ n. c.self.inside.against + 1 < n) (c.results_to_turn-needed.ensures ∙ ap results_to_turn (sym c.self.view_is)) c.if-self-needed.true)).change_is
 
 pub returns-after-ok-clause-health : goal.returns-after-ok-clause-health
 returns-after-ok-clause-health c rise fall results is =
     (turning_result rise fall results _ c.args.ok (subst (IsHealthOf rise fall results) (sym c.self.view_is) is) c.self.invariant c.if-ok-self.false
-    (subst (λ n. n ≤ c.self.inside.against + 1) (c.limit-limit.ensures ∙ ap results_to_turn (sym c.self.view_is)) c.if-self-limit.false)).health
+    (subst (λ n. n ≤ c.self.inside.against + 1) (c.results_to_turn-needed.ensures ∙ ap results_to_turn (sym c.self.view_is)) c.if-self-needed.false)).health
 
 pub returns-after-ok-clause-change : goal.returns-after-ok-clause-change
 returns-after-ok-clause-change c rise fall results is =
@@ -37,4 +37,4 @@ returns-after-ok-clause-change c rise fall results is =
     ]
     in
     told ∙ (turning_result rise fall results _ c.args.ok (subst (IsHealthOf rise fall results) (sym c.self.view_is) is) c.self.invariant c.if-ok-self.false
-    (subst (λ n. n ≤ c.self.inside.against + 1) (c.limit-limit.ensures ∙ ap results_to_turn (sym c.self.view_is)) c.if-self-limit.false)).change_is
+    (subst (λ n. n ≤ c.self.inside.against + 1) (c.results_to_turn-needed.ensures ∙ ap results_to_turn (sym c.self.view_is)) c.if-self-needed.false)).change_is

@@ -19,21 +19,21 @@ returns-in_default-arrive-clause-dispatched g c = subst IsDispatched (sym c.in_d
 
 pub place-requires-clause-may_put : goal.place-requires-clause-may_put
 place-requires-clause-may_put g c =
-    newcomer_put c.arrive.new.self _ c.args.pin (arrival_places c.self.inside.events.trace c.arrive.new.self _ _ c.in-Ok.ensures.ok) c.in-Ok.ensures.pin
+    newcomer_put c.arrive.new.self _ c.args.pin (arrival_places c.self.inside.events.state c.arrive.new.self _ _ c.in-Ok.ensures.ok) c.in-Ok.ensures.pin
 
 pub settle-requires-clause-may_grant : goal.settle-requires-clause-may_grant
-settle-requires-clause-may_grant g c = may_granting c.place.new.self.trace c.place.ensures.over
+settle-requires-clause-may_grant g c = may_granting c.place.new.self.state c.place.ensures.over
 
 pub settle-requires-clause-room : goal.settle-requires-clause-room
 settle-requires-clause-room g c =
-    arrival_room c.self.inside.events.trace c.arrive.new.self c.place.new.self.trace _ _ c.args.pin _ (legal_places _ c.self.invariant.legal)
+    arrival_room c.self.inside.events.state c.arrive.new.self c.place.new.self.state _ _ c.args.pin _ (legal_places _ c.self.invariant.legal)
     (sym c.refuses_arrival.ensures ∙ c.in_default.is)
     c.in-Ok.ensures.ok c.place.ensures.placed
 
 pub returns-clause-ok : goal.returns-clause-ok
 returns-clause-ok g c =
     subst
-    (λ (h : History). AddsEvent h c.settle.new.self.trace
+    (λ (h : History). AddsEvent h c.settle.new.self.state
     (Arrive (effective h c.args.moment) record {
       ticket = c.in-Ok.it.ticket;
       class = c.args.class;
@@ -42,19 +42,19 @@ returns-clause-ok g c =
       place = c.in-Ok.it.place;
     }))
     c.self.view_is
-    (adds c.self.inside.events.trace c.arrive.new.self c.place.new.self.trace c.settle.new.self.trace _ refl c.in-Ok.ensures.ok
-    (goes_places c.arrive.new.self c.place.new.self.trace c.place.ensures) (over_granting c.place.new.self.trace c.place.ensures.over) c.settle.ensures)
+    (adds c.self.inside.events.state c.arrive.new.self c.place.new.self.state c.settle.new.self.state _ refl c.in-Ok.ensures.ok
+    (goes_places c.arrive.new.self c.place.new.self.state c.place.ensures) (over_granting c.place.new.self.state c.place.ensures.over) c.settle.ensures)
 
 pub returns-clause-dispatched : goal.returns-clause-dispatched
 returns-clause-dispatched g c =
-    let over = over_granting c.place.new.self.trace c.place.ensures.over in
-    added_dispatched c.self.inside.events.trace c.settle.new.self.trace _ c.self.invariant.legal
-    (adds c.self.inside.events.trace c.arrive.new.self c.place.new.self.trace c.settle.new.self.trace _ refl c.in-Ok.ensures.ok
-    (goes_places c.arrive.new.self c.place.new.self.trace c.place.ensures) over c.settle.ensures)
+    let over = over_granting c.place.new.self.state c.place.ensures.over in
+    added_dispatched c.self.inside.events.state c.settle.new.self.state _ c.self.invariant.legal
+    (adds c.self.inside.events.state c.arrive.new.self c.place.new.self.state c.settle.new.self.state _ refl c.in-Ok.ensures.ok
+    (goes_places c.arrive.new.self c.place.new.self.state c.place.ensures) over c.settle.ensures)
 
 pub invariant_of-self-2 : goal.invariant_of-self-2
 invariant_of-self-2 g c =
-    let over = over_granting c.place.new.self.trace c.place.ensures.over in
-    let added = adds c.self.inside.events.trace c.arrive.new.self c.place.new.self.trace c.settle.new.self.trace _ refl c.in-Ok.ensures.ok
-    (goes_places c.arrive.new.self c.place.new.self.trace c.place.ensures) over c.settle.ensures in
-    core_kept c.self.inside.events.trace c.settle.new.self.trace _ _ _ _ c.self.invariant added refl c.self.invariant.none refl
+    let over = over_granting c.place.new.self.state c.place.ensures.over in
+    let added = adds c.self.inside.events.state c.arrive.new.self c.place.new.self.state c.settle.new.self.state _ refl c.in-Ok.ensures.ok
+    (goes_places c.arrive.new.self c.place.new.self.state c.place.ensures) over c.settle.ensures in
+    core_kept c.self.inside.events.state c.settle.new.self.state _ _ _ _ c.self.invariant added refl c.self.invariant.none refl

@@ -13,41 +13,41 @@ use Rattle.dispatch_core.proofs.dispatcher.Core.check.Goals as goal
 
 -- a check with all that follows, as one event
 added : (g : given.Over) (c : After-settle g)
-    → AddsEvent c.self.inside.events.trace c.settle.new.self.trace (Check (effective c.self.inside.events.trace c.args.moment) c.args.server c.args.ok)
-added g c = carried_adds c.self.inside.events.trace _ _ _ _ refl c.check.ensures c.follow.ensures c.settle.ensures
+    → AddsEvent c.self.inside.events.state c.settle.new.self.state (Check (effective c.self.inside.events.state c.args.moment) c.args.server c.args.ok)
+added g c = carried_adds c.self.inside.events.state _ _ _ _ refl c.check.ensures c.follow.ensures c.settle.ensures
 
 pub returns-in-Some-clause-dispatched : goal.returns-in-Some-clause-dispatched
 returns-in-Some-clause-dispatched g c = subst IsDispatched c.self.view_is (dispatched _ c.self.invariant.legal)
 
 pub result-change-requires : goal.result-change-requires
 result-change-requires g c =
-    has_health c.self.inside.events.trace c.args.server _ c.self.inside.healths (sym c.refuses_check.ensures ∙ c.in_default.is) c.self.invariant.healthy
+    has_health c.self.inside.events.state c.args.server _ c.self.inside.healths (sym c.refuses_check.ensures ∙ c.in_default.is) c.self.invariant.healthy
 
 pub up-up-requires : goal.up-up-requires
 up-up-requires g c =
-    has_health c.self.inside.events.trace c.args.server _ c.result-change.new.self (sym c.refuses_check.ensures ∙ c.in_default.is)
+    has_health c.self.inside.events.state c.args.server _ c.result-change.new.self (sym c.refuses_check.ensures ∙ c.in_default.is)
     (c.result-change.ensures.healths _ _ c.self.invariant.healthy)
 
 pub follow-requires-clause-checking : goal.follow-requires-clause-checking
 follow-requires-clause-checking g c =
     let accepted = sym c.refuses_check.ensures ∙ c.in_default.is in
-    check_stage c.self.inside.events.trace c.check.new.self _ c.args.server c.args.ok c.self.invariant.legal accepted c.check.ensures
+    check_stage c.self.inside.events.state c.check.new.self _ c.args.server c.args.ok c.self.invariant.legal accepted c.check.ensures
 
 pub follow-requires-clause-change : goal.follow-requires-clause-change
 follow-requires-clause-change g c =
     let accepted = sym c.refuses_check.ensures ∙ c.in_default.is in
-    check_change c.self.inside.events.trace c.check.new.self _ c.args.server c.args.ok c.self.invariant.legal accepted c.check.ensures c.result-change.result
+    check_change c.self.inside.events.state c.check.new.self _ c.args.server c.args.ok c.self.invariant.legal accepted c.check.ensures c.result-change.result
     (c.result-change.ensures.change _ _ c.self.invariant.healthy)
 
 pub follow-requires-clause-within : goal.follow-requires-clause-within
 follow-requires-clause-within g c =
     let accepted = sym c.refuses_check.ensures ∙ c.in_default.is in
-    check_within c.self.inside.events.trace c.check.new.self _ c.args.server c.args.ok c.self.invariant.legal accepted c.check.ensures
+    check_within c.self.inside.events.state c.check.new.self _ c.args.server c.args.ok c.self.invariant.legal accepted c.check.ensures
 
 pub follow-requires-clause-room : goal.follow-requires-clause-room
 follow-requires-clause-room g c =
     let accepted = sym c.refuses_check.ensures ∙ c.in_default.is in
-    check_room c.self.inside.events.trace c.check.new.self _ c.args.server c.args.ok c.self.invariant.legal accepted c.check.ensures
+    check_room c.self.inside.events.state c.check.new.self _ c.args.server c.args.ok c.self.invariant.legal accepted c.check.ensures
 
 pub invariant_of-self : goal.invariant_of-self
 invariant_of-self g c =
@@ -57,7 +57,7 @@ invariant_of-self g c =
 
 pub returns-clause-ok : goal.returns-clause-ok
 returns-clause-ok g c =
-    subst (λ (h : History). AddsEvent h c.settle.new.self.trace (Check (effective h c.args.moment) c.args.server c.args.ok)) c.self.view_is
+    subst (λ (h : History). AddsEvent h c.settle.new.self.state (Check (effective h c.args.moment) c.args.server c.args.ok)) c.self.view_is
     (added g (goal.at.returns-clause-ok g c).After-settle)
 
 pub returns-clause-dispatched : goal.returns-clause-dispatched

@@ -16,36 +16,36 @@ pub returns-in-Err-clause-dispatched : goal.returns-in-Err-clause-dispatched
 returns-in-Err-clause-dispatched g c = subst IsDispatched c.self.view_is (dispatched _ c.self.invariant.legal)
 
 pub leave-requires-clause-returning : goal.leave-requires-clause-returning
-leave-requires-clause-returning g c = begun_stage c.self.inside.events.trace c.done.new.self _ c.in-Ok.it.ticket c.done.ensures
+leave-requires-clause-returning g c = begun_stage c.self.inside.events.state c.done.new.self _ c.in-Ok.it.ticket c.done.ensures
 
 pub leave-requires-clause-row : goal.leave-requires-clause-row
 leave-requires-clause-row g c =
-    let h = c.self.inside.events.trace in
+    let h = c.self.inside.events.state in
     let accepted = subst (λ n. refuses_done h n ≡ None) (sym c.in-Ok.ensures.found.named) c.in-Ok.ensures.accepted in
     let server = ap (option_and_then server_in) c.phase.ensures ∙ sym c.server-server.ensures in
     begun_returns h c.done.new.self _ c.in-Ok.it.ticket c.server-server.result c.done.ensures
     (subst (λ (o : Option ℕ). IsReturn (state_of h).rows c.in-Ok.it.ticket o) server (done_returns h c.in-Ok.it.ticket c.self.invariant.legal accepted))
 
 pub leave-requires-clause-at : goal.leave-requires-clause-at
-leave-requires-clause-at g c = at_done c.self.inside.events.trace c.done.new.self _ c.in-Ok.it.ticket c.in-Ok.it c.done.ensures c.in-Ok.ensures.found.at
+leave-requires-clause-at g c = at_done c.self.inside.events.state c.done.new.self _ c.in-Ok.it.ticket c.in-Ok.it c.done.ensures c.in-Ok.ensures.found.at
 
 pub settle-requires-clause-room : goal.settle-requires-clause-room
 settle-requires-clause-room g c =
-    done_settles c.self.inside.events.trace c.done.new.self c.leave.new.self.trace _ _ _ c.in-Ok.ensures.found c.self.invariant.legal c.in-Ok.ensures.accepted
+    done_settles c.self.inside.events.state c.done.new.self c.leave.new.self.state _ _ _ c.in-Ok.ensures.found c.self.invariant.legal c.in-Ok.ensures.accepted
     c.done.ensures
     c.leave.ensures
 
 pub returns-clause-ok : goal.returns-clause-ok
 returns-clause-ok g c =
-    subst (λ (h : History). AddsEvent h c.settle.new.self.trace (Done (effective h c.args.moment) c.args.ticket)) c.self.view_is
-    (done_adds c.self.inside.events.trace _ _ _ _ _ c.in-Ok.ensures.found _ c.done.ensures c.leave.ensures c.settle.ensures)
+    subst (λ (h : History). AddsEvent h c.settle.new.self.state (Done (effective h c.args.moment) c.args.ticket)) c.self.view_is
+    (done_adds c.self.inside.events.state _ _ _ _ _ c.in-Ok.ensures.found _ c.done.ensures c.leave.ensures c.settle.ensures)
 
 pub returns-clause-dispatched : goal.returns-clause-dispatched
 returns-clause-dispatched g c =
     added_dispatched _ _ _ c.self.invariant.legal
-    (done_adds c.self.inside.events.trace _ _ _ _ _ c.in-Ok.ensures.found _ c.done.ensures c.leave.ensures c.settle.ensures)
+    (done_adds c.self.inside.events.state _ _ _ _ _ c.in-Ok.ensures.found _ c.done.ensures c.leave.ensures c.settle.ensures)
 
 pub invariant_of-self : goal.invariant_of-self
 invariant_of-self g c =
-    let added = done_adds c.self.inside.events.trace _ _ _ _ _ c.in-Ok.ensures.found _ c.done.ensures c.leave.ensures c.settle.ensures in
+    let added = done_adds c.self.inside.events.state _ _ _ _ _ c.in-Ok.ensures.found _ c.done.ensures c.leave.ensures c.settle.ensures in
     core_kept _ _ _ _ _ _ c.self.invariant added refl c.self.invariant.none refl

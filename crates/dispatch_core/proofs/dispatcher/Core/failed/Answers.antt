@@ -17,44 +17,44 @@ use Rattle.dispatch_core.proofs.dispatcher.Core.failed.Goals as goal
 
 -- a failure with all that becomes of it, as one event
 added : (g : given.Over) (c : After-settle g)
-    → AddsEvent c.self.inside.events.trace c.settle.new.self.trace (Fail (effective c.self.inside.events.trace c.args.moment) c.in-Ok.it.ticket)
-added g c = carried_adds c.self.inside.events.trace _ _ _ _ refl c.fail-failures.ensures.fails c.carry_on.ensures c.settle.ensures
+    → AddsEvent c.self.inside.events.state c.settle.new.self.state (Fail (effective c.self.inside.events.state c.args.moment) c.in-Ok.it.ticket)
+added g c = carried_adds c.self.inside.events.state _ _ _ _ refl c.fail-failures.ensures.fails c.carry_on.ensures c.settle.ensures
 
 pub returns-in-Err-clause-dispatched : goal.returns-in-Err-clause-dispatched
 returns-in-Err-clause-dispatched g c = subst IsDispatched c.self.view_is (dispatched _ c.self.invariant.legal)
 
 pub carry_on-requires-clause-at : goal.carry_on-requires-clause-at
 carry_on-requires-clause-at g c =
-    at_fail c.self.inside.events.trace c.fail-failures.new.self _ c.in-Ok.it.ticket c.in-Ok.it c.fail-failures.ensures.fails c.in-Ok.ensures.found.at
+    at_fail c.self.inside.events.state c.fail-failures.new.self _ c.in-Ok.it.ticket c.in-Ok.it c.fail-failures.ensures.fails c.in-Ok.ensures.found.at
 
 pub carry_on-requires-clause-failing : goal.carry_on-requires-clause-failing
 carry_on-requires-clause-failing g c =
-    let h = c.self.inside.events.trace in
+    let h = c.self.inside.events.state in
     failure_stage h c.fail-failures.new.self _ _ _ c.self.invariant.legal c.in-Ok.ensures.found c.in-Ok.ensures.accepted c.fail-failures.ensures.fails
 
 pub carry_on-requires-clause-slot : goal.carry_on-requires-clause-slot
 carry_on-requires-clause-slot g c =
-    let h = c.self.inside.events.trace in
+    let h = c.self.inside.events.state in
     let server = ap (option_and_then server_in) c.phase.ensures ∙ sym c.server.ensures ∙ c.in-Some.is in
     failure_slot h c.fail-failures.new.self _ _ _ c.self.invariant.legal c.in-Ok.ensures.found c.in-Ok.ensures.accepted c.fail-failures.ensures.fails
     c.in-Some.server server
 
 pub carry_on-requires-clause-pin : goal.carry_on-requires-clause-pin
 carry_on-requires-clause-pin g c =
-    let h = c.self.inside.events.trace in
+    let h = c.self.inside.events.state in
     failure_pin h c.fail-failures.new.self _ _ _ c.self.invariant.legal c.in-Ok.ensures.found c.in-Ok.ensures.accepted c.fail-failures.ensures.fails
     c.fail-failures.result c.fail-failures.ensures.count
 
 pub carry_on-requires-clause-room : goal.carry_on-requires-clause-room
 carry_on-requires-clause-room g c =
-    let h = c.self.inside.events.trace in
+    let h = c.self.inside.events.state in
     failure_room h c.fail-failures.new.self _ _ _ c.self.invariant.legal c.in-Ok.ensures.found c.in-Ok.ensures.accepted c.fail-failures.ensures.fails
 
 pub returns-clause-ok : goal.returns-clause-ok
 returns-clause-ok g c =
-    let begun = of_ticket _ _ (λ n. Fail (effective c.self.inside.events.trace c.args.moment) n) _ _ c.in-Ok.ensures.found c.fail-failures.ensures.fails in
-    subst (λ (h : History). AddsEvent h c.settle.new.self.trace (Fail (effective h c.args.moment) c.args.ticket)) c.self.view_is
-    (carried_adds c.self.inside.events.trace _ _ _ _ refl begun c.carry_on.ensures c.settle.ensures)
+    let begun = of_ticket _ _ (λ n. Fail (effective c.self.inside.events.state c.args.moment) n) _ _ c.in-Ok.ensures.found c.fail-failures.ensures.fails in
+    subst (λ (h : History). AddsEvent h c.settle.new.self.state (Fail (effective h c.args.moment) c.args.ticket)) c.self.view_is
+    (carried_adds c.self.inside.events.state _ _ _ _ refl begun c.carry_on.ensures c.settle.ensures)
 
 pub returns-clause-dispatched : goal.returns-clause-dispatched
 returns-clause-dispatched g c =

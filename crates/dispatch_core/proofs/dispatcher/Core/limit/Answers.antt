@@ -14,29 +14,29 @@ use Rattle.dispatch_core.proofs.dispatcher.Core.limit.Goals as goal
 
 -- a new limit with all that follows, as one event
 added : (g : given.Over) (c : After-settle g)
-    → AddsEvent c.self.inside.events.trace c.settle.new.self.trace (Limit (effective c.self.inside.events.trace c.args.moment) c.args.server c.args.limit)
-added g c = carried_adds c.self.inside.events.trace _ _ _ _ refl c.limit.ensures c.follow_limit.ensures c.settle.ensures
+    → AddsEvent c.self.inside.events.state c.settle.new.self.state (Limit (effective c.self.inside.events.state c.args.moment) c.args.server c.args.limit)
+added g c = carried_adds c.self.inside.events.state _ _ _ _ refl c.limit.ensures c.follow_limit.ensures c.settle.ensures
 
 pub returns-in-Some-clause-dispatched : goal.returns-in-Some-clause-dispatched
 returns-in-Some-clause-dispatched g c = subst IsDispatched c.self.view_is (dispatched _ c.self.invariant.legal)
 
 pub limit-requires-clause-within : goal.limit-requires-clause-within
-limit-requires-clause-within g c = limit_within c.self.inside.events.trace c.args.server (sym c.refuses_limit.ensures ∙ c.in_default.is)
+limit-requires-clause-within g c = limit_within c.self.inside.events.state c.args.server (sym c.refuses_limit.ensures ∙ c.in_default.is)
 
 pub limit-requires-clause-room : goal.limit-requires-clause-room
-limit-requires-clause-room g c = limit_fits c.self.inside.events.trace c.args.server (sym c.refuses_limit.ensures ∙ c.in_default.is)
+limit-requires-clause-room g c = limit_fits c.self.inside.events.state c.args.server (sym c.refuses_limit.ensures ∙ c.in_default.is)
 
 pub follow_limit-requires-clause-stage : goal.follow_limit-requires-clause-stage
 follow_limit-requires-clause-stage g c =
-    limit_opens c.self.inside.events.trace c.args.server (sym c.refuses_limit.ensures ∙ c.in_default.is) c.limit.new.self _ _ c.limit.ensures
+    limit_opens c.self.inside.events.state c.args.server (sym c.refuses_limit.ensures ∙ c.in_default.is) c.limit.new.self _ _ c.limit.ensures
 
 pub follow_limit-requires-clause-within : goal.follow_limit-requires-clause-within
 follow_limit-requires-clause-within g c =
-    limit_there c.self.inside.events.trace c.args.server (sym c.refuses_limit.ensures ∙ c.in_default.is) c.limit.new.self _ _ c.limit.ensures
+    limit_there c.self.inside.events.state c.args.server (sym c.refuses_limit.ensures ∙ c.in_default.is) c.limit.new.self _ _ c.limit.ensures
 
 pub follow_limit-requires-clause-room : goal.follow_limit-requires-clause-room
 follow_limit-requires-clause-room g c =
-    limit_room c.self.inside.events.trace c.args.server (sym c.refuses_limit.ensures ∙ c.in_default.is) c.limit.new.self _ _ c.limit.ensures
+    limit_room c.self.inside.events.state c.args.server (sym c.refuses_limit.ensures ∙ c.in_default.is) c.limit.new.self _ _ c.limit.ensures
     c.self.invariant.legal
 
 pub invariant_of-self : goal.invariant_of-self
@@ -44,7 +44,7 @@ invariant_of-self g c = core_kept _ _ _ _ _ _ c.self.invariant (added g (goal.at
 
 pub returns-clause-ok : goal.returns-clause-ok
 returns-clause-ok g c =
-    subst (λ (h : History). AddsEvent h c.settle.new.self.trace (Limit (effective h c.args.moment) c.args.server c.args.limit)) c.self.view_is
+    subst (λ (h : History). AddsEvent h c.settle.new.self.state (Limit (effective h c.args.moment) c.args.server c.args.limit)) c.self.view_is
     (added g (goal.at.returns-clause-ok g c).After-settle)
 
 pub returns-clause-dispatched : goal.returns-clause-dispatched

@@ -14,24 +14,24 @@ use Rattle.dispatch_core.proofs.dispatcher.Core.tick.Goals as goal
 
 -- a tick with those that it tells and the grants that follow, as one event
 told : (g : given.Over) (c : After-settle g)
-    → AddsEvent c.self.inside.events.trace c.settle.new.self.trace (Tick (effective c.self.inside.events.trace c.args.moment))
-told g c = carried_adds c.self.inside.events.trace _ _ _ _ refl c.tick.ensures.goes c.time_out.ensures.told c.settle.ensures
+    → AddsEvent c.self.inside.events.state c.settle.new.self.state (Tick (effective c.self.inside.events.state c.args.moment))
+told g c = carried_adds c.self.inside.events.state _ _ _ _ refl c.tick.ensures.goes c.time_out.ensures.told c.settle.ensures
 
 -- a tick that tells nobody
 quiet : (g : given.Over) (c : Then-not-expired g)
-    → AddsEvent c.self.inside.events.trace c.tick.new.self (Tick (effective c.self.inside.events.trace c.args.moment))
+    → AddsEvent c.self.inside.events.state c.tick.new.self (Tick (effective c.self.inside.events.state c.args.moment))
 quiet g c =
-    quiet_adds c.self.inside.events.trace c.tick.new.self _ c.tick.ensures.goes c.args.moment refl c.self.invariant.legal c.tick.ensures.judged _
+    quiet_adds c.self.inside.events.state c.tick.new.self _ c.tick.ensures.goes c.args.moment refl c.self.invariant.legal c.tick.ensures.judged _
     c.if-not-expired.true c.expired.ensures.1
 
 pub returns-then-not-has_room-clause-dispatched : goal.returns-then-not-has_room-clause-dispatched
 returns-then-not-has_room-clause-dispatched g c = subst IsDispatched c.self.view_is (dispatched _ c.self.invariant.legal)
 
 pub time_out-requires-clause-telling : goal.time_out-requires-clause-telling
-time_out-requires-clause-telling g c = tick_tells c.self.inside.events.trace c.tick.new.self _ c.tick.ensures.goes
+time_out-requires-clause-telling g c = tick_tells c.self.inside.events.state c.tick.new.self _ c.tick.ensures.goes
 
 pub time_out-requires-clause-room : goal.time_out-requires-clause-room
-time_out-requires-clause-room g c = tick_room c.self.inside.events.trace c.tick.new.self _ c.tick.ensures.goes c.self.invariant.legal
+time_out-requires-clause-room g c = tick_room c.self.inside.events.state c.tick.new.self _ c.tick.ensures.goes c.self.invariant.legal
     (c.has_room.ensures.0 c.if-not-has_room.false)
 
 pub invariant_of-self-2 : goal.invariant_of-self-2
@@ -42,7 +42,7 @@ invariant_of-self-2 g c =
 
 pub returns-clause-ok : goal.returns-clause-ok
 returns-clause-ok g c =
-    subst (λ (h : History). AddsEvent h c.settle.new.self.trace (Tick (effective h c.args.moment))) c.self.view_is
+    subst (λ (h : History). AddsEvent h c.settle.new.self.state (Tick (effective h c.args.moment))) c.self.view_is
     (told g (goal.at.returns-clause-ok g c).After-settle)
 
 pub returns-clause-dispatched : goal.returns-clause-dispatched
@@ -52,7 +52,7 @@ returns-clause-dispatched g c =
 
 pub invariant_of-self : goal.invariant_of-self
 invariant_of-self g c =
-    core_kept c.self.inside.events.trace c.tick.new.self _ _ _ _ c.self.invariant
+    core_kept c.self.inside.events.state c.tick.new.self _ _ _ _ c.self.invariant
     (quiet g (goal.at.invariant_of-self g c).Then-not-expired)
     refl c.self.invariant.none refl
 
@@ -63,5 +63,5 @@ returns-then-not-expired-clause-ok g c =
 
 pub returns-then-not-expired-clause-dispatched : goal.returns-then-not-expired-clause-dispatched
 returns-then-not-expired-clause-dispatched g c =
-    added_dispatched c.self.inside.events.trace c.tick.new.self _ c.self.invariant.legal
+    added_dispatched c.self.inside.events.state c.tick.new.self _ c.self.invariant.legal
     (quiet g (goal.at.returns-then-not-expired-clause-dispatched g c).Then-not-expired)

@@ -3,4 +3,4 @@ use Rattle.dispatch_core.proofs.events.Events.carry_on.Goals as goal
 
 pub returns-in-Retried : goal.returns-in-Retried
 returns-in-Retried g c =
-    carries_retry c.args.self.now.trace c.retry.new.self c.args.it.ticket c.args.server c.args.failures c.requires.failing c.retry.ensures c.requires.room
+    carries_retry c.args.self.now.state c.retry.new.self c.args.it.ticket c.args.server c.args.failures c.requires.failing c.retry.ensures c.requires.room

@@ -5,9 +5,9 @@ pub granting-preserved : goal.granting-preserved
 granting-preserved g c = since_more _ _ _ c.granting.invariant c.granting-test.ensures.granted
 
 pub granting-init : goal.granting-init
-granting-init g c = since_none c.args.self.now.trace c.requires.may_grant c.requires.room
+granting-init g c = since_none c.args.self.now.state c.requires.may_grant c.requires.room
 
 pub returns : goal.returns
 returns g c =
-    settles c.args.self.now.trace c.granting.self.trace _ c.granting.invariant c.granting-test.ensures.unchanged c.granting-test.ensures.judged
+    settles c.args.self.now.state c.granting.self.state _ c.granting.invariant c.granting-test.ensures.unchanged c.granting-test.ensures.judged
     c.granting-test.ensures.settled

@@ -4,7 +4,7 @@ use Rattle.dispatch_core.proofs.events.Events.time_out.Given as goal
 
 abbrev pub invariant-telling : goal.invariant-telling
 invariant-telling g l = record {
-  since : TellsSince l.initial.self.trace l.self.trace l.tickets.pairs;
+  since : TellsSince l.initial.self.state l.self.state l.tickets.pairs;
   kept : l.tickets.room ≡ l.fn.tickets.room;
 }
 

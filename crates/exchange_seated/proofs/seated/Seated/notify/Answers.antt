@@ -1,6 +1,7 @@
-use Rattle.std.proofs.Common.{◌∙◌, List, ◌++◌, sym, ap, append-nil}
+use Rattle.std.proofs.Common.{◌∙◌, List, ◌++◌, sym, ap, append-nil, subst}
 use Rattle.grant_board.specs.Views.{Grant}
 use Rattle.exchange_events.specs.Passes.{held_by}
+use Rattle.exchange_events.specs.Steps as steps
 use Rattle.exchange_seated.proofs.Connecting.{holds_on}
 use Rattle.exchange_seated.proofs.Seating.{gone_few}
 use Rattle.exchange_seated.proofs.seated.Seated.notify.Goals as goal
@@ -15,3 +16,15 @@ pub returns-clause-holds : goal.returns-clause-holds
 returns-clause-holds g c =
     holds_on _ _ _ _ (sym (append-nil (held_by c.args.self.exchange)) ∙ ap (λ (l : List Grant). held_by c.args.self.exchange ++ l) (sym (c.event.ensures.none _))
     ∙ c.step-next.ensures.passes c.args.self.at) c.part-seated.ensures.exchange
+
+pub returns-clause-at : goal.returns-clause-at
+returns-clause-at g c h at = (
+  steps.heard c.args.self.exchange c.event.result c.step-next.result.used h,
+  c.step-next.result.outcome,
+  c.event.ensures.sent c.args.self.exchange c.step-next.result.used h,
+  c.event.ensures.came c.args.self.exchange c.step-next.result.used h,
+  subst (λ x. steps.IsAtItsStage x (steps.history_after c.args.self.exchange c.event.result c.step-next.result.used c.step-next.result.outcome h))
+      (sym c.part-seated.ensures.exchange) (c.step-next.ensures.at h at),
+  c.part-seated.ensures.retries,
+  c.part-seated.ensures.anew,
+)

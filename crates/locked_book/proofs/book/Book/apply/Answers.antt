@@ -14,13 +14,13 @@ offer_from-requires-clause-owing g c =
 
 pub invariant_of-self-2 : goal.invariant_of-self-2
 invariant_of-self-2 g c =
-    kept_again g.N.BoardName.board g.N.BoardName.terms c.self.inside.core c.apply.new.self c.self.inside.keeping c.offer_from.new.keeping
+    kept_again g.N.BoardName.board g.N.BoardName.terms g.N.DeskName.setup c.self.inside.core c.apply.new.self c.self.inside.keeping c.offer_from.new.keeping
     (drop c.len-from.result c.apply.new.self.log)
     (subst (λ n. IsOwing c.apply.new.self c.self.inside.keeping.view (drop n c.apply.new.self.log)) (sym (c.len-from.ensures ∙ ap length c.log.ensures.entries))
     (plain_owes c.self.inside.core c.apply.new.self c.self.inside.keeping.view
     (entry_of c.self.inside.core c.args.event) c.log.ensures.legal c.self.invariant.book
     (plain_entry c.self.inside.core c.args.event c.requires.plain) c.in_ok-apply.ensures.ok))
-    c.self.invariant.named c.self.invariant.of_terms c.offer_from.ensures.offered
+    c.self.invariant.named c.self.invariant.of_terms (c.in_ok-apply.ensures.ok.setup ∙ c.self.invariant.of_setup) c.offer_from.ensures.offered
 
 pub returns-clause-carried : goal.returns-clause-carried
 returns-clause-carried g c =

@@ -22,7 +22,7 @@ offer_from-requires-clause-owing g c =
 
 pub invariant_of-self-2 : goal.invariant_of-self-2
 invariant_of-self-2 g c =
-    kept_again g.N.BoardName.board g.N.BoardName.terms c.self.inside.core c.arrive.new.self c.self.inside.keeping c.offer_from.new.keeping
+    kept_again g.N.BoardName.board g.N.BoardName.terms g.N.DeskName.setup c.self.inside.core c.arrive.new.self c.self.inside.keeping c.offer_from.new.keeping
     (drop c.len-from.result c.arrive.new.self.log)
     (subst (λ n. IsOwing c.arrive.new.self c.self.inside.keeping.view (drop n c.arrive.new.self.log))
     (sym (c.len-from.ensures ∙ ap length c.log.ensures.entries))
@@ -35,7 +35,7 @@ invariant_of-self-2 g c =
       pin = c.args.wanted.pin;
       place = c.in_ok-it.it.place;
     })) c.log.ensures.legal c.self.invariant.book refl c.in_ok-it.ensures.ok))
-    c.self.invariant.named c.self.invariant.of_terms c.offer_from.ensures.offered
+    c.self.invariant.named c.self.invariant.of_terms (c.in_ok-it.ensures.ok.setup ∙ c.self.invariant.of_setup) c.offer_from.ensures.offered
 
 pub returns-clause-carried : goal.returns-clause-carried
 returns-clause-carried g c =
@@ -45,7 +45,7 @@ returns-clause-carried g c =
 
 pub returns-clause-place : goal.returns-clause-place
 returns-clause-place g c =
-    arrival_place g.N.BoardName.board g.N.BoardName.terms c.self.inside.core c.arrive.new.self c.self.inside.keeping
+    arrival_place g.N.BoardName.board g.N.BoardName.terms g.N.DeskName.setup c.self.inside.core c.arrive.new.self c.self.inside.keeping
     (effective c.self.inside.core c.args.moment)
     (record {
       ticket = c.in_ok-it.it.ticket;

@@ -44,7 +44,7 @@ offer_from-requires-clause-owing g c =
 
 pub invariant_of-self-2 : goal.invariant_of-self-2
 invariant_of-self-2 g c =
-    kept_again g.N.BoardName.board g.N.BoardName.terms c.self.inside.core c.limit.new.self c.limit-2.new.self c.offer_from.new.keeping
+    kept_again g.N.BoardName.board g.N.BoardName.terms g.N.DeskName.setup c.self.inside.core c.limit.new.self c.limit-2.new.self c.offer_from.new.keeping
     (drop c.len-from.result c.limit.new.self.log)
     (subst (λ n. IsOwing c.limit.new.self c.limit-2.new.self.view (drop n c.limit.new.self.log)) (sym (c.len-from.ensures ∙ ap length c.log.ensures.entries))
     (limit_owes c.self.inside.core c.limit.new.self c.self.inside.keeping.view c.limit-2.new.self.view
@@ -54,7 +54,7 @@ invariant_of-self-2 g c =
     c.places.ensures.places c.served.ensures c.min-served.ensures c.mark_by.ensures)
     (ap (λ (k : Keeper). k.view) c.limit-2.ensures)))
     (ap (λ (k : Keeper). k.board) c.limit-2.ensures ∙ c.self.invariant.named) (ap (λ (k : Keeper). k.view.terms) c.limit-2.ensures
-    ∙ c.self.invariant.of_terms) c.offer_from.ensures.offered
+    ∙ c.self.invariant.of_terms) (c.in_ok-limit.ensures.ok.setup ∙ c.self.invariant.of_setup) c.offer_from.ensures.offered
 
 pub returns-clause-bound : goal.returns-clause-bound
 returns-clause-bound g c =

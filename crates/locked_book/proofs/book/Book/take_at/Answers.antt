@@ -22,7 +22,7 @@ offer_from-requires-clause-owing g c =
 
 pub invariant_of-self-2 : goal.invariant_of-self-2
 invariant_of-self-2 g c =
-    kept_again g.N.BoardName.board g.N.BoardName.terms c.self.inside.core c.note_end.new.core c.collect.new.self c.offer_from.new.keeping
+    kept_again g.N.BoardName.board g.N.BoardName.terms g.N.DeskName.setup c.self.inside.core c.note_end.new.core c.collect.new.self c.offer_from.new.keeping
     (drop c.len-from.result c.note_end.new.core.log)
     (subst (λ n. IsOwing c.note_end.new.core c.collect.new.self.view (drop n c.note_end.new.core.log))
     (sym (c.len-from.ensures ∙ ap length c.log.ensures.entries))
@@ -30,7 +30,7 @@ invariant_of-self-2 g c =
     (effective c.self.inside.core c.args.moment) c.in_ok-back.back c.log.ensures.legal c.self.invariant.book
     c.in_ok-back.ensures.some c.note_end.ensures))
     (c.in_ok-back.ensures.board ∙ c.self.invariant.named) (ap (λ (v : KeeperView). v.terms) c.in_ok-back.ensures.some.after
-    ∙ c.self.invariant.of_terms) c.offer_from.ensures.offered
+    ∙ c.self.invariant.of_terms) (c.note_end.ensures.setup ∙ c.self.invariant.of_setup) c.offer_from.ensures.offered
 
 pub returns-clause-some : goal.returns-clause-some
 returns-clause-some g c =

@@ -1,4 +1,4 @@
-use Rattle.queue_outside.proofs.Guests.{room_left}
+use Rattle.queue_outside.proofs.Outsiders.{room_left}
 use Rattle.queue_outside.proofs.room.OutsideOrder.leave.Goals as goal
 
 pub invariant_of-self : goal.invariant_of-self

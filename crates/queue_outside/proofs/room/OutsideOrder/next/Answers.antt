@@ -1,5 +1,5 @@
 use Rattle.std.proofs.Common.{Some, ◌∙◌, ap}
-use Rattle.queue_outside.proofs.Guests.{all_behind}
+use Rattle.queue_outside.proofs.Outsiders.{all_behind}
 use Rattle.queue_outside.proofs.room.OutsideOrder.next.Goals as goal
 
 pub returns-clause-order : goal.returns-clause-order

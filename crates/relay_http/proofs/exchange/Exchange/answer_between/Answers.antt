@@ -34,7 +34,7 @@ returns-in-Ok-clause-begun g c =
       answered_some whole.2,
       ap (length {A = ℕ}) moves.waiting,
       length-append c.hold.new.self.outbox whole.1,
-      length-append moves.front c.pass_answer-result.new.pipe.outbox,
+      length-append moves.front c.forward_answer-result.new.pipe.outbox,
       ap (length {A = ℕ}) c.in-Ok.ensures.empty,
     ) in
     begun_by c.args.self.now.begun c.has_begun-self.result c.successes-before.result c.successes.result c.successes-before.ensures c.successes.ensures

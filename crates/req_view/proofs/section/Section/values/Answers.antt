@@ -17,7 +17,7 @@ found index all name spans given a b e = a ∙ b ∙ ap (λ (m : Entries Span). 
 pub new-requires : goal.new-requires
 new-requires c =
     let text = c.self.inside.text.items in
-    let fields = c.self.inside.places.items in
+    let fields = c.self.inside.field_spans.items in
     let spans = found c.self.inside.by_name (map (named_span text) fields)
     (lowercase c.args.name.now) _ _ c.iter.ensures c.get_all.ensures.value c.self.invariant.1 in
     let within = spans-within (length text) text c.args.name.now fields c.self.invariant.0 in
@@ -27,7 +27,7 @@ new-requires c =
 pub returns : goal.returns
 returns c =
     let text = c.self.inside.text.items in
-    let fields = c.self.inside.places.items in
+    let fields = c.self.inside.field_spans.items in
     let spans = found c.self.inside.by_name (map (named_span text) fields)
     (lowercase c.args.name.now) _ _ c.iter.ensures c.get_all.ensures.value c.self.invariant.1 in
     c.new.ensures

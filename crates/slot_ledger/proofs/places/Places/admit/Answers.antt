@@ -8,7 +8,7 @@ pub push-requires-clause-highest : goal.push-requires-clause-highest
 push-requires-clause-highest g c = above_index _ _ _ _ _ c.args.row.key.ticket c.self.view_is c.self.invariant c.requires.highest
 
 pub index_mut-requires : goal.index_mut-requires
-index_mut-requires g c = let within : c.in-Some.place < length c.self.inside.slots.items =
+index_mut-requires g c = let within : c.in-Some.place < length c.self.inside.cells.items =
     slice_get_within _ _ _ (last_free _ _ _ _ _ _ c.self.invariant c.in-Some.ensures.items) in omega arith
 
 pub invariant_of-self : goal.invariant_of-self

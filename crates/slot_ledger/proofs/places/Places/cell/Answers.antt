@@ -4,7 +4,7 @@ use Rattle.slot_ledger.proofs.places.Places.cell.Goals as goal
 
 pub index-requires : goal.index-requires
 index-requires g c =
-    let within : c.args.place < length c.self.inside.slots.items = subst (λ l. c.args.place < length l) (sym c.self.view_is) c.requires in
+    let within : c.args.place < length c.self.inside.cells.items = subst (λ l. c.args.place < length l) (sym c.self.view_is) c.requires in
     omega arith
 
 pub returns-in-Some : goal.returns-in-Some

@@ -6,7 +6,7 @@ use Rattle.slot_ledger.proofs.Keeping.{vacant_room}
 use Rattle.slot_ledger.proofs.places.Places.end.Goals as goal
 
 pub index_mut-requires : goal.index_mut-requires
-index_mut-requires g c = let within : c.args.place < length c.self.inside.slots.items = row_within _ _ c.args.place c.self.view_is c.requires in omega arith
+index_mut-requires g c = let within : c.args.place < length c.self.inside.cells.items = row_within _ _ c.args.place c.self.view_is c.requires in omega arith
 
 pub unreachable-requires : goal.unreachable-requires
 unreachable-requires g c = row_missed _ _ c.args.place _ c.self.view_is c.requires c.index_mut.ensures.value (sym c.take.ensures.value ∙ c.in_default.is)
@@ -24,7 +24,7 @@ invariant_of-self g c =
 pub push_reserved-requires : goal.push_reserved-requires
 push_reserved-requires g c =
     let stands = stands_read _ _ _ _ _ c.self.view_is c.requires c.index_mut.ensures.value (sym c.take.ensures.value ∙ c.in-Some.is) in
-    let room = vacant_room _ _ _ _ c.args.place c.in-Some.slot c.self.invariant stands in
+    let room = vacant_room _ _ _ _ c.args.place c.in-Some.cell c.self.invariant stands in
     omega arith
 
 pub returns : goal.returns

@@ -5,23 +5,23 @@ use Rattle.slot_ledger.proofs.places.Places.fail.Goals as goal
 
 pub index_mut-requires : goal.index_mut-requires
 index_mut-requires g c =
-    let within : c.args.place < length c.self.inside.slots.items = row_within _ _ c.args.place c.self.view_is (c.requires.0, c.requires.1) in
+    let within : c.args.place < length c.self.inside.cells.items = row_within _ _ c.args.place c.self.view_is (c.requires.0, c.requires.1) in
     omega arith
 
 pub unreachable-requires : goal.unreachable-requires
 unreachable-requires g c = row_missed _ _ c.args.place _ c.self.view_is (c.requires.0, c.requires.1) c.index_mut.ensures.value c.in_default.is
 
-pub overflow_add-slot : goal.overflow_add-slot
-overflow_add-slot g c =
+pub overflow_add-cell : goal.overflow_add-cell
+overflow_add-cell g c =
     let stands = stands_read _ _ _ _ _ c.self.view_is (c.requires.0, c.requires.1) c.index_mut.ensures.value c.in-Some.is in
-    let few = countable_read _ _ c.args.place c.in-Some.slot c.self.view_is c.requires stands in
+    let few = countable_read _ _ c.args.place c.in-Some.cell c.self.view_is c.requires stands in
     omega arith
 
 pub invariant_of-self : goal.invariant_of-self
-invariant_of-self g c = kept_change _ _ _ _ c.args.place c.in-Some.slot _ c.self.invariant
+invariant_of-self g c = kept_change _ _ _ _ c.args.place c.in-Some.cell _ c.self.invariant
     (stands_read _ _ _ _ _ c.self.view_is (c.requires.0, c.requires.1) c.index_mut.ensures.value c.in-Some.is) refl
 
 pub returns : goal.returns
 returns g c =
     let stands = stands_read _ _ _ _ _ c.self.view_is (c.requires.0, c.requires.1) c.index_mut.ensures.value c.in-Some.is in
-    row_changed _ _ _ _ c.in-Some.slot c.self.view_is stands
+    row_changed _ _ _ _ c.in-Some.cell c.self.view_is stands

@@ -10,7 +10,7 @@ loop-place-preserved g c =
     let before = c.loop-place.invariant in
     let pushed = c.push_reserved-in-loop-place.ensures.items in
     record {
-      slots = c.push_reserved.ensures.items ∙ ap (λ l. l ++ None ∷ []) before.slots ∙ replicate_more c.loop-place.place None;
+      cells = c.push_reserved.ensures.items ∙ ap (λ l. l ++ None ∷ []) before.cells ∙ replicate_more c.loop-place.place None;
       room = search rules;
       vacant = let e = ap length pushed in let l = length-append c.loop-place.vacant.items ((c.args.places - 1 - c.loop-place.place) ∷ []) in omega arith;
       each = λ at h. ap (λ l. slice_get l at) pushed
@@ -22,16 +22,16 @@ pub invariant_of-result : goal.invariant_of-result
 invariant_of-result g c =
     let inv = c.loop-place.invariant in
     let all : c.loop-place.place ≡ c.args.places = omega arith in
-    kept_new _ _ _ c.args.places c.loop-place.place _ all inv.slots inv.vacant inv.each inv.vacant_room c.in_ok-with_room.ensures.empty
+    kept_new _ _ _ c.args.places c.loop-place.place _ all inv.cells inv.vacant inv.each inv.vacant_room c.in_ok-with_room.ensures.empty
     c.in_ok-with_room.ensures.room
 
 pub returns : goal.returns
-returns g c = let all : c.loop-place.place ≡ c.args.places = omega arith in c.loop-place.invariant.slots ∙ ap (λ n. replicate n None) all
+returns g c = let all : c.loop-place.place ≡ c.args.places = omega arith in c.loop-place.invariant.cells ∙ ap (λ n. replicate n None) all
 
 pub loop-place-init : goal.loop-place-init
 loop-place-init g c = record {
-  slots = c.in_ok-slots.ensures.items;
-  room = c.in_ok-slots.ensures.exact;
+  cells = c.in_ok-cells.ensures.items;
+  room = c.in_ok-cells.ensures.exact;
   vacant = ap length c.in_ok-vacant.ensures.items;
   each = λ at h. absurd (omega arith);
   vacant_room = c.in_ok-vacant.ensures.exact;
@@ -40,7 +40,7 @@ loop-place-init g c = record {
 pub push_reserved-requires : goal.push_reserved-requires
 push_reserved-requires g c =
     let before = c.loop-place.invariant in
-    let long : length c.loop-place.slots.items ≡ c.loop-place.place = ap length before.slots ∙ length-replicate c.loop-place.place None in
+    let long : length c.loop-place.cells.items ≡ c.loop-place.place = ap length before.cells ∙ length-replicate c.loop-place.place None in
     let room = before.room in
     omega arith
 

@@ -10,5 +10,5 @@ returns c =
     c.in_ok-at.ensures in
     subst (λ (i : Indexed). MatchOption c.index.result.now.place (TicketIsAbsent c.args.ticket i.pairs)
     (λ place. Contains i.pairs (c.args.ticket, place))) c.self.view_is
-    (place_tells c.args.ticket c.self.inside.kept c.self.inside.next c.in_ok-at.at c.self.inside.entries.items c.index.result.now c.self.invariant there
+    (place_tells c.args.ticket c.self.inside.kept c.self.inside.next c.in_ok-at.at c.self.inside.pairs.items c.index.result.now c.self.invariant there
     c.index.ensures)

@@ -1,0 +1,24 @@
+use Rattle.std.proofs.Common.{refl}
+use Rattle.log_entries.specs.declared.entry.Entry.TheVariants.{Done}
+use Rattle.log_entries.specs.Histories.{refuses_done}
+use Rattle.dispatch_state.proofs.Stepping.{follows_on}
+use Rattle.dispatch_state.proofs.Beginning.{begun_kept}
+use Rattle.dispatch_state.proofs.Stepping.{closed}
+use Rattle.dispatch_state.proofs.Stepping.{here_begins}
+use Rattle.dispatch_state.proofs.state.DispatchState.done.Goals as goal
+
+pub note-requires-clause-follows : goal.note-requires-clause-follows
+note-requires-clause-follows g c =
+    let begins = here_begins _ _ _ c.args.moment c.later-now.result
+    (λ h. refuses_done h c.args.it.ticket) c.self.invariant c.self.view_is c.requires.begins c.later-now.ensures.later
+    c.later-now.ensures.range in
+    follows_on _ _ _ _
+    (begun_kept _ _ (λ n. Done n c.args.it.ticket) c.args.moment c.later-now.result c.self.invariant refl c.later-now.ensures.later begins refl).judged
+
+pub invariant_of-self : goal.invariant_of-self
+invariant_of-self g c =
+    let begins = here_begins _ _ _ c.args.moment c.later-now.result
+    (λ h. refuses_done h c.args.it.ticket) c.self.invariant c.self.view_is c.requires.begins c.later-now.ensures.later
+    c.later-now.ensures.range in
+    closed _ _ _ _ _ _ _ _ refl c.note.ensures refl
+    (begun_kept _ _ (λ n. Done n c.args.it.ticket) c.args.moment c.later-now.result c.self.invariant refl c.later-now.ensures.later begins refl)

@@ -1,5 +1,0 @@
-use Rattle.exchange_machine.proofs.SideLemmas.{passing_answer}
-use Rattle.exchange_machine.proofs.passing.Passing.server_bytes.Goals as goal
-
-pub returns-clause-passes : goal.returns-clause-passes
-returns-clause-passes c h is = passing_answer c.args.self.now c.take-fed.new.self h _ is c.requires.body c.requires.first c.take-fed.ensures.hears c.take-fed.ensures.grows

@@ -1,6 +1,0 @@
-use Rattle.std.proofs.Common.{refl}
-use Rattle.exchange_machine.proofs.EventLemmas.{passing_ended}
-use Rattle.exchange_machine.proofs.passing.Passing.server_ended.Goals as goal
-
-pub returns-clause-passes : goal.returns-clause-passes
-returns-clause-passes c h is ends well = passing_ended c.args.self.now _ h is ends well refl

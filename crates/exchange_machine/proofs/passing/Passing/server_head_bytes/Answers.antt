@@ -1,6 +1,0 @@
-use Rattle.std.proofs.Common.{refl}
-use Rattle.exchange_machine.proofs.SideLemmas.{passing_held}
-use Rattle.exchange_machine.proofs.passing.Passing.server_head_bytes.Goals as goal
-
-pub returns-in-Ok-clause-passes : goal.returns-in-Ok-clause-passes
-returns-in-Ok-clause-passes c h is = passing_held c.args.self.now _ h _ is c.in-Ok.ensures.items refl

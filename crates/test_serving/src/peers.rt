@@ -36,8 +36,11 @@ pub(crate) enum Step {
     Finishes(usize),
     /// It closes its connection: by a reset, where bytes came that it hasn't read.
     Goes(usize),
-    /// The server accepts a connection, with a request's head that begins so.
+    /// The server accepts a connection, with a request's head that begins so. Checks that come
+    /// before it are accepted as well.
     Takes(&'static [u8]),
+    /// The server accepts a connection that ends without a byte, as a check does.
+    IsChecked,
     /// The next bytes from it are these.
     Hears(usize, &'static [u8]),
     /// The server answers with this.
@@ -97,6 +100,10 @@ impl<'a> Peers<'a> {
                 .ok(),
             Step::Goes(client) => self.go(client),
             Step::Takes(text) => self.take(rt, text),
+            Step::IsChecked => {
+                let check = patient(accepted(rt, self.listener)?)?;
+                ends_at_once(&check).then_some(())
+            }
             Step::Hears(server, text) => gets(self.alloc, of(&mut self.servers, server)?, text),
             Step::Answers(server, text) => of(&mut self.servers, server)?.write_all(text).ok(),
             Step::Echoes(server, count) => echo(self.alloc, of(&mut self.servers, server)?, count),
@@ -125,12 +132,17 @@ impl<'a> Peers<'a> {
         Some(())
     }
 
-    // Accepts a connection, and reads a head that begins so.
+    // Accepts connections until one isn't a check's, and reads its head, which begins so.
     fn take<R: Clock>(&mut self, rt: &R, text: &[u8]) -> Option<()> {
-        let mut server = patient(accepted(rt, self.listener)?)?;
-        let head = head_of(self.alloc, &mut server)?;
-        self.servers.push(Some(server)).ok()?;
-        head.starts_with(text).then_some(())
+        for _ in 0..MOST_PIECES {
+            let mut server = patient(accepted(rt, self.listener)?)?;
+            if !ends_at_once(&server) {
+                let head = head_of(self.alloc, &mut server)?;
+                self.servers.push(Some(server)).ok()?;
+                return head.starts_with(text).then_some(());
+            }
+        }
+        None
     }
 }
 
@@ -157,6 +169,12 @@ fn accepted<R: Clock>(rt: &R, listener: &TcpListener) -> Option<TcpStream> {
         thread::sleep(rt, Duration::from_millis(1));
     }
     None
+}
+
+// Says whether a connection ends before its first byte.
+fn ends_at_once(stream: &TcpStream) -> bool {
+    let mut byte = [0u8; 1];
+    !matches!(stream.peek(&mut byte), Ok(count) if count > 0)
 }
 
 // Reads a head, to its empty line.

@@ -124,6 +124,24 @@ pub(crate) fn play_keeping<
         + Send
         + 'static,
 >(rt: &R, story: Story, keeping: Keeping) {
+    play_with(rt, story, keeping, "");
+}
+
+// The same with these words at the end of the server's line.
+fn play_with<
+    R: Net<Listener = TcpListener, Stream = TcpStream>
+        + Clock
+        + Print
+        + Eprint
+        + AllocGlobal
+        + Threads
+        + Wait
+        + Abort
+        + Sync
+        + Copy
+        + Send
+        + 'static,
+>(rt: &R, story: Story, keeping: Keeping, words: &str) {
     let alloc = rt.alloc();
     let far = listening(rt);
     far.set_nonblocking(true)
@@ -133,7 +151,7 @@ pub(crate) fn play_keeping<
     let server = address(rt, &far);
     let (settings, limit, steps) = (story.settings, story.limit, story.steps);
     let text = format!(in alloc;
-        "listen w\n bind :1\n{settings} server it {server} maxconn {limit}\n"
+        "listen w\n bind :1\n{settings} server it {server} maxconn {limit} {words}\n"
     ).expect(rt, "memory");
     let wrong = thread::scope(thread::scope_env(), rt, |scope| {
         let server = &far;
@@ -489,16 +507,18 @@ fn a_request_that_is_put_back_is_gone_with_its_client(rt: HostRuntime) {
 #[test]
 fn a_look_up_that_hangs_holds_up_no_check(rt: HostRuntime) {
     let story = Story {
-        settings: " retries 0\n server far a.name:80 weight 0 check inter 10ms\n server gone 127.0.0.1:1 check inter 10ms rise 1 fall 1\n",
+        settings: " server far a.name:80 weight 0 check inter 100ms\n",
         limit: 1,
         places: 8,
         steps: &[
-            Step::Passes(400),
+            Step::IsChecked,
+            Step::IsChecked,
+            Step::IsChecked,
             Step::Comes(GET),
             Step::Takes(LINE),
             Step::Answers(0, HI),
             Step::Ends(0, HI_TOLD),
         ],
     };
-    play(&Hanging::new(rt), story);
+    play_with(&Hanging::new(rt), story, ONCE, "check inter 100ms fall 10");
 }

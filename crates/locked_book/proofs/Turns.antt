@@ -14,7 +14,7 @@ use Rattle.grant_board.specs.declared.returned.Return.{Return}
 use Rattle.grant_board.specs.KeeperCalls.{FindsUnposted}
 use Rattle.log_entries.specs.Histories.{effective}
 use Rattle.locked_book.specs.Calls.{Booked, TakesBack, grants_in, added}
-use Rattle.locked_book.specs.Turns.{Visits, VisitsFrom, Walks}
+use Rattle.locked_book.specs.Turns.{Visits, VisitsFrom, StopsBelow, Walks}
 
 -- a visit leaves the other places out
 pub visit_keeps : (m p q : ℕ) (old : Booked) (woken : List ℕ) (new : Booked) (woken_then : List ℕ) → q ≢ p → Visits m p old woken new woken_then
@@ -139,9 +139,26 @@ pub visit_of : (m p : ℕ) (old : Booked) (woken : List ℕ) (new : Booked) (wok
 visit_of m p old woken new woken_then None out some none = record { out = out; found = inr none }
 visit_of m p old woken new woken_then (Some back) out some none = record { out = out; found = inl (back, some) }
 
--- a walk that stopped before its next part, or within it
-pub stopped : (m low : ℕ) (a : Booked) (woken_a : List ℕ) (b : Booked) (woken_b : List ℕ) (c : Booked) (woken_c : List ℕ) (others : List ℕ) (mid : ℕ)
-    → low ≤ mid → Walks m low mid a woken_a b woken_b → VisitsFrom m mid others b woken_b c woken_c
-    → (places : List ℕ) × VisitsFrom m low places a woken_a c woken_c
-stopped m low a woken_a b woken_b c woken_c others mid from is more =
-    (is.places ++ others, visits_after m is.places others low mid a woken_a b woken_b c woken_c from is.below is.visits more)
+-- a walk that stopped within its next part
+pub stopped : (m low : ℕ) (a : Booked) (woken_a : List ℕ) (b : Booked) (woken_b : List ℕ) (c : Booked) (woken_c : List ℕ) (mid : ℕ)
+    → low ≤ mid → Walks m low mid a woken_a b woken_b → StopsBelow m mid b woken_b c woken_c → StopsBelow m low a woken_a c woken_c
+stopped m low a woken_a b woken_b c woken_c mid from is more = record {
+  places = is.places ++ more.places;
+  visits = visits_after m is.places more.places low mid a woken_a b woken_b c woken_c from is.below is.visits more.visits;
+  next = more.next;
+  from = let up = more.from in omega (arith, from, up);
+  above = λ q there. elim (Contains-append_cases is.places more.places q there) [
+    | inl old ↦ let less = is.below q old in let up = more.from in omega (arith, less, up)
+    | inr new ↦ more.above q new
+  ];
+  all = λ q after less out. by_place q after less out (nat_lt q mid) refl;
+  out = more.out;
+}
+  where
+    by_place : (q : ℕ) → low ≤ q → q < more.next → 0 < count_at q a.view.out → (b : Bool) → nat_lt q mid ≡ b
+        → Contains (is.places ++ more.places) q
+    by_place q after less out true e = Contains-append_left is.places more.places q (is.all q after (grind (arith, nat_tests)) out)
+    by_place q after less out false e =
+        let high_enough : mid ≤ q = grind (arith, nat_tests) in
+        Contains-append_right is.places more.places q
+        (more.all q high_enough less (visits_keep m is.places low mid q a woken_a b woken_b is.below high_enough is.visits out))

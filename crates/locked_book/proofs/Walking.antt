@@ -1,9 +1,10 @@
 -- A walk over a block of places that were out when it began.
-use Rattle.std.proofs.Common.{◌≡◌, ◌≢◌, ℕ, ◌+◌, ◌*◌, ◌/◌, ◌<◌, ◌≤◌, ◌↔◌, List, arith}
+use Rattle.std.proofs.Common.{◌≡◌, ◌≢◌, ℕ, ◌+◌, ◌*◌, ◌/◌, ◌<◌, ◌≤◌, ◌↔◌, nat_lt, Bool, true, false, List, Contains, refl, arith}
+use Rattle.std.proofs.lemmas.Bool.Decides.{nat_tests}
 use Rattle.base_places.specs.Sets.{Ahead, HasAhead, IsFirstAhead}
 use Rattle.grant_board.specs.Views.{count_at}
 use Rattle.locked_book.specs.Calls.{Booked}
-use Rattle.locked_book.specs.Turns.{Visits, Walks}
+use Rattle.locked_book.specs.Turns.{Visits, StopsBelow, Walks}
 use Rattle.locked_book.proofs.Turns.{walks_none, walks_on, walks_further, visit_keeps}
 
 -- how far it has come: the places below a number are done with, and those of them that were out at first and come later are ahead, and are out still
@@ -59,6 +60,21 @@ module _ (m low high places : ℕ) (first : Booked) (before : List ℕ) (now : B
         let up = (is.later p at.there).0 in
         (less q).1 (λ same. absurd (omega (arith, same, from)), is.all q (omega (arith, up, from)) to out);
   }
+
+  pub walking_stops : (p : ℕ) → IsFirstAhead ahead p → StopsBelow m low first before now woken
+  walking_stops p at = record {
+    places = is.walks.places;
+    visits = is.walks.visits;
+    next = p;
+    from = let up = (is.later p at.there).0 in let low_from = is.no_lower in omega (arith, up, low_from);
+    above = λ q there. let less = is.walks.below q there in let up = (is.later p at.there).0 in omega (arith, less, up);
+    all = λ q after less out. all_up_to q after less out (nat_lt q is.from) refl;
+    out = is.out p at.there;
+  }
+    where
+      all_up_to : (q : ℕ) → low ≤ q → q < p → 0 < count_at q first.view.out → (b : Bool) → nat_lt q is.from ≡ b → Contains is.walks.places q
+      all_up_to q after less out true e = is.walks.all q after (grind (arith, nat_tests)) out
+      all_up_to q after less out false e = absurd (none_between p at q (grind (arith, nat_tests)) less out)
 
   pub walking_ends : ((q : ℕ) → HasAhead ahead q → ⊥) → Walks m low high first before now woken
   walking_ends none = walks_further m low is.from high first before now woken is.no_higher (λ q from to out. none q (is.all q from to out)) is.walks

@@ -1,9 +1,10 @@
 -- A turn: the places that are out are looked at by rising number, each once, and the returns there are collected.
-use Rattle.std.specs.Prelude.{◌≡◌, ◌⊎◌, ℕ, ◌+◌, ◌<◌, ◌≤◌, List, [], ◌∷◌, Contains, None}
+use Rattle.std.specs.Prelude.{◌≡◌, ◌⊎◌, ℕ, ◌+◌, ◌<◌, ◌≤◌, List, [], ◌∷◌, Contains, None, Some}
 use Rattle.grant_board.specs.declared.returned.Return.{Return}
 use Rattle.grant_board.specs.Views.{count_at}
 use Rattle.grant_board.specs.KeeperCalls.{FindsUnposted}
 use Rattle.log_entries.specs.declared.entry.Entry.TheVariants.{Tick}
+use Rattle.log_entries.specs.declared.refusal.Refusal.TheVariants.{LogFull}
 use Rattle.log_entries.specs.Histories.{effective, SomeExpires, refuses_tick}
 use Rattle.log_entries.specs.Legal.{AddsEvent}
 use Rattle.locked_book.specs.Calls.{Booked, TakesBack, CarriesOut}
@@ -28,9 +29,23 @@ pub record Walks (moment low high : ℕ) (old : Booked) (woken : List ℕ) (new 
   pub below : (place : ℕ) → Contains places place → place < high
   pub all : (place : ℕ) → low ≤ place → place < high → 0 < count_at place old.view.out → Contains places place
 
--- some places were visited
-abbrev pub VisitsSome : ℕ → Booked → List ℕ → Booked → List ℕ → Type 0
-VisitsSome moment old woken new woken_then = (places : List ℕ) × VisitsFrom moment 0 places old woken new woken_then
+-- the places that were out at first were visited, from a number up to a place that is out and was next
+pub record StopsBelow (moment first : ℕ) (old : Booked) (woken : List ℕ) (new : Booked) (woken_then : List ℕ) : Type 0 where
+  pub places : List ℕ
+  pub visits : VisitsFrom moment first places old woken new woken_then
+  pub next : ℕ
+  pub from : first ≤ next
+  pub above : (place : ℕ) → Contains places place → place < next
+  pub all : (place : ℕ) → first ≤ place → place < next → 0 < count_at place old.view.out → Contains places place
+  pub out : 0 < count_at next new.view.out
+
+-- why a turn was halted: the log had no room at first; or a place that is out, above those that were visited, was next; or
+-- each place that was out at first was visited, and a tick was due, since some request had waited too long
+pub record Halts (moment : ℕ) (old : Booked) (woken : List ℕ) (new : Booked) (woken_then : List ℕ) : Type 0 where
+  pub cause : ((refuses_tick old.history ≡ Some LogFull) × (new ≡ old) × (woken_then ≡ woken))
+      ⊎ (StopsBelow moment 0 old woken new woken_then
+      ⊎ (SomeExpires new.history moment × ((places : List ℕ) × VisitsFrom moment 0 places old woken new woken_then
+      × ((place : ℕ) → 0 < count_at place old.view.out → Contains places place))))
 
 -- the log had room for an event, and each place that was out at first was visited; then the
 -- requests that waited too long were told so, where one had

@@ -6,7 +6,7 @@ ghost use Rattle.log_entries.specs.Rows.{served, queued};
 ghost use Rattle.log_entries.specs.Scenes.{is_up};
 ghost use Rattle.base_lists.specs.Weights.{AreIn};
 ghost use Rattle.locked_book.specs.Outstanding.{outstanding};
-ghost use Rattle.locked_book.specs.Turns.{VisitsFrom, VisitsSome, Walks, Turns};
+ghost use Rattle.locked_book.specs.Turns.{StopsBelow, Halts, Walks, Turns};
 ghost use Rattle.dispatch_core.specs.Occurrences.{refuses, entry_of};
 ghost use Rattle.locked_book.specs.Ends.{neither_ends_nor_limits, IsAcceptable};
 ghost use Rattle.log_entries.specs.Histories.{first_window, next_window, state_of, effective, refuses_arrival, refuses_abort, refuses_tick, refuses_check, refuses_limit, SomeExpires, RefusedOrNoMemory};
@@ -373,7 +373,7 @@ impl<Q: PendQueue<Key, usize>, N: DeskName> Book<Q, N> {
         requires { board.now ≡ N.board }
         ensures ok { OnOk result (Turns moment self.old woken.old self.new woken.new) }
         ensures err { IfErr result (λ refusal. (refusal ≡ LogFull) × (refuses_tick self.new.history ≡ Some LogFull)) }
-        ensures stopped { OnErr result (VisitsSome moment self.old woken.old self.new woken.new) }
+        ensures stopped { OnErr result (Halts moment self.old woken.old self.new woken.new) }
     {
         if !self.core.has_room() {
             return Err(Refusal::LogFull);
@@ -400,7 +400,7 @@ impl<Q: PendQueue<Key, usize>, N: DeskName> Book<Q, N> {
         requires in_range { number < 64 }
         ensures ok { OnOk result (Walks moment (64 * number) (64 * number + 64) self.old woken.old self.new woken.new) }
         ensures err { IfErr result (λ refusal. (refusal ≡ LogFull) × (refuses_tick self.new.history ≡ Some LogFull)) }
-        ensures stopped { OnErr result ((places : List ℕ) × VisitsFrom moment (64 * number) places self.old woken.old self.new woken.new) }
+        ensures stopped { OnErr result (StopsBelow moment (64 * number) self.old woken.old self.new woken.new) }
     {
         let mut ahead = self.keeping.block(number);
         let mut room = self.core.has_room();

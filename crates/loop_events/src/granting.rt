@@ -91,7 +91,7 @@ impl<
             Looked::Granted(granted) => return Some(granted),
             Looked::Waits | Looked::Nobody => {}
             Looked::Unwatched(ticket) => {
-                self.shared.proxy.give_up(self.rt, &mut self.gate, ticket);
+                let _ = self.shared.proxy.give_up(self.rt, &mut self.gate, ticket);
             }
             Looked::NoSeat => self.shared.look_again(self.rt, self.home, place),
         }
@@ -217,7 +217,7 @@ impl<
     fn return_seat(&mut self, lent: Lent<N>, place: usize) {
         self.shared.return_seat(self.rt, lent);
         if self.shared.has(place) {
-            self.shared.proxy.collect(self.rt, &mut self.gate, place);
+            let _ = self.shared.proxy.collect(self.rt, &mut self.gate, place);
             self.freed = true;
         }
     }

@@ -178,7 +178,7 @@ impl<
     /// The poll reports a client whose request waits. Where it has left, its request is aborted.
     pub(crate) fn hear_waiting(&mut self, place: usize, ticket: u64) {
         if self.shared.lies_left(self.rt, place, ticket) {
-            self.shared.proxy.give_up(self.rt, &mut self.gate, ticket);
+            let _ = self.shared.proxy.give_up(self.rt, &mut self.gate, ticket);
             self.go_on();
         }
     }

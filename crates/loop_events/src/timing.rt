@@ -193,7 +193,7 @@ impl<
     fn look_at_queues(&mut self) {
         let now = self.gate.moment();
         if self.shared.proxy.desk.expired(self.rt, now) {
-            self.shared.proxy.turn(self.rt, &mut self.gate);
+            let _ = self.shared.proxy.turn(self.rt, &mut self.gate);
             self.go_on();
         }
         if let Some(millis) = self.shared.proxy.config.queue_timeout {
@@ -212,7 +212,7 @@ impl<
             let Some((place, ticket)) = self.shared.find_hopeless(self.rt, from, hopeless) else {
                 break;
             };
-            self.shared.proxy.give_up(self.rt, &mut self.gate, ticket);
+            let _ = self.shared.proxy.give_up(self.rt, &mut self.gate, ticket);
             from = place.saturating_add(1);
         }
         self.go_on();

@@ -1,5 +1,7 @@
 //! The thread that checks the servers, and how threads that aren't loops report places.
 
+ghost use Rattle.std.specs.Prelude.{None};
+
 use crate::shared::Shared;
 use base_places::PlaceSet;
 use dispatch_reports::EndedWindow;
@@ -35,6 +37,9 @@ impl<
     type Client = TcpStream;
 
     type Server = TcpStream;
+
+    // It counts nothing.
+    ghost counts = { λ gate. None };
 
     fn next(&mut self) -> Option<TcpStream> {
         None

@@ -35,6 +35,6 @@ pub fn run_windows<
         if shared.is_over_after(rt, millis) {
             return;
         }
-        shared.proxy.end_window(rt, &mut gate);
+        let _ = shared.proxy.end_window(rt, &mut gate);
     }
 }

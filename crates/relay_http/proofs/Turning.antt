@@ -4,7 +4,7 @@ use Rattle.std.specs.Prelude.{Err, Result}
 use Rattle.http_bodies.specs.Steps.{Ends, Moves}
 use Rattle.relay_http.specs.Failures.{Fails, Blames}
 use Rattle.http_texts.specs.declared.fault.Fault.{Fault}
-use Rattle.http_texts.specs.declared.fault.Fault.TheVariants.{Turns}
+use Rattle.http_texts.specs.declared.fault.Fault.TheVariants.{Turns, Write}
 
 pub moves_turns : {a b : Ends} {used text : List ℕ} → Moves a b used text → b.pipe.turns ≤ a.pipe.turns
 moves_turns m = omega (arith, m.reads.reads, m.reads.writes, m.reads.spent)
@@ -19,3 +19,9 @@ pub fails_spent : {T : Type 0} {a b : Ends} {used text : List ℕ} {Why : Fault 
 fails_spent {a = a} {b} {Why = Why} fault f is =
     let same : fault ≡ Turns = cc in
     (subst (λ (g : Fault). Blames a b Why (a.pipe.inbox ++ f.taken) g) same f.blames).1
+
+-- where nothing was asked to be written, no write failed
+pub fails_unwritten : {a b : Ends} {used text : List ℕ} {Why : Fault → List ℕ → Type 0} (fault : Fault) → Fails a b used text Why fault
+    → b.sink.failures ≡ a.sink.failures → fault ≡ Write → ⊥
+fails_unwritten {a = a} {b} {Why = Why} fault f same is =
+    let more = (subst (λ (g : Fault). Blames a b Why (a.pipe.inbox ++ f.taken) g) is f.blames).1 in absurd (omega (arith, same, more))

@@ -1,14 +1,27 @@
 -- The state of an exchange after each of its calls.
-use Rattle.std.specs.Prelude.{◌≡◌, ℕ, ◌<◌, Bool, false, List, [], length, ◌⊎◌, IsTrue, IsFalse}
+use Rattle.std.specs.Prelude.{◌≡◌, ℕ, ◌<◌, Bool, true, false, None, List, [], length, ◌⊎◌, IsTrue, IsFalse}
 use Rattle.std.specs.Io.KnownBytes.{Appends, Keeps}
 use Rattle.base_streams.specs.Streams.{Stream}
 use Rattle.grant_board.specs.Views.{Grant}
 use Rattle.http_bodies.specs.declared.pipe.Pipe.{Pipe}
+use Rattle.http_texts.specs.declared.fault.Fault.{Fault}
+use Rattle.relay_http.specs.declared.closing.Closing.{Closing}
+use Rattle.relay_http.specs.declared.closing.Closing.TheVariants.{Answering, Breaking}
 use Rattle.relay_http.specs.declared.exchange.Exchange.{Exchange}
 use Rattle.relay_http.specs.declared.exchange.Stage.{Stage}
 use Rattle.relay_http.specs.declared.exchange.Stage.TheVariants.{New, Forwarded, Failed}
 use Rattle.base_verdict.specs.declared.Verdict.{Verdict}
 use Rattle.base_verdict.specs.declared.Verdict.TheVariants.{Serve, Told}
+
+-- no fault closed it, and its client was sent no refusal
+pub record IsOpen (e : Exchange) : Type 0 where
+  pub closing : e.closing ≡ None
+  pub refused : e.refused ≡ None
+
+-- the closing by a fault while an answer is handed on, by whether a byte of it was written
+abbrev pub closed_answer : Bool → Fault → Closing
+closed_answer true fault = Breaking fault
+closed_answer false fault = Answering fault
 
 -- nothing was read or written yet
 pub record IsFresh (most : ℕ) (e : Exchange) : Type 0 where
@@ -17,6 +30,7 @@ pub record IsFresh (most : ℕ) (e : Exchange) : Type 0 where
   pub most_is : e.most ≡ most
   pub stage : e.stage ≡ New
   pub begun : e.begun ≡ false
+  pub unclosed : IsOpen e
 
 -- it is at this stage, or has met a fault
 abbrev pub IsAtOrFailed : Stage → Exchange → Type 0

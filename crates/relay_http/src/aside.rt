@@ -2,7 +2,7 @@ ghost use Rattle.std.specs.Prelude.{◌≡◌, [], false};
 ghost use Rattle.grant_board.specs.Views.{Grant};
 ghost use Rattle.relay_http.specs.Asides.{aside_stage};
 ghost use Rattle.relay_http.specs.States as states;
-ghost use Rattle.relay_http.specs.States.{IsFresh};
+ghost use Rattle.relay_http.specs.States.{IsFresh, IsOpen};
 
 use crate::exchange::{Exchange, Stage};
 use base_verdict::Verdict;
@@ -37,6 +37,7 @@ impl Exchange {
         ensures turns { self.new.pipe.turns ≡ self.old.most }
         ensures most { self.new.most ≡ self.old.most }
         ensures begun { self.new.begun ≡ false }
+        ensures unclosed { IsOpen self.new }
     {
         self.stage = Stage::Forwarded {
             ticket: aside.ticket,

@@ -1,4 +1,4 @@
-ghost use Rattle.std.specs.Prelude.{◌≡◌, ◌≢◌, ◌≤◌, ℕ, List, [], Err, IfOk, OnOk, IfErr, OnErr, IsSome, IsTrue, IsFalse, false, Option};
+ghost use Rattle.std.specs.Prelude.{◌≡◌, ◌≢◌, ◌≤◌, ℕ, List, [], Err, IfOk, OnOk, IfErr, OnErr, IsSome, Some, IsTrue, IsFalse, false, Option};
 ghost use Rattle.std.specs.Io.KnownBytes.{Appends, Keeps, IsAtEnd};
 ghost use Rattle.httparse.specs.Grammar.{RequestHead, print_request};
 ghost use Rattle.relay_http.specs.Failures.{Conveys, Misses, NoCause, WrotePrefix};
@@ -11,6 +11,7 @@ ghost use Rattle.relay_http.specs.States.{IsAtOrFailed, Serves};
 ghost use Rattle.http_texts.specs.Texts.{framed_for, unnamed};
 ghost use Rattle.req_view.specs.Request.{request_of};
 
+use crate::closing::Closing;
 use crate::exchange::{Exchange, Stage};
 use base_streams::Counted;
 use grant_board::Pass;
@@ -43,6 +44,10 @@ impl Exchange {
         ensures spent { result ≡ Err Fault.Turns → self.new.pipe.turns ≡ 0 }
         ensures most { self.new.most ≡ self.old.most }
         ensures begun { self.new.begun ≡ self.old.begun }
+        ensures unwritten { IfErr result (λ fault. fault ≢ Fault.Write) }
+        ensures closes { self.old.stage ≢ Stage.Failed → IfErr result (λ fault. self.new.closing ≡ Some (Closing.Reading fault)) }
+        ensures unclosed { OnOk result (self.new.closing ≡ self.old.closing) }
+        ensures refused { self.new.refused ≡ self.old.refused }
     {
         let _turns = self.turns();
         let mut source = Counted::new(reader);
@@ -78,6 +83,9 @@ impl Exchange {
         ensures spent { result ≡ Err Fault.Turns → self.new.pipe.turns ≡ 0 }
         ensures most { self.new.most ≡ self.old.most }
         ensures begun { self.new.begun ≡ self.old.begun }
+        ensures closes { self.old.stage ≢ Stage.Failed → IfErr result (λ fault. self.new.closing ≡ Some (Closing.Forwarding fault)) }
+        ensures unclosed { OnOk result (self.new.closing ≡ self.old.closing) }
+        ensures refused { self.new.refused ≡ self.old.refused }
     {
         let _turns = self.turns();
         let mut source = Counted::new(reader);
@@ -103,6 +111,9 @@ impl Exchange {
         ensures spent { result ≡ Err Fault.Turns → self.new.pipe.turns ≡ 0 }
         ensures most { self.new.most ≡ self.old.most }
         ensures begun { self.new.begun ≡ self.old.begun }
+        ensures closes { self.old.stage ≢ Stage.Failed → IfErr result (λ fault. self.new.closing ≡ Some (Closing.Leaving fault)) }
+        ensures unclosed { OnOk result (self.new.closing ≡ self.old.closing) }
+        ensures refused { self.new.refused ≡ self.old.refused }
     {
         let _turns = self.turns();
         let mut sink = Counted::new(writer);
@@ -146,6 +157,9 @@ impl Exchange {
         ensures begun { OnOk result (IsTrue self.new.begun) }
         ensures stays { IsTrue self.old.begun → IsTrue self.new.begun }
         ensures silent { self.old.stage ≢ Stage.Failed → IsFalse self.new.begun → Keeps (W.contents writer.old) (W.contents writer.new) }
+        ensures closes { self.old.stage ≢ Stage.Failed → IfErr result (λ fault. self.new.closing ≡ Some (states.closed_answer self.new.begun fault)) }
+        ensures unclosed { OnOk result (self.new.closing ≡ self.old.closing) }
+        ensures refused { self.new.refused ≡ self.old.refused }
     {
         let _turns = self.turns();
         let mut source = Counted::new(reader);
@@ -162,6 +176,8 @@ impl Exchange {
         ensures stage { self.new.stage ≡ Stage.Failed }
         ensures most { self.new.most ≡ self.old.most }
         ensures silent { IsFalse self.new.begun → Keeps (W.contents writer.old) (W.contents writer.new) }
+        ensures closing { self.new.closing ≡ self.old.closing }
+        ensures refused { self.new.refused ≡ Some code }
     {
         let mut sink = Counted::new(writer);
         self.refuse_to(code, &mut sink)

@@ -1,7 +1,10 @@
-ghost use Rattle.std.specs.Prelude.{◌≡◌, ◌≤◌, length, [], false, IfOk, IsTrue, ◌↔◌};
+ghost use Rattle.std.specs.Prelude.{◌≡◌, ◌≢◌, None, ◌≤◌, length, [], false, IfOk, IsTrue, ◌↔◌};
+ghost use Rattle.relay_http.specs.declared.exchange.Stage.TheVariants.{Failed};
 
+use crate::closing::Closing;
 use base_verdict::Verdict;
 use http_bodies::{INBOX_BYTES, Pipe};
+use http_texts::Code;
 use std::alloc::{AllocError, Global};
 
 /// The stage of an exchange.
@@ -30,11 +33,16 @@ pub struct Exchange {
     pub(crate) most: u64,
     pub(crate) stage: Stage,
     pub(crate) begun: bool,
+    /// The fault that closed it.
+    pub(crate) closing: Option<Closing>,
+    /// The refusal that its client was sent, if it was still there.
+    pub(crate) refused: Option<Code>,
     ghost drained: { pipe.outbox ≡ [] },
+    pub ghost unclosed: { stage ≢ Failed → (closing ≡ None) × (refused ≡ None) },
 }
 
 impl Exchange {
-    ghost use Rattle.relay_http.specs.States.{IsFresh};
+    ghost use Rattle.relay_http.specs.States.{IsFresh, IsOpen};
 
     /// Makes an exchange that makes at most this number of reads and writes. It takes 84 KiB, once for its life.
     pub fn new(alloc: Global, turns: u64) -> Result<Exchange, AllocError>
@@ -46,6 +54,8 @@ impl Exchange {
             most: turns,
             stage: Stage::New,
             begun: false,
+            closing: None,
+            refused: None,
         })
     }
 
@@ -56,6 +66,8 @@ impl Exchange {
         self.pipe.renew(self.most);
         self.stage = Stage::New;
         self.begun = false;
+        self.closing = None;
+        self.refused = None;
     }
 
     /// Returns the bytes that were read and aren't used yet: after a request's head, those of its
@@ -76,6 +88,7 @@ impl Exchange {
         ensures turns { self.new.pipe.turns ≡ self.old.most }
         ensures most { self.new.most ≡ self.old.most }
         ensures begun { self.new.begun ≡ false }
+        ensures unclosed { IsOpen self.new }
     {
         self.pipe.hold(bytes);
         self.stage = Stage::Asked;
@@ -102,7 +115,14 @@ impl Exchange {
         self.pipe.turns()
     }
 
-    /// Says whether a fault closed it. Until it is renewed, every call except `refuse` answers `Closed` then.
+    /// Returns the fault that closed it. A refusal doesn't replace it.
+    pub fn closing(&self) -> Option<Closing>
+        ensures { result ≡ self.now.closing }
+    {
+        self.closing
+    }
+
+    /// Says whether a fault or a refusal closed it. Until it is renewed, every call except `refuse` answers `Closed` then.
     pub fn is_closed(&self) -> bool
         ensures { IsTrue result ↔ (self.now.stage ≡ Stage.Failed) }
     {

@@ -4,6 +4,7 @@
 mod aside;
 mod asking;
 mod calls;
+mod closing;
 mod exchange;
 mod leave;
 mod messages;
@@ -12,6 +13,7 @@ mod sending;
 mod steps;
 
 pub use aside::Aside;
+pub use closing::Closing;
 pub use exchange::{Exchange, Stage};
 pub use http_texts::{
     Additions, Code, Fault, Framing, MOST_INTERIMS, Persistence, Plan, answer_plan, request_framing,

@@ -1,4 +1,4 @@
-ghost use Rattle.std.specs.Prelude.{◌≡◌, ◌≤◌, ◌<◌, ◌+◌, ◌^◌, length, false, OnOk, IfErr, IsTrue, ◌↔◌};
+ghost use Rattle.std.specs.Prelude.{◌≡◌, ◌≤◌, ◌<◌, ◌+◌, ◌^◌, length, false, Some, OnOk, IfErr, IsTrue, ◌↔◌};
 ghost use Rattle.http_bodies.specs.Texts.{Wrote, WritesFront};
 ghost use Rattle.http_texts.specs.Replies.{refusal_text};
 ghost use Rattle.relay_http.specs.States.{Marks};
@@ -23,6 +23,8 @@ impl Exchange {
         ensures same_sink { (K.stream sink.new).name ≡ (K.stream sink.old).name }
         ensures most { self.new.most ≡ self.old.most }
         ensures marks { Marks (K.stream sink.old) (K.stream sink.new) self.old.begun self.new.begun }
+        ensures closing { self.new.closing ≡ self.old.closing }
+        ensures refused { self.new.refused ≡ Some code }
     {
         let text = code.text();
         // As many turns as bytes, of which each write takes one or more: when the turns end, the text is written.
@@ -32,6 +34,7 @@ impl Exchange {
         self.begun = has_begun(self.begun, before, sink.successes());
         self.pipe.forget_waiting();
         self.stage = Stage::Failed;
+        self.refused = Some(code);
         match result {
             Ok(()) => Ok(()),
             Err(fault) => {

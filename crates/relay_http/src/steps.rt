@@ -1,4 +1,4 @@
-ghost use Rattle.std.specs.Prelude.{◌≡◌, ◌≢◌, ◌+◌, ◌^◌, ◌<◌, ◌≤◌, ℕ, Bool, ◌||◌, nat_lt, List, [], Err, IfOk, OnOk, IfErr, OnErr, IsSome, IsTrue};
+ghost use Rattle.std.specs.Prelude.{◌≡◌, ◌≢◌, ◌+◌, ◌^◌, ◌<◌, ◌≤◌, ℕ, Bool, ◌||◌, nat_lt, List, [], Err, IfOk, OnOk, IfErr, OnErr, IsSome, Some, IsTrue};
 ghost use Rattle.std.specs.Io.KnownBytes.{IsAtEnd};
 ghost use Rattle.base_streams.specs.Streams.{Stream};
 ghost use Rattle.httparse.specs.Grammar.{RequestHead, print_request};
@@ -14,6 +14,7 @@ ghost use Rattle.http_texts.specs.Texts.{framed_for, unnamed};
 ghost use Rattle.req_view.specs.Request.{request_of};
 
 use crate::asking::read_request;
+use crate::closing::{Closing, closed_answer};
 use crate::exchange::{Exchange, Stage};
 use crate::leave::give_leave;
 use crate::messages::{forward_answer, forward_request};
@@ -46,6 +47,10 @@ impl Exchange {
         ensures same_source { (S.stream source.new).name ≡ (S.stream source.old).name }
         ensures most { self.new.most ≡ self.old.most }
         ensures begun { self.new.begun ≡ self.old.begun }
+        ensures unwritten { IfErr result (λ fault. fault ≢ Fault.Write) }
+        ensures closes { self.old.stage ≢ Stage.Failed → IfErr result (λ fault. self.new.closing ≡ Some (Closing.Reading fault)) }
+        ensures unclosed { OnOk result (self.new.closing ≡ self.old.closing) }
+        ensures refused { self.new.refused ≡ self.old.refused }
     {
         if self.is_closed() {
             return Err(Fault::Closed);
@@ -58,6 +63,7 @@ impl Exchange {
             Err(fault) => {
                 self.pipe.forget_waiting();
                 self.stage = Stage::Failed;
+                self.closing = Some(Closing::Reading(fault));
                 Err(fault)
             }
         }
@@ -80,6 +86,9 @@ impl Exchange {
         ensures same_sink { (K.stream sink.new).name ≡ (K.stream sink.old).name }
         ensures most { self.new.most ≡ self.old.most }
         ensures begun { self.new.begun ≡ self.old.begun }
+        ensures closes { self.old.stage ≢ Stage.Failed → IfErr result (λ fault. self.new.closing ≡ Some (Closing.Leaving fault)) }
+        ensures unclosed { OnOk result (self.new.closing ≡ self.old.closing) }
+        ensures refused { self.new.refused ≡ self.old.refused }
     {
         if self.is_closed() {
             return Err(Fault::Closed);
@@ -89,6 +98,7 @@ impl Exchange {
             Err(fault) => {
                 self.pipe.forget_waiting();
                 self.stage = Stage::Failed;
+                self.closing = Some(Closing::Leaving(fault));
                 Err(fault)
             }
         }
@@ -122,6 +132,9 @@ impl Exchange {
         ensures same_sink { (K.stream sink.new).name ≡ (K.stream sink.old).name }
         ensures most { self.new.most ≡ self.old.most }
         ensures begun { self.new.begun ≡ self.old.begun }
+        ensures closes { self.old.stage ≢ Stage.Failed → IfErr result (λ fault. self.new.closing ≡ Some (Closing.Forwarding fault)) }
+        ensures unclosed { OnOk result (self.new.closing ≡ self.old.closing) }
+        ensures refused { self.new.refused ≡ self.old.refused }
     {
         if self.is_closed() {
             return Err(Fault::Closed);
@@ -134,6 +147,7 @@ impl Exchange {
             Err(fault) => {
                 self.pipe.forget_waiting();
                 self.stage = Stage::Failed;
+                self.closing = Some(Closing::Forwarding(fault));
                 Err(fault)
             }
         }
@@ -174,6 +188,9 @@ impl Exchange {
         ensures marks { self.old.stage ≢ Stage.Failed → Marks (K.stream sink.old) (K.stream sink.new) self.old.begun self.new.begun }
         ensures begun { OnOk result (IsTrue self.new.begun) }
         ensures stays { IsTrue self.old.begun → IsTrue self.new.begun }
+        ensures closes { self.old.stage ≢ Stage.Failed → IfErr result (λ fault. self.new.closing ≡ Some (states.closed_answer self.new.begun fault)) }
+        ensures unclosed { OnOk result (self.new.closing ≡ self.old.closing) }
+        ensures refused { self.new.refused ≡ self.old.refused }
     {
         if self.is_closed() {
             return Err(Fault::Closed);
@@ -190,6 +207,7 @@ impl Exchange {
             Err(fault) => {
                 self.pipe.forget_waiting();
                 self.stage = Stage::Failed;
+                self.closing = Some(closed_answer(self.begun, fault));
                 Err(fault)
             }
         }

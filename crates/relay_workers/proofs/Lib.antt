@@ -1,3 +1,4 @@
 pub mod Crosses
 mod Boards
+mod Counting
 mod Known

@@ -1,6 +1,9 @@
 pub mod Admissions
 pub mod Boards
+pub mod Endings
+pub mod Gates
 pub mod Outcomes
 pub mod Seats
+pub mod Turning
 pub mod Windows
 pub mod Tallies

@@ -1,9 +1,10 @@
 -- Numbers of clients, each of which saturates at its greatest value.
-use Rattle.std.specs.Prelude.{ℕ, ◌+◌, ◌-◌, ◌^◌, min, Result, Ok, Err}
+use Rattle.std.specs.Prelude.{◌≡◌, ℕ, ◌+◌, ◌-◌, ◌^◌, min, List, [], ◌∷◌, length, Option, Result, Ok, Err}
 use Rattle.http_texts.specs.declared.refusals.Code.TheVariants.{BadRequest, BadGateway, Unavailable}
 use Rattle.relay_workers.specs.declared.outcome.Outcome.{Outcome}
 use Rattle.relay_workers.specs.declared.outcome.Outcome.TheVariants.{Answered, Refused, Cut}
 use Rattle.relay_workers.specs.declared.tally.Tally.{Tally}
+use Rattle.relay_workers.specs.Gates.{Counts, with_more, one_end}
 use Rattle.relay_workers.specs.declared.stopping.Stopped.{Stopped}
 
 abbrev pub plus : ℕ → ℕ → ℕ
@@ -20,6 +21,29 @@ tally_noted (Refused BadRequest) t = record (counted t) { bad_requests = plus t.
 tally_noted (Refused BadGateway) t = record (counted t) { bad_gateways = plus t.bad_gateways 1 }
 tally_noted (Refused Unavailable) t = record (counted t) { unavailable = plus t.unavailable 1 }
 tally_noted Cut t = counted t
+
+-- no client
+abbrev pub no_clients : Tally
+no_clients = record { clients = 0; answered = 0; bad_requests = 0; bad_gateways = 0; unavailable = 0 }
+
+-- clients with these outcomes more
+abbrev pub all_noted : Tally → List Outcome → Tally
+all_noted t [] = t
+all_noted t (outcome ∷ outcomes) = all_noted (tally_noted outcome t) outcomes
+
+-- as many clients as there are outcomes, and this number of connections that were there and that weren't
+abbrev pub clients_of : List Outcome → ℕ → ℕ → Counts
+clients_of outcomes connected missing = record { clients = length outcomes; ends = 0; connected = connected; missing = missing }
+
+-- the tally is that of some outcomes, and the gate gave just as many clients
+abbrev pub AreNoted : Tally → Option Counts → Option Counts → Type 0
+AreNoted tally old new =
+    (outcomes : List Outcome) × (connected : ℕ) × (missing : ℕ) × (tally ≡ all_noted no_clients outcomes)
+    × (new ≡ with_more (clients_of outcomes connected missing) old)
+
+-- and then said that no more come
+abbrev pub AreAllNoted : Tally → Option Counts → Option Counts → Type 0
+AreAllNoted tally old new = (between : Option Counts) × AreNoted tally old between × (new ≡ with_more one_end between)
 
 abbrev pub together : Tally → Tally → Tally
 together a b = record {

@@ -1,12 +1,14 @@
-ghost use Rattle.std.specs.Prelude.{◌≡◌, ◌≢◌, IfOk, OnOk, IfErr, false};
+ghost use Rattle.std.specs.Prelude.{◌≡◌, ◌≢◌, IfOk, OnOk, IfErr, None, false};
 ghost use Rattle.log_entries.specs.declared.refusal.Refusal.TheVariants.{NoSuchServer};
-ghost use Rattle.relay_http.specs.States.{IsFresh};
+ghost use Rattle.relay_http.specs.Askings.{HasReadHead};
+ghost use Rattle.relay_http.specs.States.{IsFresh, IsOpen};
 ghost use Rattle.relay_http.specs.declared.exchange.Stage.TheVariants as stage;
 ghost use Rattle.relay_http.specs.declared.exchange.Stage.TheVariants.{Asked};
 ghost use Rattle.relay_workers.specs.Admissions.{IsAdmitted, IsAdmittedAs, IsAdmittedLate, IsRequestAt, WishIsTurnedAway, IsRefusedFor};
-ghost use Rattle.relay_workers.specs.declared.outcome.Outcome.TheVariants.{Answered};
-ghost use Rattle.relay_workers.specs.Outcomes.{after_reading};
-ghost use Rattle.http_texts.specs.declared.fault.Fault.{Fault};
+ghost use Rattle.relay_workers.specs.declared.outcome.Outcome.TheVariants.{Answered, Refused};
+ghost use Rattle.relay_workers.specs.Endings.{IsTurnedAway, IsSent, refusal_in};
+ghost use Rattle.relay_http.specs.Failures.{WrotePrefix};
+ghost use Rattle.http_texts.specs.Replies.{refusal_text};
 
 use crate::gate::Gate;
 use crate::outcome::Outcome;
@@ -47,10 +49,14 @@ pub fn admit<R: Wait, N: DeskName, G: Gate + Drop>(
 ) -> Result<Admitted<N, G::Client>, Outcome>
     requires { IsFresh runner.old.exchange.most runner.old.exchange }
     ensures ok { IfOk result (λ it. IsAdmitted N.terms N.setup proxy.now.config it.view it.at) }
+    ensures read { IfOk result (λ it. HasReadHead it.view runner.new.exchange.pipe.inbox (G.Client.remaining client) (G.Client.remaining it.client)) }
     ensures asked { OnOk result (runner.new.exchange.stage ≡ Asked) }
     ensures begun { OnOk result (runner.new.exchange.begun ≡ false) }
     ensures err { IfErr result (λ outcome. outcome ≢ Answered) }
-    ensures told { IfErr result (λ outcome. (fault : Fault) × (outcome ≡ after_reading fault)) }
+    ensures told { IfErr result (λ outcome. IsTurnedAway N.terms N.setup proxy.now.config runner.new.exchange outcome) }
+    ensures sent { IfErr result (λ outcome. IsSent runner.new.exchange outcome) }
+    ensures unclosed { OnOk result (IsOpen runner.new.exchange) }
+    ensures counts { G.counts runner.new.gate ≡ G.counts runner.old.gate }
     ensures most { runner.new.exchange.most ≡ runner.old.exchange.most }
 {
     let mut client = client;
@@ -87,6 +93,7 @@ pub fn arrive<R: Wait, N: DeskName, G: Gate>(
     ensures err { IfErr result (λ refusal. WishIsTurnedAway N.terms N.setup proxy.now.config view.now refusal) }
     // A pin is a server of the dispatcher.
     ensures known { IfErr result (λ refusal. refusal ≢ NoSuchServer) }
+    ensures counts { G.counts gate.new ≡ G.counts gate.old }
 {
     let wish = decide(&proxy.config, view);
     arrive_as(rt, proxy, gate, &wish)
@@ -101,6 +108,7 @@ pub fn arrive_as<R: Wait, N: DeskName, G: Gate>(
 ) -> Result<Ticketed, Refusal>
     ensures ok { IfOk result (λ it. IsAdmittedAs N.terms N.setup wish.now it) }
     ensures err { IfErr result (λ refusal. IsRefusedFor N.terms N.setup wish.now.pin refusal) }
+    ensures counts { G.counts gate.new ≡ G.counts gate.old }
 {
     let wanted = Wanted {
         class: wish.class,
@@ -128,6 +136,7 @@ pub fn arrive_late<R: Wait, N: DeskName, G: Gate>(
 ) -> Result<Ticketed, Refusal>
     ensures ok { IfOk result (λ it. IsAdmittedLate N.terms N.setup deferred it) }
     ensures err { IfErr result (λ refusal. IsRefusedFor N.terms N.setup deferred.pin refusal) }
+    ensures counts { G.counts gate.new ≡ G.counts gate.old }
 {
     let moment = gate.moment();
     let (arrived, _) = proxy.retry_in_new_window(rt, gate, || {
@@ -148,8 +157,13 @@ pub(crate) fn answer_refusal<W: Write>(
 ) -> Outcome
     requires begun { exchange.old.begun ≡ false }
     requires unanswered { (outcome ≢ Answered) × (exchange.old.stage ≢ stage.Answered) }
+    requires unsent { exchange.old.refused ≡ None }
     ensures same { result ≡ outcome }
     ensures unanswered { (result ≢ Answered) × (exchange.new.stage ≢ stage.Answered) }
+    ensures sent { IsSent exchange.new result }
+    ensures written { (code : Code) → outcome ≡ Refused code → WrotePrefix (W.contents client.old) (W.contents client.new) (refusal_text code) }
+    ensures kept { refusal_in outcome ≡ None → client.new ≡ client.old }
+    ensures closing { exchange.new.closing ≡ exchange.old.closing }
     ensures most { exchange.new.most ≡ exchange.old.most }
 {
     if let Outcome::Refused(code) = outcome {

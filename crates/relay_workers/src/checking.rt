@@ -48,7 +48,8 @@ fn check_each<R: Wait, N: DeskName, G: Gate>(
         }
         if let Some(ok) = gate.probe(number) {
             *next = after(now, checks.inter);
-            proxy.note_check(rt, gate, number, ok);
+            // A result that the dispatcher refuses is dropped.
+            let _ = proxy.note_check(rt, gate, number, ok);
         }
     }
 }

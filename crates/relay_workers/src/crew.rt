@@ -4,7 +4,7 @@ ghost use Rattle.relay_workers.specs.Tallies.{of_both};
 use crate::checking::checker;
 use crate::gate::{Gate, Pause};
 use crate::lending::{join_all, split_off};
-use crate::proxy::Proxy;
+use crate::proxy::{Proxy, Worker};
 use crate::stopping::Stopped;
 use crate::tally::Tally;
 use crate::working::worker;
@@ -118,7 +118,12 @@ fn run_crew<
         return Ok(Tally::zero());
     };
     let started = scope
-        .spawn(move || worker(rt, shared.proxy(), idle, gate, pause))
+        .spawn(move || {
+            let Ok(mut hand) = Worker::new(shared.proxy().alloc, gate, pause) else {
+                return Err(Stopped::NoMemory);
+            };
+            worker(rt, shared.proxy(), idle, &mut hand)
+        })
         .ok();
     let others = run_crew(scope, rt, shared, rest, crew);
     let mine = match started {

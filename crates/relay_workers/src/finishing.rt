@@ -1,13 +1,16 @@
-ghost use Rattle.std.specs.Prelude.{◌≡◌, [], ◌∷◌, ◌++◌, false, Ok, Some, IfOk, IfErr, OnOk, OnErr, IfSome, IfNone, ◌↔◌};
+ghost use Rattle.std.specs.Prelude.{◌≡◌, ℕ, [], ◌∷◌, ◌++◌, false, Ok, None, Some, IfOk, IfErr, OnOk, OnErr, IfSome, IfNone, ◌↔◌};
 ghost use Rattle.grant_board.specs.Views.{return_of};
 ghost use Rattle.relay_http.specs.declared.exchange.Stage.TheVariants as stage;
 ghost use Rattle.relay_http.specs.States.{Serves};
+ghost use Rattle.relay_workers.specs.Endings.{IsCarried, IsSent};
+ghost use Rattle.relay_workers.specs.Turning.{HasTurned};
+ghost use Rattle.relay_workers.specs.Gates.{with_more, one_connected, one_missing};
 ghost use Rattle.relay_workers.specs.Outcomes.{after_telling};
 ghost use Rattle.shared_desk.specs.Seats.{IsSameSeat};
 ghost use Rattle.relay_workers.specs.declared.outcome.Outcome.TheVariants.{Answered};
 ghost use Rattle.base_verdict.specs.declared.Cause.{Cause};
 ghost use Rattle.base_verdict.specs.declared.Ending.TheVariants as ending;
-ghost use Rattle.base_verdict.specs.declared.Verdict.TheVariants.{Told};
+ghost use Rattle.base_verdict.specs.declared.Verdict.TheVariants.{Serve, Told};
 
 use crate::admitting::{Admitted, answer_refusal};
 use crate::gate::Gate;
@@ -45,6 +48,14 @@ pub fn finish<R: Wait, N: DeskName, G: Gate + Drop>(
     ensures failed { OnErr result ((seat.new.view.posts ≡ seat.old.view.posts ++ return_of granted.pass ending.Failed ∷ []) × Serves granted.pass.verdict) }
     ensures told { (cause : Cause) → granted.pass.verdict ≡ Told cause → result ≡ Ok (after_telling cause) }
     ensures answered { IfOk result (λ outcome. (outcome ≡ Answered) ↔ (runner.new.exchange.stage ≡ stage.Answered)) }
+    ensures carried { (server : ℕ) → granted.pass.verdict ≡ Serve server → IfOk result (λ outcome. IsCarried runner.new.exchange outcome) }
+    ensures closing { (cause : Cause) → granted.pass.verdict ≡ Told cause → runner.new.exchange.closing ≡ None }
+    ensures sent { IfOk result (λ outcome. IsSent runner.new.exchange outcome) }
+    ensures missing { OnErr result (G.counts runner.new.gate ≡ with_more one_missing (G.counts runner.old.gate)) }
+    ensures there { (server : ℕ) → granted.pass.verdict ≡ Serve server → OnOk result (G.counts runner.new.gate ≡ with_more one_connected (G.counts runner.old.gate)) }
+    ensures unasked { (cause : Cause) → granted.pass.verdict ≡ Told cause → G.counts runner.new.gate ≡ G.counts runner.old.gate }
+    ensures turned { HasTurned N.terms N.setup }
+    ensures takes { seat.new.view.takes ≡ seat.old.view.takes }
     ensures again { IfErr result (λ it. (it.at ≡ granted.admitted.at) × (it.view ≡ granted.admitted.view) × (runner.new.exchange ≡ runner.old.exchange)) }
     ensures same { IsSameSeat seat.old seat.new }
     ensures most { runner.new.exchange.most ≡ runner.old.exchange.most }
@@ -57,7 +68,8 @@ pub fn finish<R: Wait, N: DeskName, G: Gate + Drop>(
         None => Ending::Failed,
     };
     seat.post(proxy.desk.board(), pass, ending);
-    proxy.turn(rt, &mut runner.gate);
+    // A refused turn is one that found nothing.
+    let _ = proxy.turn(rt, &mut runner.gate);
     carried.ok_or(admitted)
 }
 
@@ -75,6 +87,12 @@ fn carry<N: DeskName, G: Gate + Drop>(
     requires asked { (runner.old.exchange.stage ≡ stage.Asked) × (runner.old.exchange.begun ≡ false) }
     ensures told { (cause : Cause) → pass.now.verdict ≡ Told cause → result ≡ Some (after_telling cause) }
     ensures answered { IfSome result (λ outcome. (outcome ≡ Answered) ↔ (runner.new.exchange.stage ≡ stage.Answered)) }
+    ensures carried { (server : ℕ) → pass.now.verdict ≡ Serve server → IfSome result (λ outcome. IsCarried runner.new.exchange outcome) }
+    ensures closing { (cause : Cause) → pass.now.verdict ≡ Told cause → runner.new.exchange.closing ≡ None }
+    ensures sent { IfSome result (λ outcome. IsSent runner.new.exchange outcome) }
+    ensures missing { IfNone result (G.counts runner.new.gate ≡ with_more one_missing (G.counts runner.old.gate)) }
+    ensures there { (server : ℕ) → pass.now.verdict ≡ Serve server → IfSome result (λ outcome. G.counts runner.new.gate ≡ with_more one_connected (G.counts runner.old.gate)) }
+    ensures unasked { (cause : Cause) → pass.now.verdict ≡ Told cause → G.counts runner.new.gate ≡ G.counts runner.old.gate }
     ensures none { IfNone result (Serves pass.now.verdict × (runner.new.exchange ≡ runner.old.exchange)) }
     ensures kept { (admitted.new.at ≡ admitted.old.at) × (admitted.new.view ≡ admitted.old.view) }
     ensures most { runner.new.exchange.most ≡ runner.old.exchange.most }
@@ -102,6 +120,8 @@ fn hand_on<N: DeskName, C: Read + Write, S: Read + Write>(
     server: &mut S,
 ) -> Outcome
     requires asked { (exchange.old.stage ≡ stage.Asked) × (exchange.old.begun ≡ false) }
+    ensures carried { IsCarried exchange.new result }
+    ensures sent { IsSent exchange.new result }
     ensures answered { (result ≡ Answered) ↔ (exchange.new.stage ≡ stage.Answered) }
     ensures most { exchange.new.most ≡ exchange.old.most }
 {

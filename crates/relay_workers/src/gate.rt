@@ -1,5 +1,6 @@
-ghost use Rattle.std.specs.Prelude.{◌≡◌, ◌<◌, ℕ};
+ghost use Rattle.std.specs.Prelude.{◌≡◌, ◌<◌, ℕ, Option, IfSome, IfNone};
 ghost use Rattle.std.specs.Bool.{OnTrue, OnFalse};
+ghost use Rattle.relay_workers.specs.Gates.{Counts, with_more, one_client, one_end, one_connected, one_missing};
 ghost use Rattle.relay_workers.specs.Windows.{WindowHasEnded};
 
 use crate::slot::Slot;
@@ -15,31 +16,43 @@ pub trait Gate {
 
     type Server: Read + Write + Drop + Send;
 
+    /// The numbers of what it gave, and of what it hadn't, where it counts.
+    ghost counts: { Self → Option Counts };
+
     /// Returns the next client; `None` where no more come to this thread. It may wait without limit.
-    fn next(&mut self) -> Option<Self::Client>;
+    fn next(&mut self) -> Option<Self::Client>
+        ensures some { IfSome result (λ client. counts self.new ≡ with_more one_client (counts self.old)) }
+        ensures none { IfNone result (counts self.new ≡ with_more one_end (counts self.old)) };
 
     /// Returns a connection to the server of a slot; `None` where there is none, and the request is
     /// retried there or elsewhere.
-    fn connect<N: DeskName>(&mut self, slot: &Slot<'_, N>) -> Option<Self::Server>;
+    fn connect<N: DeskName>(&mut self, slot: &Slot<'_, N>) -> Option<Self::Server>
+        ensures some { IfSome result (λ server. counts self.new ≡ with_more one_connected (counts self.old)) }
+        ensures none { IfNone result (counts self.new ≡ with_more one_missing (counts self.old)) };
 
     /// Looks at the check of a server, and begins one where none runs; `None` where it isn't over
     /// yet. It doesn't wait, so no server's checks delay another's.
-    fn probe(&mut self, server: usize) -> Option<bool>;
+    fn probe(&mut self, server: usize) -> Option<bool>
+        ensures { counts self.new ≡ counts self.old };
 
     /// Says whether a client that waits has left. What it sent meanwhile can still be read.
-    fn gone(&mut self, client: &mut Self::Client) -> bool;
+    fn gone(&mut self, client: &mut Self::Client) -> bool
+        ensures { counts self.new ≡ counts self.old };
 
     /// Returns the present moment.
-    fn moment(&mut self) -> Moment;
+    fn moment(&mut self) -> Moment
+        ensures { counts self.new ≡ counts self.old };
 
     /// Takes what is told of a window that ended, because the log was full or its time was over.
     /// Each window goes to the gate of one thread, and they may come to the gates in another order
     /// than they ended.
     fn window(&mut self, window: EndedWindow)
-        requires { WindowHasEnded window };
+        requires { WindowHasEnded window }
+        ensures { counts self.new ≡ counts self.old };
 
     /// Is told after a call of the dispatcher at which places it offered verdicts. The lock is free then.
-    fn wake(&mut self, places: &PlaceSet);
+    fn wake(&mut self, places: &PlaceSet)
+        ensures { counts self.new ≡ counts self.old };
 }
 
 /// A bound on the pauses of a thread.
@@ -52,7 +65,8 @@ pub trait Pause {
 
     /// Begins to count anew.
     fn begin(&mut self)
-        ensures { left self.new ≡ most self.old };
+        ensures left { left self.new ≡ most self.old }
+        ensures most { most self.new ≡ most self.old };
 
     /// Pauses; returns false, without a pause, where none is left.
     fn turn(&mut self) -> bool

@@ -1,16 +1,21 @@
-ghost use Rattle.std.specs.Prelude.{◌<◌, ◌≡◌, ℕ, [], length, IfErr, OnOk, Some};
+ghost use Rattle.std.specs.Prelude.{◌<◌, ◌≡◌, ℕ, List, [], length, IfOk, IfErr, IfSome, IfNone, OnOk, Some};
 ghost use Rattle.config_setup.specs.Setups.{SetupIsAsked};
-ghost use Rattle.log_entries.specs.declared.entry.Entry.TheVariants.{Limit};
-ghost use Rattle.log_entries.specs.Histories.{effective, first_window, refuses_limit};
+ghost use Rattle.log_entries.specs.declared.entry.Entry.TheVariants.{Abort, Check, Limit};
+ghost use Rattle.log_entries.specs.declared.refusal.Refusal.TheVariants.{LogFull};
+ghost use Rattle.locked_book.specs.Calls.{TakesBack};
+ghost use Rattle.locked_book.specs.Turns.{Turns};
+ghost use Rattle.log_entries.specs.Histories.{effective, first_window, next_window, refuses_abort, refuses_check, refuses_limit, refuses_tick};
 ghost use Rattle.log_entries.specs.Legal.{AddsEvent};
-ghost use Rattle.grant_board.specs.KeeperCalls.{new_keeper};
+ghost use Rattle.grant_board.specs.KeeperCalls.{new_keeper, FindsUnposted};
 ghost use Rattle.shared_desk.specs.Replies.{SomeHeld, SomeStep};
 ghost use Rattle.locked_book.specs.Books.{terms_for};
 ghost use Rattle.proxy_config.specs.Sound.{IsSoundConfig};
 ghost use Rattle.relay_workers.specs.Boards.{IsBoardOf};
 ghost use Rattle.dispatch_reports.specs.Reporting.{IsNew};
+ghost use Rattle.relay_http.specs.States.{IsFresh};
 
 use crate::gate::{Gate, Pause};
+use crate::stopping::TURNS;
 use base_places::PlaceSet;
 use dispatch_core::Core;
 use grant_board::{Board, KeeperSeat, Return};
@@ -20,7 +25,7 @@ use log_entries::{Intake, Refusal};
 use proxy_config::Config;
 use relay_http::Exchange;
 use shared_desk::{Desk, DeskQueue};
-use std::alloc::Global;
+use std::alloc::{AllocError, Global};
 use std::marker::PhantomData;
 use std::sync::Wait;
 
@@ -52,6 +57,20 @@ pub struct Worker<G: Gate + Drop, P: Pause + Drop> {
     pub pause: P,
 }
 
+impl<G: Gate + Drop, P: Pause + Drop> Worker<G, P> {
+    /// Makes a worker's means. It takes 84 KiB for its exchange, once.
+    pub fn new(alloc: Global, gate: G, pause: P) -> Result<Worker<G, P>, AllocError>
+        ensures parts { IfOk result (λ it. (it.runner.gate ≡ gate) × (it.pause ≡ pause)) }
+        ensures exchange { IfOk result (λ it. IsFresh TURNS it.runner.exchange) }
+    {
+        let exchange = Exchange::new(alloc, TURNS)?;
+        Ok(Worker {
+            runner: Runner { gate, exchange },
+            pause,
+        })
+    }
+}
+
 impl<N: DeskName> Proxy<N> {
     /// Makes a proxy of an accepted configuration, over a fresh dispatcher with the configuration's
     /// setup, and a board that was opened for it.
@@ -81,23 +100,38 @@ impl<N: DeskName> Proxy<N> {
         }
     }
 
-    /// Makes a turn of the desk, which looks at each place that is out. A refused turn counts as
-    /// one that found nothing.
-    pub fn turn<R: Wait, G: Gate>(&self, rt: &R, gate: &mut G) {
+    /// Makes a turn of the desk, which looks at each place that is out. Refused as the desk's `turn`
+    /// is; where the log is full only if there is no memory for the reports of its window, or the
+    /// next window is full as well.
+    pub fn turn<R: Wait, G: Gate>(&self, rt: &R, gate: &mut G) -> Result<(), Refusal>
+        ensures ok { OnOk result ((moment : ℕ) × (woken : List ℕ) × (woken_then : List ℕ) × SomeStep N.terms N.setup (λ old new. Turns moment old woken new woken_then)) }
+        ensures err { IfErr result (λ refusal. (refusal ≡ LogFull) × SomeHeld N.terms N.setup (λ held. refuses_tick held.history ≡ Some LogFull)) }
+        ensures counts { G.counts gate.new ≡ G.counts gate.old }
+    {
         let moment = gate.moment();
-        let _ = self.retry_in_new_window(rt, gate, || {
+        let (turned, _) = self.retry_in_new_window(rt, gate, || {
             let mut woken = PlaceSet::new();
             (self.desk.turn(rt, moment, &mut woken), woken)
         });
+        turned
     }
 
-    /// Collects what was posted at one place, without a look at any other. Where that is refused it
-    /// stays on the board for a turn.
-    pub fn collect<R: Wait, G: Gate>(&self, rt: &R, gate: &mut G, place: usize)
+    /// Collects what was posted at one place, without a look at any other. Refused where the log is
+    /// full, as `turn` is: it then stays on the board for a turn.
+    pub fn collect<R: Wait, G: Gate>(
+        &self,
+        rt: &R,
+        gate: &mut G,
+        place: usize,
+    ) -> Result<Option<Return>, Refusal>
         requires in_range { place < N.terms.places }
+        ensures some { IfOk result (λ found. IfSome found (λ back. (moment : ℕ) × (woken : List ℕ) × (woken_then : List ℕ) × SomeStep N.terms N.setup (λ old new. TakesBack old new place (effective old.history moment) back woken woken_then))) }
+        ensures none { IfOk result (λ found. IfNone found (SomeStep N.terms N.setup (λ old new. FindsUnposted old.view new.view place))) }
+        ensures err { IfErr result (λ refusal. (refusal ≡ LogFull) × SomeHeld N.terms N.setup (λ held. refuses_tick held.history ≡ Some LogFull)) }
+        ensures counts { G.counts gate.new ≡ G.counts gate.old }
     {
         let moment = gate.moment();
-        let _ = self.retry_in_new_window(
+        let (found, _) = self.retry_in_new_window(
             rt,
             gate,
             || -> (Result<Option<Return>, Refusal>, PlaceSet)
@@ -107,30 +141,47 @@ impl<N: DeskName> Proxy<N> {
                 (self.desk.collect_at(rt, moment, place, &mut woken), woken)
             },
         );
+        found
     }
 
-    // Reports the result of a server's check. A result that the dispatcher refuses is dropped.
+    // Reports the result of a server's check. Refused as the dispatcher's `check` is.
     pub(crate) fn note_check<R: Wait, G: Gate>(
         &self,
         rt: &R,
         gate: &mut G,
         server: usize,
         ok: bool,
-    ) {
+    ) -> Result<(), Refusal>
+        ensures ok { OnOk result ((moment : ℕ) × SomeStep N.terms N.setup (λ old new. AddsEvent old.history new.history (Check (effective old.history moment) server ok))) }
+        ensures err { IfErr result (λ refusal. SomeHeld N.terms N.setup (λ held. refuses_check held.history server ≡ Some refusal)) }
+        ensures counts { G.counts gate.new ≡ G.counts gate.old }
+    {
         let moment = gate.moment();
-        let _ = self.retry_in_new_window(rt, gate, || {
+        let (noted, _) = self.retry_in_new_window(rt, gate, || {
             let mut woken = PlaceSet::new();
             (self.desk.check(rt, moment, server, ok, &mut woken), woken)
         });
+        noted
     }
 
-    /// Gives up a request that waits. Where that is refused, it has its verdict.
-    pub fn give_up<R: Wait, G: Gate>(&self, rt: &R, gate: &mut G, ticket: u64) {
+    /// Gives up a request that waits. Refused as the dispatcher's `abort` is: a request that doesn't
+    /// wait has its verdict.
+    pub fn give_up<R: Wait, G: Gate>(
+        &self,
+        rt: &R,
+        gate: &mut G,
+        ticket: u64,
+    ) -> Result<(), Refusal>
+        ensures ok { OnOk result ((moment : ℕ) × SomeStep N.terms N.setup (λ old new. AddsEvent old.history new.history (Abort (effective old.history moment) ticket))) }
+        ensures err { IfErr result (λ refusal. SomeHeld N.terms N.setup (λ held. refuses_abort held.history ticket ≡ Some refusal)) }
+        ensures counts { G.counts gate.new ≡ G.counts gate.old }
+    {
         let moment = gate.moment();
-        let _ = self.retry_in_new_window(rt, gate, || {
+        let (given_up, _) = self.retry_in_new_window(rt, gate, || {
             let mut woken = PlaceSet::new();
             (self.desk.abort(rt, moment, ticket, &mut woken), woken)
         });
+        given_up
     }
 
     /// Sets how many requests a server takes. Refused as the dispatcher's `limit` is.
@@ -143,6 +194,7 @@ impl<N: DeskName> Proxy<N> {
     ) -> Result<(), Refusal>
         ensures ok { OnOk result ((moment : ℕ) × SomeStep N.terms N.setup (λ old new. AddsEvent old.history new.history (Limit (effective old.history moment) server intake))) }
         ensures err { IfErr result (λ refusal. SomeHeld N.terms N.setup (λ held. refuses_limit held.history server ≡ Some refusal)) }
+        ensures counts { G.counts gate.new ≡ G.counts gate.old }
     {
         let moment = gate.moment();
         let (set, _) = self.retry_in_new_window(rt, gate, || {
@@ -154,34 +206,39 @@ impl<N: DeskName> Proxy<N> {
     }
 
     /// Ends the present window, which the gate takes. Where there is no memory for that, the window goes on.
-    pub fn end_window<R: Wait, G: Gate>(&self, rt: &R, gate: &mut G) {
-        match self.desk.roll(rt, self.alloc) {
-            Ok(window) => gate.window(window),
-            Err(_) => {}
-        }
+    pub fn end_window<R: Wait, G: Gate>(&self, rt: &R, gate: &mut G) -> Result<(), AllocError>
+        ensures ok { OnOk result (SomeStep N.terms N.setup (λ old new. new ≡ record old { history = next_window old.history })) }
+        ensures counts { G.counts gate.new ≡ G.counts gate.old }
+    {
+        let window = self.desk.roll(rt, self.alloc)?;
+        gate.window(window);
+        Ok(())
     }
 
     // Makes a call of the desk, and tells the gate at which places it offered verdicts. Where the
     // log is full the next window begins, the gate takes the one that ended, and the call is made
-    // once more; where there is no memory for that, it stays refused.
+    // once more; where there is no memory for that, it stays refused. An answer that isn't a refusal
+    // can't be dropped here, since `T` has no `Drop`.
     pub(crate) fn retry_in_new_window<
         R: Wait,
         G: Gate,
-        T: Drop,
+        T,
         F: Fn() -> (Result<T, Refusal>, PlaceSet),
     >(&self, rt: &R, gate: &mut G, call: F) -> (Result<T, Refusal>, PlaceSet)
         requires { F.IsAlwaysCallable call }
-        ensures { F.post call result }
+        ensures post { F.post call result }
+        ensures counts { G.counts gate.new ≡ G.counts gate.old }
     {
-        let told = call();
-        gate.wake(&told.1);
-        if !matches!(told.0, Err(Refusal::LogFull)) {
-            return told;
+        let (answer, woken) = call();
+        gate.wake(&woken);
+        match answer {
+            Err(Refusal::LogFull) => {}
+            answer => return (answer, woken),
         }
         match self.desk.make_room(rt, self.alloc) {
             Ok(Some(window)) => gate.window(window),
             Ok(None) => {}
-            Err(_) => return told,
+            Err(_) => return (Err(Refusal::LogFull), woken),
         }
         let told = call();
         gate.wake(&told.1);

@@ -1,4 +1,4 @@
-ghost use Rattle.std.specs.Prelude.{◌≡◌, ◌<◌, [], ◌∷◌, IfSome, IfNone};
+ghost use Rattle.std.specs.Prelude.{◌≡◌, ◌<◌, [], ◌∷◌, ◌++◌, IfSome, IfNone};
 ghost use Rattle.shared_desk.specs.Seats.{IsSameSeat};
 
 use crate::admitting::Admitted;
@@ -43,12 +43,14 @@ pub fn wait<R: Wait, N: DeskName, G: Gate + Drop, P: Pause + Drop>(
     requires idle { seat.old.view.passes ≡ [] }
     requires place { admitted.at.place < N.terms.places }
     ensures granted { IfSome result (λ it. seat.new.view.passes ≡ it.pass ∷ []) }
+    ensures takes { IfSome result (λ it. seat.new.view.takes ≡ seat.old.view.takes ++ it.pass ∷ []) }
     ensures its_own { IfSome result (λ it. (it.pass.place ≡ admitted.at.place) × (it.pass.ticket ≡ admitted.at.ticket)) }
     ensures its_request { IfSome result (λ it. (it.admitted.at ≡ admitted.at) × (it.admitted.view ≡ admitted.view)) }
     ensures none { IfNone result ((seat.new.view.passes ≡ []) × (P.left hand.new.pause ≡ 0)) }
     ensures posts { seat.new.view.posts ≡ seat.old.view.posts }
     ensures same { IsSameSeat seat.old seat.new }
     ensures exchange { hand.new.runner.exchange ≡ hand.old.runner.exchange }
+    ensures counts { G.counts hand.new.runner.gate ≡ G.counts hand.old.runner.gate }
 {
     let mut admitted = admitted;
     let mut given_up = false;
@@ -62,22 +64,23 @@ pub fn wait<R: Wait, N: DeskName, G: Gate + Drop, P: Pause + Drop>(
             return None;
         }
         if !given_up && is_gone(&mut hand.runner.gate, &mut admitted) {
-            proxy.give_up(rt, &mut hand.runner.gate, admitted.at.ticket);
+            let _ = proxy.give_up(rt, &mut hand.runner.gate, admitted.at.ticket);
             given_up = true;
             continue;
         }
         if !hand.pause.turn() {
-            proxy.give_up(rt, &mut hand.runner.gate, admitted.at.ticket);
+            let _ = proxy.give_up(rt, &mut hand.runner.gate, admitted.at.ticket);
             spent = true;
         }
-        proxy.turn(rt, &mut hand.runner.gate);
+        let _ = proxy.turn(rt, &mut hand.runner.gate);
     }
     unreachable!()
 }
 
 // Says whether a client that waits has left.
 fn is_gone<N: DeskName, G: Gate>(gate: &mut G, admitted: &mut Admitted<N, G::Client>) -> bool
-    ensures { (admitted.new.at ≡ admitted.old.at) × (admitted.new.view ≡ admitted.old.view) }
+    ensures kept { (admitted.new.at ≡ admitted.old.at) × (admitted.new.view ≡ admitted.old.view) }
+    ensures counts { G.counts gate.new ≡ G.counts gate.old }
 {
     gate.gone(&mut admitted.client)
 }

@@ -1,4 +1,4 @@
-ghost use Rattle.std.specs.Prelude.{◌≡◌, ◌≤◌, ℕ, IfOk, false, length};
+ghost use Rattle.std.specs.Prelude.{◌≡◌, ◌≤◌, ℕ, IfOk, None, false, length};
 ghost use Rattle.base_places.specs.Sets.{Has};
 ghost use Rattle.relay_workers.specs.Windows.{WindowHasEnded};
 
@@ -159,6 +159,9 @@ impl<'a, R: Net<Listener = TcpListener, Stream = TcpStream> + Clock + Wait> Gate
     type Client = TcpStream;
 
     type Server = TcpStream;
+
+    // It counts nothing.
+    ghost counts = { λ gate. None };
 
     fn next(&mut self) -> Option<TcpStream> {
         self.front.next(self.rt)

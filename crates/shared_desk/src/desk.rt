@@ -19,7 +19,7 @@ ghost use Rattle.dispatch_reports.specs.Reporting.{IsNew};
 ghost use Rattle.locked_book.specs.Books.{terms_for, mark_by};
 ghost use Rattle.locked_book.specs.Calls.{CarriesOut, TakesBack, SetsBound};
 ghost use Rattle.locked_book.specs.Outstanding.{outstanding};
-ghost use Rattle.locked_book.specs.Turns.{Turns, VisitsSome};
+ghost use Rattle.locked_book.specs.Turns.{Turns, Halts};
 
 use base_places::PlaceSet;
 use binom_queue::BinomQueue;
@@ -202,7 +202,7 @@ impl<N: DeskName> Desk<N> {
     pub fn turn<R: Wait>(&self, rt: &R, moment: Moment, woken: &mut PlaceSet) -> Result<(), Refusal>
         ensures ok { OnOk result (SomeStep N.terms N.setup (λ old new. Turns moment old woken.old new woken.new)) }
         ensures err { IfErr result (λ refusal. (refusal ≡ LogFull) × SomeHeld N.terms N.setup (λ held. refuses_tick held.history ≡ Some LogFull)) }
-        ensures stopped { OnErr result (SomeStep N.terms N.setup (λ old new. VisitsSome moment old woken.old new woken.new)) }
+        ensures stopped { OnErr result (SomeStep N.terms N.setup (λ old new. Halts moment old woken.old new woken.new)) }
     {
         let mut book = self.enter(rt);
         let turned = book.turn(&self.board, moment, woken);

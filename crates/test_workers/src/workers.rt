@@ -6,6 +6,7 @@ ghost use Rattle.grant_board.specs.RelayCalls.{new_relay};
 ghost use Rattle.locked_book.specs.Books.{terms_for};
 ghost use Rattle.proxy_config.specs.Sound.{IsSoundConfig};
 ghost use Rattle.dispatch_reports.specs.Reporting.{IsNew};
+ghost use Rattle.shared_desk.specs.Seats.{IsSameSeat};
 
 use base_places::PlaceSet;
 use board_seats::Idle;
@@ -17,7 +18,7 @@ use grant_board::{Board, Closing, KeeperSeat, RelaySeat};
 use late_cert::Running;
 use locked_book::DeskName;
 use proxy_config::{Config, read};
-use relay_workers::{Gate, Pause, Proxy, Slot, Stopped, Tally, checker, worker};
+use relay_workers::{Gate, Pause, Proxy, Slot, Stopped, Tally, Worker, checker, worker};
 use shared_desk::{Desk, DeskQueue};
 use std::alloc::Global;
 use std::io::{self, Read, Write};
@@ -114,6 +115,22 @@ pub(crate) fn start<N: DeskName>(alloc: Global, opened: Opened) -> (Proxy<N>, Id
     } = opened;
     let proxy = Proxy::new(alloc, config, core, running, (board, seat));
     (proxy, Idle::new(relay))
+}
+
+// Serves all clients of a gate, with these pauses.
+fn work_with<N: DeskName, R: Wait>(
+    rt: &R,
+    proxy: &Proxy<N>,
+    idle: &mut Idle<N>,
+    gate: fakes::Fake<'_>,
+    pauses: fakes::Few,
+) -> Result<Tally, Stopped>
+    ensures { IsSameSeat idle.old.seat idle.new.seat }
+{
+    let Ok(mut hand) = Worker::new(proxy.alloc, gate, pauses) else {
+        return Err(Stopped::NoMemory);
+    };
+    worker(rt, proxy, idle, &mut hand)
 }
 
 /// Returns what is left on a proxy's board once its threads have ended.

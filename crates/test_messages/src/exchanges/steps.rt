@@ -2,7 +2,7 @@
 use crate::assertions::{holds, same};
 use crate::exchanges::relays::{GET, Relay, Side, TURNS};
 use crate::fakes::Feed;
-use relay_http::{Fault, Stage};
+use relay_http::{Closing, Exchange, Fault, Stage};
 use std::alloc::Global;
 use std::process::Abort;
 
@@ -164,10 +164,23 @@ fn relay_at(rt: &impl Abort, alloc: Global, steps: &Steps, step: usize) -> Relay
     relay
 }
 
+// Says whether an exchange was closed by this fault, and by whether a byte of an answer was written.
+fn is_closed_by(exchange: &Exchange, fault: Fault) -> bool {
+    match exchange.closing() {
+        Some(Closing::Reading(met) | Closing::Forwarding(met) | Closing::Answering(met)) => {
+            met == fault && !exchange.begun()
+        }
+        Some(Closing::Breaking(met)) => met == fault && exchange.begun(),
+        Some(Closing::Leaving(_)) | None => false,
+    }
+}
+
 // Checks what was written when it was stopped.
 fn is_stopped(rt: &impl Abort, relay: &Relay, steps: &Steps, step: usize) {
     let written = relay.output.bytes.len();
     same(rt, relay.exchange.stage(), Stage::Failed, steps.what);
+    let closed = is_closed_by(&relay.exchange, steps.fault);
+    holds(rt, closed, steps.what);
     match steps.stop {
         Stop::Cut { head } => holds(rt, head <= step || written == 0, steps.what),
         Stop::Read => {}

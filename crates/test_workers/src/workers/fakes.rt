@@ -1,4 +1,6 @@
 // A gate whose clients and servers are texts.
+ghost use Rattle.std.specs.Prelude.{None};
+
 use super::*;
 
 /// What was seen of all peers.
@@ -122,6 +124,8 @@ impl<'a> Gate for Fake<'a> {
     type Client = Peer<'a>;
 
     type Server = Peer<'a>;
+
+    ghost counts = { λ gate. None };
 
     fn next(&mut self) -> Option<Peer<'a>> {
         if self.came == self.scene.clients {

@@ -18,7 +18,7 @@ fn work<N: DeskName, R: Wait>(rt: &R, alloc: Global, opened: Opened, scene: Scen
     let (proxy, mut idle) = start::<N>(alloc, opened);
     let seen = Seen::new();
     let gate = Fake::new(scene, &seen);
-    let tally = worker(rt, &proxy, &mut idle, gate, Few::new(100));
+    let tally = work_with(rt, &proxy, &mut idle, gate, Few::new(100));
     Found {
         tally,
         seen,

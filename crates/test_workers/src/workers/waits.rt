@@ -60,7 +60,7 @@ fn come_behind<N: DeskName, R: Abort + Wait>(
     ensures { IsSameSeat idle.old.seat idle.new.seat }
 {
     let first = come_first(rt, proxy.alloc, &proxy.desk);
-    let tally = worker(rt, proxy, idle, gate, Few::new(3));
+    let tally = work_with(rt, proxy, idle, gate, Few::new(3));
     assert!(rt; go_last(rt, &proxy.desk, &mut idle.seat, first));
     tally
 }

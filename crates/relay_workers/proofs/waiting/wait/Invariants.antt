@@ -7,6 +7,8 @@ abbrev pub invariant-loop : goal.invariant-loop
 invariant-loop g l =
     IsSameSeat l.initial.seat l.seat
     × (l.seat.view.passes ≡ []) × (l.seat.view.posts ≡ l.initial.seat.view.posts)
+    × (l.seat.view.takes ≡ l.initial.seat.view.takes)
     × (l.admitted.at ≡ l.initial.admitted.at) × (l.admitted.view ≡ l.initial.admitted.view)
     × (l.hand.runner.exchange ≡ l.initial.hand.runner.exchange)
+    × (g.G.Gate.counts l.hand.runner.gate ≡ g.G.Gate.counts l.initial.hand.runner.gate)
     × (l.spent ≡ true → g.P.Pause.left l.hand.pause ≡ 0)

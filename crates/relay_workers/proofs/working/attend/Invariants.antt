@@ -1,5 +1,8 @@
-use Rattle.std.proofs.Common.{◌≡◌, ◌<◌, [], false}
+use Rattle.std.proofs.Common.{◌≡◌, ◌<◌, List, [], ◌++◌, false}
+use Rattle.grant_board.specs.Views.{Grant}
 use Rattle.relay_http.specs.declared.exchange.Stage.TheVariants.{Asked}
+use Rattle.relay_http.specs.States.{IsOpen}
+use Rattle.relay_workers.proofs.Counting.{Connects}
 use Rattle.shared_desk.specs.Seats.{IsSameSeat}
 use Rattle.relay_workers.proofs.working.attend.Given as goal
 
@@ -10,4 +13,7 @@ invariant-loop g l =
     × (l.seat.view.passes ≡ [])
     × (l.admitted.at.place < g.N.BoardName.terms.places)
     × (l.hand.runner.exchange.stage ≡ Asked) × (l.hand.runner.exchange.begun ≡ false)
+    × IsOpen l.hand.runner.exchange
     × (l.hand.runner.exchange.most ≡ l.initial.hand.runner.exchange.most)
+    × ((earlier : List Grant) × (l.seat.view.takes ≡ l.initial.seat.view.takes ++ earlier))
+    × Connects (g.G.Gate.counts l.initial.hand.runner.gate) (g.G.Gate.counts l.hand.runner.gate)

@@ -1,4 +1,4 @@
-use Rattle.std.proofs.Common.{Result, Ok, Err, ◌+◌, ◌*◌, ◌≡◌, subst, arith}
+use Rattle.std.proofs.Common.{Result, Ok, Err, ◌+◌, ◌*◌, ◌≡◌, inl, inr, subst, arith}
 use Rattle.std.specs.Result.{OnErr}
 use Rattle.locked_book.specs.Turns.{Walks}
 use Rattle.locked_book.proofs.Turns.{walks_after, stopped}
@@ -13,8 +13,10 @@ on_err (Err e) x = x
 pub returns-in_err-turn_block-clause-stopped : goal.returns-in_err-turn_block-clause-stopped
 returns-in_err-turn_block-clause-stopped g c =
     on_err c.from_residual.result
-    (stopped c.args.moment 0 c.args.self.now c.args.woken.now c.loop-number.self c.loop-number.woken c.turn_block.new.self c.turn_block.new.woken
-    c.in_err-turn_block.ensures.stopped.0 (64 * c.loop-number.number) (omega arith) c.loop-number.invariant c.in_err-turn_block.ensures.stopped.1)
+    (record {
+      cause = inr (inl (stopped c.args.moment 0 c.args.self.now c.args.woken.now c.loop-number.self c.loop-number.woken c.turn_block.new.self
+          c.turn_block.new.woken (64 * c.loop-number.number) (omega arith) c.loop-number.invariant c.in_err-turn_block.ensures.stopped));
+    })
 
 pub loop-number-preserved : goal.loop-number-preserved
 loop-number-preserved g c =

@@ -6,7 +6,7 @@ use Rattle.base_places.specs.Sets.{HasAhead}
 use Rattle.dispatch_state.specs.Histories.{HasEntryRoom}
 use Rattle.locked_book.specs.Calls.{Booked}
 use Rattle.locked_book.proofs.Turns.{visit_of}
-use Rattle.locked_book.proofs.Walking.{walking_begins, walking_goes, walking_ends}
+use Rattle.locked_book.proofs.Walking.{walking_begins, walking_goes, walking_stops, walking_ends}
 use Rattle.locked_book.proofs.book.Book.turn_block.Goals as goal
 
 pub loop-place-init : goal.loop-place-init
@@ -55,3 +55,8 @@ pub returns-clause-ok : goal.returns-clause-ok
 returns-clause-ok g c =
     walking_ends c.args.moment (64 * c.args.number) (64 * c.args.number + 64) g.N.BoardName.terms.places c.args.self.now c.args.woken.now
     c.loop-place.self c.loop-place.woken c.loop-place.ahead c.loop-place.invariant.0 c.in_default.ensures.none
+
+pub returns-then-not-room-clause-stopped : goal.returns-then-not-room-clause-stopped
+returns-then-not-room-clause-stopped g c =
+    walking_stops c.args.moment (64 * c.args.number) (64 * c.args.number + 64) g.N.BoardName.terms.places c.args.self.now c.args.woken.now
+    c.loop-place.self c.loop-place.woken c.loop-place.ahead c.loop-place.invariant.0 c.in-Some.place c.in-Some.ensures.some

@@ -1,6 +1,7 @@
+use Rattle.std.proofs.Common.{refl}
 use Rattle.http_texts.specs.Heads.{LacksRequest}
 use Rattle.relay_http.proofs.Failing.{fails_after}
-use Rattle.relay_http.proofs.Turning.{moves_turns, fails_turns, fails_spent}
+use Rattle.relay_http.proofs.Turning.{moves_turns, fails_turns, fails_spent, fails_unwritten}
 use Rattle.relay_http.proofs.exchange.Exchange.read_request_from.Goals as goal
 
 pub returns-in-Err-clause-err : goal.returns-in-Err-clause-err
@@ -26,3 +27,7 @@ returns-in-Err-clause-spent g c = λ is.
     let part = c.in-Err.ensures.err (g.S.Source.stream c.args.source.now) in
     let after = fails_after LacksRequest c.forget_waiting.new.self c.forget_waiting.ensures.turns part in
     fails_spent c.in-Err.fault after is
+
+pub returns-in-Err-clause-unwritten : goal.returns-in-Err-clause-unwritten
+returns-in-Err-clause-unwritten g c =
+    fails_unwritten c.in-Err.fault (c.in-Err.ensures.err (g.S.Source.stream c.args.source.now)) refl

@@ -1,4 +1,4 @@
-use Rattle.std.proofs.Common.{rules, ◌≡◌, subst, sym, refl}
+use Rattle.std.proofs.Common.{rules, subst, sym, refl}
 use Rattle.relay_workers.specs.declared.tally.Tally.{Tally}
 use Rattle.relay_workers.specs.Tallies.{AreNoted}
 use Rattle.relay_workers.proofs.Counting.{none_noted, one_noted}

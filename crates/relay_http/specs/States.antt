@@ -13,7 +13,7 @@ use Rattle.relay_http.specs.declared.exchange.Stage.TheVariants.{New, Forwarded,
 use Rattle.base_verdict.specs.declared.Verdict.{Verdict}
 use Rattle.base_verdict.specs.declared.Verdict.TheVariants.{Serve, Told}
 
--- no fault closed it, and its client was sent no refusal
+-- no fault closed it, and it was asked for no refusal
 pub record IsOpen (e : Exchange) : Type 0 where
   pub closing : e.closing ≡ None
   pub refused : e.refused ≡ None

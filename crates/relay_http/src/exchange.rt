@@ -35,7 +35,7 @@ pub struct Exchange {
     pub(crate) begun: bool,
     /// The fault that closed it.
     pub(crate) closing: Option<Closing>,
-    /// The refusal that its client was sent, if it was still there.
+    /// The refusal that it was asked for.
     pub(crate) refused: Option<Code>,
     ghost drained: { pipe.outbox ≡ [] },
     pub ghost unclosed: { stage ≢ Failed → (closing ≡ None) × (refused ≡ None) },

@@ -1,4 +1,4 @@
--- How an exchange ended, its outcome, and what its client was sent.
+-- How an exchange ended, its outcome, and the refusal that it notes.
 use Rattle.std.specs.Prelude.{◌≡◌, ◌⊎◌, List, [], ◌∷◌, ◌++◌, Option, None, Some}
 use Rattle.base_verdict.specs.declared.Verdict.{Verdict}
 use Rattle.base_verdict.specs.declared.Verdict.TheVariants.{Serve, Told}
@@ -36,14 +36,14 @@ refusal_in outcome = None
 abbrev pub IsSent : Exchange → Outcome → Type 0
 IsSent exchange outcome = exchange.refused ≡ refusal_in outcome
 
--- its server had a connection: the answer was handed on, or a fault closed the exchange, whose outcome it is
+-- its server had a connection: the answer was handed on, or a fault closed it, and the outcome is the one of that fault
 abbrev pub IsCarried : Exchange → Outcome → Type 0
 IsCarried exchange outcome =
     ((exchange.stage ≡ stage.Answered) × (outcome ≡ Answered))
     ⊎ ((closing : Closing) × (exchange.closing ≡ Some closing) × (outcome ≡ after_closing closing))
 
--- it got no place: its head wasn't read, for a fault whose outcome it is; or a request of it was
--- turned away, and the outcome is 503
+-- it got no place: its head wasn't read, and the outcome is the one of that fault; or no fault
+-- closed it, some request was turned away, and the outcome is 503
 abbrev pub IsTurnedAway : Terms → Setup → Config → Exchange → Outcome → Type 0
 IsTurnedAway terms setup config exchange outcome =
     ((fault : Fault) × (exchange.closing ≡ Some (Reading fault)) × (outcome ≡ after_reading fault))

@@ -18,7 +18,7 @@ added_to more before = record {
   missing = before.missing + more.missing;
 }
 
--- the same where it is counted
+-- the same where a gate counts; a gate that counts nothing says nothing
 abbrev pub with_more : Counts → Option Counts → Option Counts
 with_more more None = None
 with_more more (Some before) = Some (added_to more before)

@@ -26,7 +26,7 @@ tally_noted Cut t = counted t
 abbrev pub no_clients : Tally
 no_clients = record { clients = 0; answered = 0; bad_requests = 0; bad_gateways = 0; unavailable = 0 }
 
--- clients with these outcomes more
+-- the tally with these outcomes noted, one after the other
 abbrev pub all_noted : Tally → List Outcome → Tally
 all_noted t [] = t
 all_noted t (outcome ∷ outcomes) = all_noted (tally_noted outcome t) outcomes

@@ -16,7 +16,8 @@ pub trait Gate {
 
     type Server: Read + Write + Drop + Send;
 
-    /// The numbers of what it gave, and of what it hadn't, where it counts.
+    /// What it counts: clients, the end of clients, connections, and those that it hadn't. `None`
+    /// where it counts nothing.
     ghost counts: { Self → Option Counts };
 
     /// Returns the next client; `None` where no more come to this thread. It may wait without limit.

@@ -1,4 +1,5 @@
 pub mod Asides
 pub mod Askings
+pub mod Calls
 pub mod Failures
 pub mod States

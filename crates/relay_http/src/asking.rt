@@ -1,4 +1,5 @@
-ghost use Rattle.std.specs.Prelude.{◌≡◌, ◌+◌, ◌^◌, ◌<◌, [], IfOk, IfErr, IsSome};
+ghost use Rattle.std.specs.Prelude.{◌≡◌, ℕ, List, ◌+◌, ◌^◌, ◌<◌, [], IfOk, OnOk, IfErr, IsSome};
+ghost use Rattle.req_view.specs.Heads.{HasHead};
 ghost use Rattle.base_streams.specs.Streams.{Stream};
 ghost use Rattle.httparse.specs.Grammar.{RequestHead, print_request};
 ghost use Rattle.http_bodies.specs.Steps.{ends, Moves};
@@ -34,6 +35,9 @@ pub(crate) fn read_request<S: Source>(
         × ((w : Stream) → Moves (ends pipe.old (S.stream source.old) w) (ends pipe.new (S.stream source.new) w) (print_request h) [])) }
     ensures err { (w : Stream) → IfErr result (Fails (ends pipe.old (S.stream source.old) w) (ends pipe.new (S.stream source.new) w) [] [] LacksRequest) }
     ensures waiting { pipe.new.outbox ≡ pipe.old.outbox }
+
+    // Nothing is read where a head stands in the held bytes.
+    ensures unread { OnOk result ((h : RequestHead) (rest : List ℕ) → HasHead pipe.old.inbox h rest → S.stream source.new ≡ S.stream source.old) }
 {
     let mut asking = Asking::new(alloc);
     'reading: loop {

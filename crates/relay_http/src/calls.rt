@@ -1,22 +1,20 @@
-ghost use Rattle.std.specs.Prelude.{◌≡◌, ◌≢◌, ◌≤◌, ℕ, List, [], Err, IfOk, OnOk, IfErr, OnErr, IsSome, Some, IsTrue, IsFalse, false, Option};
-ghost use Rattle.std.specs.Io.KnownBytes.{Appends, Keeps, IsAtEnd};
+ghost use Rattle.std.specs.Prelude.{◌≡◌, ◌≢◌, ◌≤◌, ℕ, List, [], Err, IfOk, OnOk, IfErr, OnErr, IsSome, Some, IsTrue, IsFalse, false, true, Option, ◌<◌, length};
+ghost use Rattle.std.specs.Io.KnownBytes.{Appends, Keeps};
 ghost use Rattle.httparse.specs.Grammar.{RequestHead, print_request};
+ghost use Rattle.relay_http.specs.Calls.{Forwards, FailsToForward, Answers, FailsToAnswer};
 ghost use Rattle.relay_http.specs.Failures.{Conveys, Misses, NoCause, WrotePrefix};
 ghost use Rattle.http_texts.specs.Framings as framings;
 ghost use Rattle.http_texts.specs.Heads.{IsRequest, LacksRequest};
-ghost use Rattle.http_texts.specs.Messages as messages;
 ghost use Rattle.http_texts.specs.Replies.{leave_text, refusal_text};
 ghost use Rattle.relay_http.specs.States as states;
 ghost use Rattle.relay_http.specs.States.{IsAtOrFailed, Serves};
-ghost use Rattle.http_texts.specs.Texts.{framed_for, unnamed};
 ghost use Rattle.req_view.specs.Request.{request_of};
 
 use crate::closing::Closing;
 use crate::exchange::{Exchange, Stage};
 use base_streams::Counted;
 use grant_board::Pass;
-use http_bodies::Framing;
-use http_texts::{Code, Fault, Persistence};
+use http_texts::{Code, Fault};
 use req_view::View;
 use std::alloc::Global;
 use std::io::{Read, Write};
@@ -67,17 +65,15 @@ impl Exchange {
     ) -> Result<(), Fault>
         requires ready { IsAtOrFailed Stage.Asked self.old }
         requires serves { Serves pass.now.verdict }
-        ensures ok { OnOk result ((used : List ℕ) × (text : List ℕ) × messages.IsForwarded (unnamed Persistence.Close) view.now used text
-            × Conveys self.old.pipe.inbox self.new.pipe.inbox (R.remaining reader.old) (R.remaining reader.new) (W.contents writer.old)
-            (W.contents writer.new) used text) }
+        ensures ok { OnOk result (Forwards view.now self.old.pipe.inbox self.new.pipe.inbox (R.remaining reader.old) (R.remaining reader.new)
+            (W.contents writer.old) (W.contents writer.new)) }
         ensures forwarded { OnOk result (self.new.stage ≡ states.forwarded_on pass.now) }
         ensures closed { self.old.stage ≡ Stage.Failed → result ≡ Err Fault.Closed }
         ensures untouched { self.old.stage ≡ Stage.Failed
             → (self.new ≡ self.old) × (R.remaining reader.new ≡ R.remaining reader.old) × (W.contents writer.new ≡ W.contents writer.old) }
         ensures err { self.old.stage ≢ Stage.Failed
-            → IfErr result (λ fault. (used : List ℕ) × (text : List ℕ) × messages.PartOfForwarded (unnamed Persistence.Close) view.now used text
-            × Misses self.old.pipe.inbox (R.remaining reader.old) (R.remaining reader.new) (W.contents writer.old) (W.contents writer.new) used text
-            (messages.LacksForwarded view.now) fault) }
+            → IfErr result (FailsToForward view.now self.old.pipe.inbox (R.remaining reader.old) (R.remaining reader.new) (W.contents writer.old)
+            (W.contents writer.new)) }
         ensures failed { OnErr result (self.new.stage ≡ Stage.Failed) }
         ensures turns { self.new.pipe.turns ≤ self.old.pipe.turns }
         ensures spent { result ≡ Err Fault.Turns → self.new.pipe.turns ≡ 0 }
@@ -137,19 +133,14 @@ impl Exchange {
     ) -> Result<(), Fault>
         requires ready { IsAtOrFailed (states.forwarded_on pass.now) self.old }
         requires serves { Serves pass.now.verdict }
-        ensures ok { OnOk result ((used : List ℕ) × (text : List ℕ)
-            × (answered : messages.IsAnswered Persistence.Close view.now.method (framed_for view.now.version) used text)
-            × Conveys [] self.new.pipe.inbox (R.remaining reader.old) (R.remaining reader.new) (W.contents writer.old) (W.contents writer.new) used text
-            × (answered.plan.body ≡ Framing.ToEnd → IsAtEnd (R.remaining reader.new))
-            × (answered.plan.body ≡ Framing.ToEnd → self.new.pipe.inbox ≡ [])) }
+        ensures ok { OnOk result (Answers view.now self.new.pipe.inbox (R.remaining reader.old) (R.remaining reader.new) (W.contents writer.old)
+            (W.contents writer.new)) }
         ensures answered { OnOk result (self.new.stage ≡ Stage.Answered) }
         ensures closed { self.old.stage ≡ Stage.Failed → result ≡ Err Fault.Closed }
         ensures untouched { self.old.stage ≡ Stage.Failed
             → (self.new ≡ self.old) × (R.remaining reader.new ≡ R.remaining reader.old) × (W.contents writer.new ≡ W.contents writer.old) }
-        ensures err { self.old.stage ≢ Stage.Failed → IfErr result (λ fault. (used : List ℕ) × (text : List ℕ)
-            × messages.PartOfAnswered Persistence.Close view.now.method (framed_for view.now.version) used text
-            × Misses [] (R.remaining reader.old) (R.remaining reader.new) (W.contents writer.old) (W.contents writer.new) used text
-            (messages.LacksAnswer view.now.method) fault) }
+        ensures err { self.old.stage ≢ Stage.Failed
+            → IfErr result (FailsToAnswer view.now (R.remaining reader.old) (R.remaining reader.new) (W.contents writer.old) (W.contents writer.new)) }
         ensures failed { OnErr result (self.new.stage ≡ Stage.Failed) }
         ensures turns { self.new.pipe.turns ≤ self.old.pipe.turns }
         ensures spent { result ≡ Err Fault.Turns → self.new.pipe.turns ≡ 0 }
@@ -157,6 +148,8 @@ impl Exchange {
         ensures begun { OnOk result (IsTrue self.new.begun) }
         ensures stays { IsTrue self.old.begun → IsTrue self.new.begun }
         ensures silent { self.old.stage ≢ Stage.Failed → IsFalse self.new.begun → Keeps (W.contents writer.old) (W.contents writer.new) }
+        ensures rose { self.old.stage ≢ Stage.Failed → IsFalse self.old.begun → IsTrue self.new.begun
+            → (front : List ℕ) × (0 < length front) × Appends (W.contents writer.old) (W.contents writer.new) front }
         ensures closes { self.old.stage ≢ Stage.Failed → IfErr result (λ fault. self.new.closing ≡ Some (states.closed_answer self.new.begun fault)) }
         ensures unclosed { OnOk result (self.new.closing ≡ self.old.closing) }
         ensures refused { self.new.refused ≡ self.old.refused }
@@ -178,6 +171,8 @@ impl Exchange {
         ensures silent { IsFalse self.new.begun → Keeps (W.contents writer.old) (W.contents writer.new) }
         ensures closing { self.new.closing ≡ self.old.closing }
         ensures refused { self.new.refused ≡ Some code }
+        ensures reached { OnOk result (self.new.reached ≡ true) }
+        ensures unreached { OnErr result (self.new.reached ≡ false) }
     {
         let mut sink = Counted::new(writer);
         self.refuse_to(code, &mut sink)

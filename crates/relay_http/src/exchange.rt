@@ -37,6 +37,8 @@ pub struct Exchange {
     pub(crate) closing: Option<Closing>,
     /// The refusal that it was asked for.
     pub(crate) refused: Option<Code>,
+    /// Whether that refusal was written whole.
+    pub(crate) reached: bool,
     ghost drained: { pipe.outbox ≡ [] },
     pub ghost unclosed: { stage ≢ Failed → (closing ≡ None) × (refused ≡ None) },
 }
@@ -56,6 +58,7 @@ impl Exchange {
             begun: false,
             closing: None,
             refused: None,
+            reached: false,
         })
     }
 
@@ -68,6 +71,7 @@ impl Exchange {
         self.begun = false;
         self.closing = None;
         self.refused = None;
+        self.reached = false;
     }
 
     /// Returns the bytes that were read and aren't used yet: after a request's head, those of its

@@ -161,6 +161,7 @@ fn forward_before<K: Sink>(
 ) -> Result<(), BodyFault>
     requires { (K.stream sink.old).calls + pipe.old.turns < 2 ^ 64 }
     ensures ok { OnOk result (Puts pipe.old pipe.new (K.stream sink.old) (K.stream sink.new) (interim_text framed head)) }
+    ensures empty { OnOk result (pipe.new.outbox ≡ []) }
     ensures err { IfErr result (Halts pipe.old pipe.new (K.stream sink.old) (K.stream sink.new) (interim_text framed head)) }
 {
     forward_interim(pipe, sink, &head, framed)

@@ -1,4 +1,4 @@
-ghost use Rattle.std.specs.Prelude.{◌≡◌, ◌≤◌, ◌<◌, ◌+◌, ◌^◌, length, false, Some, OnOk, IfErr, IsTrue, ◌↔◌};
+ghost use Rattle.std.specs.Prelude.{◌≡◌, ◌≤◌, ◌<◌, ◌+◌, ◌^◌, length, false, true, Some, OnOk, IfErr, OnErr, IsTrue, ◌↔◌};
 ghost use Rattle.http_bodies.specs.Texts.{Wrote, WritesFront};
 ghost use Rattle.http_texts.specs.Replies.{refusal_text};
 ghost use Rattle.relay_http.specs.States.{Marks};
@@ -25,6 +25,8 @@ impl Exchange {
         ensures marks { Marks (K.stream sink.old) (K.stream sink.new) self.old.begun self.new.begun }
         ensures closing { self.new.closing ≡ self.old.closing }
         ensures refused { self.new.refused ≡ Some code }
+        ensures reached { OnOk result (self.new.reached ≡ true) }
+        ensures unreached { OnErr result (self.new.reached ≡ false) }
     {
         let text = code.text();
         // As many turns as bytes, of which each write takes one or more: when the turns end, the text is written.
@@ -35,16 +37,14 @@ impl Exchange {
         self.pipe.forget_waiting();
         self.stage = Stage::Failed;
         self.refused = Some(code);
-        match result {
-            Ok(()) => Ok(()),
-            Err(fault) => {
-                if is_failed_write(fault) {
-                    Err(Fault::Write)
-                } else {
-                    Ok(())
-                }
+        self.reached = true;
+        if let Err(fault) = result {
+            if is_failed_write(fault) {
+                self.reached = false;
+                return Err(Fault::Write);
             }
         }
+        Ok(())
     }
 }
 

@@ -39,6 +39,7 @@ pub(crate) fn forward_interim<K: Sink>(
 ) -> Result<(), Fault>
     requires { (K.stream sink.old).calls + pipe.old.turns < 2 ^ 64 }
     ensures ok { OnOk result (Puts pipe.old pipe.new (K.stream sink.old) (K.stream sink.new) (texts.interim_text framed head.now)) }
+    ensures empty { OnOk result (pipe.new.outbox ≡ []) }
     ensures err { IfErr result (Halts pipe.old pipe.new (K.stream sink.old) (K.stream sink.new) (texts.interim_text framed head.now)) }
 {
     put_interim(pipe, sink, head, framed)?;

@@ -76,20 +76,22 @@ noted_more : (t : Tally) (outcomes : List Outcome) (outcome : Outcome) → all_n
 noted_more t [] outcome = refl
 noted_more t (first ∷ outcomes) outcome = noted_more (tally_noted first t) outcomes outcome
 
-pub none_noted : (o : Option Counts) → AreNoted no_clients o o
-none_noted o = ([], 0, 0, refl, sym (nothing_more o))
+pub none_noted : (Ended : List Outcome → Type 0) (o : Option Counts) → Ended [] → AreNoted Ended no_clients o o
+none_noted Ended o none = ([], none, 0, 0, refl, sym (nothing_more o))
 
 -- one more client, whose outcome is noted
-pub one_noted : (tally now_tally : Tally) (outcome : Outcome) (first before now : Option Counts) → AreNoted tally first before
+pub one_noted : (Ended EndedNow : List Outcome → Type 0) (tally now_tally : Tally) (outcome : Outcome) (first before now : Option Counts)
+    → AreNoted Ended tally first before → ((outcomes : List Outcome) → Ended outcomes → EndedNow (outcomes ++ outcome ∷ []))
     → now_tally ≡ tally_noted outcome tally
-    → ((connected : ℕ) × (missing : ℕ) × (now ≡ with_more (clients_of (outcome ∷ []) connected missing) before)) → AreNoted now_tally first now
-one_noted tally now_tally outcome first before now is noted end = (
+    → ((connected : ℕ) × (missing : ℕ) × (now ≡ with_more (clients_of (outcome ∷ []) connected missing) before)) → AreNoted EndedNow now_tally first now
+one_noted Ended EndedNow tally now_tally outcome first before now is ended noted end = (
   is.0 ++ outcome ∷ [],
-  is.1 + end.0,
-  is.2 + end.1,
-  noted ∙ ap (tally_noted outcome) is.3 ∙ sym (noted_more no_clients is.0 outcome),
-  more_of (clients_of (outcome ∷ []) end.0 end.1) (clients_of is.0 is.1 is.2) (clients_of (is.0 ++ outcome ∷ []) (is.1 + end.0) (is.2 + end.1))
-      first before now end.2 is.4
-      (same_four (length is.0 + 1) 0 (is.1 + end.0) (is.2 + end.1) (length (is.0 ++ outcome ∷ [])) 0 (is.1 + end.0) (is.2 + end.1)
+  ended is.0 is.1,
+  is.2 + end.0,
+  is.3 + end.1,
+  noted ∙ ap (tally_noted outcome) is.4 ∙ sym (noted_more no_clients is.0 outcome),
+  more_of (clients_of (outcome ∷ []) end.0 end.1) (clients_of is.0 is.2 is.3) (clients_of (is.0 ++ outcome ∷ []) (is.2 + end.0) (is.3 + end.1))
+      first before now end.2 is.5
+      (same_four (length is.0 + 1) 0 (is.2 + end.0) (is.3 + end.1) (length (is.0 ++ outcome ∷ [])) 0 (is.2 + end.0) (is.3 + end.1)
       (omega (arith, length-append is.0 (outcome ∷ []))) refl refl refl),
 )

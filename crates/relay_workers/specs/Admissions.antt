@@ -1,6 +1,7 @@
 -- Requests that have a place.
 use Rattle.std.specs.Prelude.{ℕ, ◌<◌, pos, ◌+ℤ◌, Option}
 use Rattle.queue_outside.specs.Admission.{due_at}
+use Rattle.log_entries.specs.declared.entry.Entry.{Entry}
 use Rattle.log_entries.specs.declared.entry.Entry.TheVariants.{Arrive}
 use Rattle.log_entries.specs.declared.refusal.Refusal.{Refusal}
 use Rattle.log_entries.specs.declared.setup.Setup.{Setup}
@@ -16,16 +17,20 @@ use Rattle.proxy_config.specs.declared.parts.Config.{Config}
 use Rattle.relay_workers.specs.Boards.{IsBoardOf}
 use Rattle.req_view.specs.Request.{Request}
 
--- a request arrived at some moment with this wish: its class, its offset and its pin
+-- the event of its arrival with this wish: its class, its offset and its pin
+abbrev pub arrival : Wish → Ticketed → ℕ → Entry
+arrival wished it moment = Arrive moment (record {
+  ticket = it.ticket;
+  class = wished.class;
+  due = pos moment +ℤ wished.offset;
+  pin = wished.pin;
+  place = it.place;
+})
+
+-- a request arrived at some moment with this wish
 abbrev pub ArrivesAs : Wish → Ticketed → Terms → Setup → Type 0
 ArrivesAs wished it terms setup =
-    (moment : ℕ) × SomeStep terms setup (λ old new. AddsEvent old.history new.history (Arrive (effective old.history moment) (record {
-      ticket = it.ticket;
-      class = wished.class;
-      due = pos (effective old.history moment) +ℤ wished.offset;
-      pin = wished.pin;
-      place = it.place;
-    })))
+    (moment : ℕ) × SomeStep terms setup (λ old new. AddsEvent old.history new.history (arrival wished it (effective old.history moment)))
 
 -- it has a place of the board and arrived so
 pub record IsAdmittedAs (terms : Terms) (setup : Setup) (wished : Wish) (it : Ticketed) : Type 0 where
@@ -40,17 +45,21 @@ IsAdmitted terms setup config request it = IsBoardOf config terms × IsAdmittedA
 abbrev pub IsRequestAt : Terms → Setup → Request → Ticketed → Type 0
 IsRequestAt terms setup request it = ∥ ((config : Config) × IsAdmitted terms setup config request it) ∥₁
 
--- a request that waited elsewhere arrived at some moment with its old due date, or the nearest one
--- that was possible at that moment
+-- the event of the arrival of one that waited elsewhere: with its old due date, or the nearest one
+-- that is possible at that moment
+abbrev pub late_arrival : Deferred → Ticketed → ℕ → Entry
+late_arrival deferred it moment = Arrive moment (record {
+  ticket = it.ticket;
+  class = deferred.class;
+  due = due_at deferred.due moment;
+  pin = deferred.pin;
+  place = it.place;
+})
+
+-- a request that waited elsewhere arrived at some moment
 abbrev pub ArrivesLate : Deferred → Ticketed → Terms → Setup → Type 0
 ArrivesLate deferred it terms setup =
-    (moment : ℕ) × SomeStep terms setup (λ old new. AddsEvent old.history new.history (Arrive (effective old.history moment) (record {
-      ticket = it.ticket;
-      class = deferred.class;
-      due = due_at deferred.due (effective old.history moment);
-      pin = deferred.pin;
-      place = it.place;
-    })))
+    (moment : ℕ) × SomeStep terms setup (λ old new. AddsEvent old.history new.history (late_arrival deferred it (effective old.history moment)))
 
 -- it has a place of the board and arrived so
 pub record IsAdmittedLate (terms : Terms) (setup : Setup) (deferred : Deferred) (it : Ticketed) : Type 0 where

@@ -1,5 +1,5 @@
 -- What a gate counts.
-use Rattle.std.specs.Prelude.{ℕ, ◌+◌, Option, None, Some}
+use Rattle.std.specs.Prelude.{◌≡◌, ◌⊎◌, ℕ, ◌+◌, Bool, List, [], ◌∷◌, ◌++◌, Option, None, Some}
 
 -- the clients that it gave, how often it said that no more come, the connections that it gave, and
 -- how often it had none
@@ -35,3 +35,26 @@ one_connected = record { clients = 0; ends = 0; connected = 1; missing = 0 }
 
 abbrev pub one_missing : Counts
 one_missing = record { clients = 0; ends = 0; connected = 0; missing = 1 }
+
+-- What passed between a gate and the thread that asks it: after a call of the desk, the places with
+-- its offers; whether a client that waits is there or has left; and the result of a server's check.
+pub data Notice : Type 0 where
+  Told : List ℕ → Notice
+  IsThere : Notice
+  HasLeft : Notice
+  Found : ℕ → Bool → Notice
+
+-- one notice more; a gate that notes none says nothing
+abbrev pub noted : Notice → Option (List Notice) → Option (List Notice)
+noted notice None = None
+noted notice (Some before) = Some (before ++ notice ∷ [])
+
+-- a gate was told of these places, and before that of those of a call that was refused, if there was one
+abbrev pub WasTold : (List ℕ → Type 0) → List ℕ → Option (List Notice) → Option (List Notice) → Type 0
+WasTold IsOfRefused places before after =
+    (after ≡ noted (Told places) before)
+    ⊎ ((earlier : List ℕ) × IsOfRefused earlier × (after ≡ noted (Told places) (noted (Told earlier) before)))
+
+-- a gate was told of such places, and before that of those of a call that was refused, if there was one
+abbrev pub TellsSuch : (List ℕ → Type 0) → Option (List Notice) → Option (List Notice) → Type 0
+TellsSuch IsSuch before after = (places : List ℕ) × IsSuch places × WasTold IsSuch places before after

@@ -1,9 +1,12 @@
 pub mod Admissions
 pub mod Boards
+pub mod Carrying
+pub mod Crews
 pub mod Endings
 pub mod Gates
 pub mod Outcomes
 pub mod Seats
 pub mod Turning
+pub mod Waiting
 pub mod Windows
 pub mod Tallies

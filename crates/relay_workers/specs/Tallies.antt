@@ -35,15 +35,15 @@ all_noted t (outcome ∷ outcomes) = all_noted (tally_noted outcome t) outcomes
 abbrev pub clients_of : List Outcome → ℕ → ℕ → Counts
 clients_of outcomes connected missing = record { clients = length outcomes; ends = 0; connected = connected; missing = missing }
 
--- the tally is that of some outcomes, and the gate gave just as many clients
-abbrev pub AreNoted : Tally → Option Counts → Option Counts → Type 0
-AreNoted tally old new =
-    (outcomes : List Outcome) × (connected : ℕ) × (missing : ℕ) × (tally ≡ all_noted no_clients outcomes)
+-- the tally is that of the outcomes of some clients, who ended so, and the gate gave just as many clients
+abbrev pub AreNoted : (List Outcome → Type 0) → Tally → Option Counts → Option Counts → Type 0
+AreNoted Ended tally old new =
+    (outcomes : List Outcome) × Ended outcomes × (connected : ℕ) × (missing : ℕ) × (tally ≡ all_noted no_clients outcomes)
     × (new ≡ with_more (clients_of outcomes connected missing) old)
 
 -- and then said that no more come
-abbrev pub AreAllNoted : Tally → Option Counts → Option Counts → Type 0
-AreAllNoted tally old new = (between : Option Counts) × AreNoted tally old between × (new ≡ with_more one_end between)
+abbrev pub AreAllNoted : (List Outcome → Type 0) → Tally → Option Counts → Option Counts → Type 0
+AreAllNoted Ended tally old new = (between : Option Counts) × AreNoted Ended tally old between × (new ≡ with_more one_end between)
 
 abbrev pub together : Tally → Tally → Tally
 together a b = record {

@@ -1,14 +1,16 @@
-ghost use Rattle.std.specs.Prelude.{◌≡◌, ◌≢◌, IfOk, OnOk, IfErr, None, false};
+ghost use Rattle.std.specs.Prelude.{◌≡◌, ◌≢◌, ◌<◌, ℕ, IfOk, OnOk, IfErr, None, false};
 ghost use Rattle.log_entries.specs.declared.refusal.Refusal.TheVariants.{NoSuchServer};
 ghost use Rattle.relay_http.specs.Askings.{HasReadHead};
 ghost use Rattle.relay_http.specs.States.{IsFresh, IsOpen};
 ghost use Rattle.relay_http.specs.declared.exchange.Stage.TheVariants as stage;
 ghost use Rattle.relay_http.specs.declared.exchange.Stage.TheVariants.{Asked};
-ghost use Rattle.relay_workers.specs.Admissions.{IsAdmitted, IsAdmittedAs, IsAdmittedLate, IsRequestAt, WishIsTurnedAway, IsRefusedFor};
+ghost use Rattle.relay_workers.specs.Admissions.{arrival, late_arrival, IsAdmitted, IsAdmittedAs, IsAdmittedLate, IsRequestAt, WishIsTurnedAway, IsRefusedFor};
 ghost use Rattle.relay_workers.specs.declared.outcome.Outcome.TheVariants.{Answered, Refused};
-ghost use Rattle.relay_workers.specs.Endings.{IsTurnedAway, IsSent, refusal_in};
-ghost use Rattle.relay_http.specs.Failures.{WrotePrefix};
-ghost use Rattle.http_texts.specs.Replies.{refusal_text};
+ghost use Rattle.prio_rules.specs.Wishes.{wish};
+ghost use Rattle.log_entries.specs.Histories.{effective};
+ghost use Rattle.relay_workers.specs.Carrying.{IsTold};
+ghost use Rattle.relay_workers.specs.Turning.{Offers, IsToldOf};
+ghost use Rattle.relay_workers.specs.Endings.{IsTurnedAway, IsSent};
 
 use crate::gate::Gate;
 use crate::outcome::Outcome;
@@ -51,9 +53,10 @@ pub fn admit<R: Wait, N: DeskName, G: Gate + Drop>(
     ensures ok { IfOk result (λ it. IsAdmitted N.terms N.setup proxy.now.config it.view it.at) }
     ensures read { IfOk result (λ it. HasReadHead it.view runner.new.exchange.pipe.inbox (G.Client.remaining client) (G.Client.remaining it.client)) }
     ensures asked { OnOk result (runner.new.exchange.stage ≡ Asked) }
+    ensures arrives { IfOk result (λ it. (moment : ℕ) × IsToldOf N.terms N.setup (λ history. arrival (wish proxy.now.config it.view) it.at (effective history moment)) (G.notes runner.old.gate) (G.notes runner.new.gate)) }
     ensures begun { OnOk result (runner.new.exchange.begun ≡ false) }
     ensures err { IfErr result (λ outcome. outcome ≢ Answered) }
-    ensures told { IfErr result (λ outcome. IsTurnedAway N.terms N.setup proxy.now.config runner.new.exchange outcome) }
+    ensures told { IfErr result (λ outcome. (client_then : G.Client) × IsTurnedAway G.Client.remaining G.Client.contents N.terms N.setup proxy.now.config runner.new.exchange outcome client client_then) }
     ensures sent { IfErr result (λ outcome. IsSent runner.new.exchange outcome) }
     ensures unclosed { OnOk result (IsOpen runner.new.exchange) }
     ensures counts { G.counts runner.new.gate ≡ G.counts runner.old.gate }
@@ -90,6 +93,7 @@ pub fn arrive<R: Wait, N: DeskName, G: Gate>(
     view: &View,
 ) -> Result<Ticketed, Refusal>
     ensures ok { IfOk result (λ it. IsAdmitted N.terms N.setup proxy.now.config view.now it) }
+    ensures told { IfOk result (λ it. (moment : ℕ) × IsToldOf N.terms N.setup (λ history. arrival (wish proxy.now.config view.now) it (effective history moment)) (G.notes gate.old) (G.notes gate.new)) }
     ensures err { IfErr result (λ refusal. WishIsTurnedAway N.terms N.setup proxy.now.config view.now refusal) }
     // A pin is a server of the dispatcher.
     ensures known { IfErr result (λ refusal. refusal ≢ NoSuchServer) }
@@ -107,22 +111,30 @@ pub fn arrive_as<R: Wait, N: DeskName, G: Gate>(
     wish: &Wish,
 ) -> Result<Ticketed, Refusal>
     ensures ok { IfOk result (λ it. IsAdmittedAs N.terms N.setup wish.now it) }
+    ensures told { IfOk result (λ it. (moment : ℕ) × IsToldOf N.terms N.setup (λ history. arrival wish.now it (effective history moment)) (G.notes gate.old) (G.notes gate.new)) }
     ensures err { IfErr result (λ refusal. IsRefusedFor N.terms N.setup wish.now.pin refusal) }
     ensures counts { G.counts gate.new ≡ G.counts gate.old }
 {
-    let wanted = Wanted {
-        class: wish.class,
-        offset: wish.offset,
-        pin: wish.pin,
-    };
     let moment = gate.moment();
-    let (arrived, _) = proxy.retry_in_new_window(rt, gate, || {
-        let mut woken = PlaceSet::new();
-        let arrived = proxy
-            .desk
-            .arrive(rt, proxy.alloc, moment, wanted, &mut woken);
-        (arrived, woken)
-    });
+    let (arrived, _) = proxy.retry_in_new_window(
+        rt,
+        gate,
+        || -> (Result<Ticketed, Refusal>, PlaceSet)
+            ensures ok { IfOk result.0 (λ it. Offers N.terms N.setup (λ history. arrival wish.entry.now it (effective history moment)) result.1) }
+            ensures place { IfOk result.0 (λ it. it.place < N.terms.places) }
+            ensures err { IfErr result.0 (λ refusal. IsRefusedFor N.terms N.setup wish.entry.now.pin refusal) }
+        {
+            let wanted = Wanted {
+                class: wish.class,
+                offset: wish.offset,
+                pin: wish.pin,
+            };
+            let mut woken = PlaceSet::new();
+            let desk = &proxy.desk;
+            let arrived = desk.arrive(rt, proxy.alloc, moment, wanted, &mut woken);
+            (arrived, woken)
+        },
+    );
     arrived
 }
 
@@ -135,17 +147,25 @@ pub fn arrive_late<R: Wait, N: DeskName, G: Gate>(
     deferred: Deferred,
 ) -> Result<Ticketed, Refusal>
     ensures ok { IfOk result (λ it. IsAdmittedLate N.terms N.setup deferred it) }
+    ensures told { IfOk result (λ it. (moment : ℕ) × IsToldOf N.terms N.setup (λ history. late_arrival deferred it (effective history moment)) (G.notes gate.old) (G.notes gate.new)) }
     ensures err { IfErr result (λ refusal. IsRefusedFor N.terms N.setup deferred.pin refusal) }
     ensures counts { G.counts gate.new ≡ G.counts gate.old }
 {
     let moment = gate.moment();
-    let (arrived, _) = proxy.retry_in_new_window(rt, gate, || {
-        let mut woken = PlaceSet::new();
-        let arrived = proxy
-            .desk
-            .arrive_due(rt, proxy.alloc, moment, deferred, &mut woken);
-        (arrived, woken)
-    });
+    let (arrived, _) = proxy.retry_in_new_window(
+        rt,
+        gate,
+        || -> (Result<Ticketed, Refusal>, PlaceSet)
+            ensures ok { IfOk result.0 (λ it. Offers N.terms N.setup (λ history. late_arrival deferred it (effective history moment)) result.1) }
+            ensures place { IfOk result.0 (λ it. it.place < N.terms.places) }
+            ensures err { IfErr result.0 (λ refusal. IsRefusedFor N.terms N.setup deferred.pin refusal) }
+        {
+            let mut woken = PlaceSet::new();
+            let desk = &proxy.desk;
+            let arrived = desk.arrive_due(rt, proxy.alloc, moment, deferred, &mut woken);
+            (arrived, woken)
+        },
+    );
     arrived
 }
 
@@ -161,8 +181,7 @@ pub(crate) fn answer_refusal<W: Write>(
     ensures same { result ≡ outcome }
     ensures unanswered { (result ≢ Answered) × (exchange.new.stage ≢ stage.Answered) }
     ensures sent { IsSent exchange.new result }
-    ensures written { (code : Code) → outcome ≡ Refused code → WrotePrefix (W.contents client.old) (W.contents client.new) (refusal_text code) }
-    ensures kept { refusal_in outcome ≡ None → client.new ≡ client.old }
+    ensures told { IsTold W.contents exchange.new result client.old client.new }
     ensures closing { exchange.new.closing ≡ exchange.old.closing }
     ensures most { exchange.new.most ≡ exchange.old.most }
 {

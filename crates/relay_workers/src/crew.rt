@@ -1,5 +1,10 @@
-ghost use Rattle.std.specs.Prelude.{◌≡◌, ◌+◌, true, [], vec_len, IfOk};
+ghost use Rattle.std.specs.Prelude.{◌≡◌, ◌+◌, ◌≤◌, ◌⊎◌, true, [], length, vec_len, IfOk};
+ghost use Rattle.std.specs.Thread.{IsSend};
+ghost use Rattle.std.specs.Vec.Iter.{into_iter_items};
+ghost use Rattle.relay_workers.specs.Crews.{EndsAs, IsOfAll, IsOfCrew};
+ghost use Rattle.relay_workers.specs.Endings.{SomeHaveEnded};
 ghost use Rattle.relay_workers.specs.Tallies.{of_both};
+ghost use Rattle.relay_workers.specs.declared.stopping.Stopped.TheVariants.{NoMemory};
 
 use crate::checking::checker;
 use crate::gate::{Gate, Pause};
@@ -11,9 +16,11 @@ use crate::working::worker;
 use board_seats::Idle;
 use grant_board::RelaySeat;
 use locked_book::DeskName;
+use std::marker::PhantomData;
+use std::snapshot::Snapshot;
 use std::sync::Wait;
 use std::sync::atomic::{AtomicBool, Ordering};
-use std::thread::{Scope, Threads};
+use std::thread::{Promise, Scope, Threads};
 use std::{thread, vec};
 
 /// Serves with a thread for each member of a crew, and one more for the checks of servers, until no
@@ -41,6 +48,7 @@ pub fn serve<
     ensures idle { result.0.view.passes ≡ [] }
     ensures joined { result.0.view.split + seat.view.joined ≡ result.0.view.joined + seat.view.split }
     ensures each { IfOk result.1 (λ tally. result.0.view.split ≡ seat.view.split + vec_len crew) }
+    ensures all { (result.1 ≡ Err NoMemory) ⊎ IsOfCrew (SomeHaveEnded G.Client.remaining G.Client.contents G.Server.remaining G.Server.contents N.terms N.setup) G.counts crew.items result.1 }
 {
     let mut first = seat;
     let mut seats = Vec::new(proxy.alloc);
@@ -68,34 +76,51 @@ fn run_all<
     crew: Vec<(G, P)>,
     checks: (G, P),
 ) -> Result<Tally, Stopped>
-    ensures { vec_len seats.new ≡ vec_len seats.old }
+    requires { vec_len crew ≤ vec_len seats.old }
+    ensures seats { vec_len seats.new ≡ vec_len seats.old }
+    ensures all { IsOfCrew (SomeHaveEnded G.Client.remaining G.Client.contents G.Server.remaining G.Server.contents N.terms N.setup) G.counts crew.items result }
 {
     let stop = AtomicBool::new(false);
     let told = &stop;
     let mut members = crew.into_iter();
     let lent = seats.as_mut_slice();
-    thread::scope(thread::scope_env(), rt, move |scope| {
-        let (gate, pause) = checks;
-        let checking = scope
-            .spawn(move || {
-                let mut gate = gate;
-                let mut pause = pause;
-                checker(rt, shared.proxy(), &mut gate, &mut pause, told)
-            })
-            .ok();
-        let all = run_crew(scope, rt, shared, lent, &mut members);
-        told.store(true, Ordering::SeqCst);
-        match checking {
-            Some(handle) => {
-                handle.join(rt);
-                all
+    thread::scope(
+        thread::scope_env(),
+        rt,
+        move |scope| -> Result<Tally, Stopped>
+            requires { length (into_iter_items members) ≤ length lent.now }
+            ensures { IsOfCrew (SomeHaveEnded G.Client.remaining G.Client.contents G.Server.remaining G.Server.contents N.terms N.setup) G.counts (into_iter_items members) result }
+        {
+            let (gate, pause) = checks;
+            let checking = scope
+                .spawn(move || {
+                    let mut gate = gate;
+                    let mut pause = pause;
+                    checker(rt, shared.proxy(), &mut gate, &mut pause, told)
+                })
+                .ok();
+            let all = run_crew(scope, rt, shared, lent, &mut members);
+            told.store(true, Ordering::SeqCst);
+            match checking {
+                Some(handle) => {
+                    handle.join(rt);
+                    all
+                }
+                None => all.and(Err(Stopped::NoMemory)),
             }
-            None => all.and(Err(Stopped::NoMemory)),
-        }
-    })
+        },
+    )
 }
 
-// Starts a thread for each seat and member. One that can't be started isn't run.
+// Promises how the thread of a member with this gate ends.
+#[derive(Drop)]
+struct EndOf<N: DeskName, G: Gate + Drop>(Snapshot<G>, PhantomData<N>);
+
+impl<N: DeskName, G: Gate + Drop> Promise<Result<Tally, Stopped>> for EndOf<N, G> {
+    ghost kept_by = { λ promise result. EndsAs (SomeHaveEnded G.Client.remaining G.Client.contents G.Server.remaining G.Server.contents N.terms N.setup) G.counts promise.0.value result };
+}
+
+// Starts a thread for each member, which has a seat. One that can't be started isn't run.
 fn run_crew<
     's,
     E,
@@ -110,20 +135,30 @@ fn run_crew<
     shared: &'s S,
     seats: &'s mut [Idle<N>],
     crew: &mut vec::IntoIter<(G, P)>,
-) -> Result<Tally, Stopped> {
+) -> Result<Tally, Stopped>
+    requires { length (into_iter_items crew.old) ≤ length seats.old }
+    ensures { IsOfAll (SomeHaveEnded G.Client.remaining G.Client.contents G.Server.remaining G.Server.contents N.terms N.setup) G.counts (into_iter_items crew.old) result }
+{
     let Some((idle, rest)) = seats.split_first_mut() else {
         return Ok(Tally::zero());
     };
     let Some((gate, pause)) = crew.next() else {
         return Ok(Tally::zero());
     };
+    let promise = EndOf::<N, G>(Snapshot::of(&gate), PhantomData);
     let started = scope
-        .spawn(move || {
-            let Ok(mut hand) = Worker::new(shared.proxy().alloc, gate, pause) else {
-                return Err(Stopped::NoMemory);
-            };
-            worker(rt, shared.proxy(), idle, &mut hand)
-        })
+        .spawn_with(
+            promise,
+            move || -> Result<Tally, Stopped>
+                requires { IsSend G.Client.row × IsSend G.Server.row }
+                ensures { EndsAs (SomeHaveEnded G.Client.remaining G.Client.contents G.Server.remaining G.Server.contents N.terms N.setup) G.counts gate result }
+            {
+                let Ok(mut hand) = Worker::new(shared.proxy().alloc, gate, pause) else {
+                    return Err(Stopped::NoMemory);
+                };
+                worker(rt, shared.proxy(), idle, &mut hand)
+            },
+        )
         .ok();
     let others = run_crew(scope, rt, shared, rest, crew);
     let mine = match started {

@@ -2,6 +2,7 @@ ghost use Rattle.std.specs.Prelude.{◌≡◌, ℕ, [], ◌∷◌, ◌++◌, fal
 ghost use Rattle.grant_board.specs.Views.{return_of};
 ghost use Rattle.relay_http.specs.declared.exchange.Stage.TheVariants as stage;
 ghost use Rattle.relay_http.specs.States.{Serves};
+ghost use Rattle.relay_workers.specs.Carrying.{IsHandedOn, IsServed};
 ghost use Rattle.relay_workers.specs.Endings.{IsCarried, IsSent};
 ghost use Rattle.relay_workers.specs.Turning.{HasTurned};
 ghost use Rattle.relay_workers.specs.Gates.{with_more, one_connected, one_missing};
@@ -54,9 +55,10 @@ pub fn finish<R: Wait, N: DeskName, G: Gate + Drop>(
     ensures missing { OnErr result (G.counts runner.new.gate ≡ with_more one_missing (G.counts runner.old.gate)) }
     ensures there { (server : ℕ) → granted.pass.verdict ≡ Serve server → OnOk result (G.counts runner.new.gate ≡ with_more one_connected (G.counts runner.old.gate)) }
     ensures unasked { (cause : Cause) → granted.pass.verdict ≡ Told cause → G.counts runner.new.gate ≡ G.counts runner.old.gate }
-    ensures turned { HasTurned N.terms N.setup }
+    ensures turned { HasTurned N.terms N.setup (G.notes runner.old.gate) (G.notes runner.new.gate) }
     ensures takes { seat.new.view.takes ≡ seat.old.view.takes }
-    ensures again { IfErr result (λ it. (it.at ≡ granted.admitted.at) × (it.view ≡ granted.admitted.view) × (runner.new.exchange ≡ runner.old.exchange)) }
+    ensures again { IfErr result (λ it. (it.client ≡ granted.admitted.client) × (it.at ≡ granted.admitted.at) × (it.view ≡ granted.admitted.view) × (runner.new.exchange ≡ runner.old.exchange)) }
+    ensures relayed { IfOk result (λ outcome. (client_then : G.Client) × IsServed G.Client.remaining G.Client.contents G.Server.remaining G.Server.contents granted.pass.verdict runner.new.exchange outcome granted.admitted.view runner.old.exchange.pipe.inbox granted.admitted.client client_then) }
     ensures same { IsSameSeat seat.old seat.new }
     ensures most { runner.new.exchange.most ≡ runner.old.exchange.most }
 {
@@ -93,7 +95,9 @@ fn carry<N: DeskName, G: Gate + Drop>(
     ensures missing { IfNone result (G.counts runner.new.gate ≡ with_more one_missing (G.counts runner.old.gate)) }
     ensures there { (server : ℕ) → pass.now.verdict ≡ Serve server → IfSome result (λ outcome. G.counts runner.new.gate ≡ with_more one_connected (G.counts runner.old.gate)) }
     ensures unasked { (cause : Cause) → pass.now.verdict ≡ Told cause → G.counts runner.new.gate ≡ G.counts runner.old.gate }
-    ensures none { IfNone result (Serves pass.now.verdict × (runner.new.exchange ≡ runner.old.exchange)) }
+    ensures notes { G.notes runner.new.gate ≡ G.notes runner.old.gate }
+    ensures none { IfNone result (Serves pass.now.verdict × (runner.new.exchange ≡ runner.old.exchange) × (admitted.new.client ≡ admitted.old.client)) }
+    ensures relayed { IfSome result (λ outcome. IsServed G.Client.remaining G.Client.contents G.Server.remaining G.Server.contents pass.now.verdict runner.new.exchange outcome admitted.old.view runner.old.exchange.pipe.inbox admitted.old.client admitted.new.client) }
     ensures kept { (admitted.new.at ≡ admitted.old.at) × (admitted.new.view ≡ admitted.old.view) }
     ensures most { runner.new.exchange.most ≡ runner.old.exchange.most }
 {
@@ -121,25 +125,23 @@ fn hand_on<N: DeskName, C: Read + Write, S: Read + Write>(
 ) -> Outcome
     requires asked { (exchange.old.stage ≡ stage.Asked) × (exchange.old.begun ≡ false) }
     ensures carried { IsCarried exchange.new result }
+    ensures handed { IsHandedOn C.remaining C.contents S.remaining S.contents exchange.new result slot.now.view.now exchange.old.pipe.inbox client.old client.new server.old server.new }
     ensures sent { IsSent exchange.new result }
     ensures answered { (result ≡ Answered) ↔ (exchange.new.stage ≡ stage.Answered) }
     ensures most { exchange.new.most ≡ exchange.old.most }
 {
     let (pass, view) = slot.parts();
-    if exchange.go_on(view, client).is_err() {
-        return Outcome::Cut;
+    match exchange.go_on(view, client) {
+        Ok(()) => {}
+        Err(_) => return Outcome::Cut,
     }
-    if let Err(fault) = exchange.forward(pass, view, client, server) {
-        return answer_refusal(exchange, client, Outcome::after_forwarding(fault));
+    match exchange.forward(pass, view, client, server) {
+        Ok(()) => {}
+        Err(fault) => return answer_refusal(exchange, client, Outcome::after_forwarding(fault)),
     }
     match exchange.answer(alloc, pass, view, server, client) {
         Ok(()) => Outcome::Answered,
-        Err(fault) => {
-            if exchange.begun() {
-                Outcome::Cut
-            } else {
-                answer_refusal(exchange, client, Outcome::after_answering(fault))
-            }
-        }
+        Err(_) if exchange.begun() => Outcome::Cut,
+        Err(fault) => answer_refusal(exchange, client, Outcome::after_answering(fault)),
     }
 }

@@ -20,6 +20,7 @@ pub fn split_off<N: DeskName>(
     requires first { first.old.view.first ≡ true }
     ensures lent { IsLent first.old first.new (vec_len seats.old) (vec_len seats.new) }
     ensures all { OnTrue result (first.new.view.split ≡ first.old.view.split + count) }
+    ensures more { OnTrue result (vec_len seats.new ≡ vec_len seats.old + count) }
 {
     for _ in 0..count {
         let seat = Idle::new(first.split(proxy.desk.board()));

@@ -1,16 +1,19 @@
-ghost use Rattle.std.specs.Prelude.{◌<◌, ◌≡◌, ℕ, List, [], length, IfOk, IfErr, IfSome, IfNone, OnOk, Some};
+ghost use Rattle.std.specs.Prelude.{◌<◌, ◌≡◌, ℕ, List, [], length, IfOk, IfErr, IfSome, IfNone, OnOk, OnErr, Result, Err, Some};
 ghost use Rattle.config_setup.specs.Setups.{SetupIsAsked};
 ghost use Rattle.log_entries.specs.declared.entry.Entry.TheVariants.{Abort, Check, Limit};
 ghost use Rattle.log_entries.specs.declared.refusal.Refusal.TheVariants.{LogFull};
-ghost use Rattle.locked_book.specs.Calls.{TakesBack};
+ghost use Rattle.locked_book.specs.Calls.{SetsBound, TakesBack};
 ghost use Rattle.locked_book.specs.Turns.{Turns};
-ghost use Rattle.log_entries.specs.Histories.{effective, first_window, next_window, refuses_abort, refuses_check, refuses_limit, refuses_tick};
+ghost use Rattle.log_entries.specs.Rows.{served};
+ghost use Rattle.log_entries.specs.Histories.{effective, first_window, next_window, state_of, refuses_abort, refuses_check, refuses_limit, refuses_tick};
 ghost use Rattle.log_entries.specs.Legal.{AddsEvent};
 ghost use Rattle.grant_board.specs.KeeperCalls.{new_keeper, FindsUnposted};
 ghost use Rattle.shared_desk.specs.Replies.{SomeHeld, SomeStep};
-ghost use Rattle.locked_book.specs.Books.{terms_for};
+ghost use Rattle.locked_book.specs.Books.{terms_for, mark_by};
 ghost use Rattle.proxy_config.specs.Sound.{IsSoundConfig};
 ghost use Rattle.relay_workers.specs.Boards.{IsBoardOf};
+ghost use Rattle.relay_workers.specs.Gates.{WasTold, TellsSuch};
+ghost use Rattle.relay_workers.specs.Turning.{HasHalted, HaltsTelling, TurnsTelling, IsAny, Offers, IsToldOf};
 ghost use Rattle.dispatch_reports.specs.Reporting.{IsNew};
 ghost use Rattle.relay_http.specs.States.{IsFresh};
 
@@ -104,15 +107,24 @@ impl<N: DeskName> Proxy<N> {
     /// is; where the log is full only if there is no memory for the reports of its window, or the
     /// next window is full as well.
     pub fn turn<R: Wait, G: Gate>(&self, rt: &R, gate: &mut G) -> Result<(), Refusal>
-        ensures ok { OnOk result ((moment : ℕ) × (woken : List ℕ) × (woken_then : List ℕ) × SomeStep N.terms N.setup (λ old new. Turns moment old woken new woken_then)) }
+        ensures ok { OnOk result (TurnsTelling N.terms N.setup (G.notes gate.old) (G.notes gate.new)) }
         ensures err { IfErr result (λ refusal. (refusal ≡ LogFull) × SomeHeld N.terms N.setup (λ held. refuses_tick held.history ≡ Some LogFull)) }
+        ensures stopped { OnErr result (HaltsTelling N.terms N.setup (G.notes gate.old) (G.notes gate.new)) }
         ensures counts { G.counts gate.new ≡ G.counts gate.old }
     {
         let moment = gate.moment();
-        let (turned, _) = self.retry_in_new_window(rt, gate, || {
-            let mut woken = PlaceSet::new();
-            (self.desk.turn(rt, moment, &mut woken), woken)
-        });
+        let (turned, _) = self.retry_in_new_window(
+            rt,
+            gate,
+            || -> (Result<(), Refusal>, PlaceSet)
+                ensures ok { OnOk result.0 ((woken : List ℕ) × SomeStep N.terms N.setup (λ old new. Turns moment old woken new result.1)) }
+                ensures err { IfErr result.0 (λ refusal. (refusal ≡ LogFull) × SomeHeld N.terms N.setup (λ held. refuses_tick held.history ≡ Some LogFull)) }
+                ensures stopped { OnErr result.0 (HasHalted N.terms N.setup result.1) }
+            {
+                let mut woken = PlaceSet::new();
+                (self.desk.turn(rt, moment, &mut woken), woken)
+            },
+        );
         turned
     }
 
@@ -125,7 +137,8 @@ impl<N: DeskName> Proxy<N> {
         place: usize,
     ) -> Result<Option<Return>, Refusal>
         requires in_range { place < N.terms.places }
-        ensures some { IfOk result (λ found. IfSome found (λ back. (moment : ℕ) × (woken : List ℕ) × (woken_then : List ℕ) × SomeStep N.terms N.setup (λ old new. TakesBack old new place (effective old.history moment) back woken woken_then))) }
+        ensures some { IfOk result (λ found. IfSome found (λ back. (moment : ℕ) × (woken : List ℕ) × (woken_then : List ℕ) × SomeStep N.terms N.setup (λ old new. TakesBack old new place (effective old.history moment) back woken woken_then)
+            × WasTold IsAny woken_then (G.notes gate.old) (G.notes gate.new))) }
         ensures none { IfOk result (λ found. IfNone found (SomeStep N.terms N.setup (λ old new. FindsUnposted old.view new.view place))) }
         ensures err { IfErr result (λ refusal. (refusal ≡ LogFull) × SomeHeld N.terms N.setup (λ held. refuses_tick held.history ≡ Some LogFull)) }
         ensures counts { G.counts gate.new ≡ G.counts gate.old }
@@ -152,15 +165,23 @@ impl<N: DeskName> Proxy<N> {
         server: usize,
         ok: bool,
     ) -> Result<(), Refusal>
-        ensures ok { OnOk result ((moment : ℕ) × SomeStep N.terms N.setup (λ old new. AddsEvent old.history new.history (Check (effective old.history moment) server ok))) }
+        ensures ok { OnOk result ((moment : ℕ) × IsToldOf N.terms N.setup (λ history. Check (effective history moment) server ok) (G.notes gate.old) (G.notes gate.new)) }
         ensures err { IfErr result (λ refusal. SomeHeld N.terms N.setup (λ held. refuses_check held.history server ≡ Some refusal)) }
+        ensures told { OnErr result (TellsSuch IsAny (G.notes gate.old) (G.notes gate.new)) }
         ensures counts { G.counts gate.new ≡ G.counts gate.old }
     {
         let moment = gate.moment();
-        let (noted, _) = self.retry_in_new_window(rt, gate, || {
-            let mut woken = PlaceSet::new();
-            (self.desk.check(rt, moment, server, ok, &mut woken), woken)
-        });
+        let (noted, _) = self.retry_in_new_window(
+            rt,
+            gate,
+            || -> (Result<(), Refusal>, PlaceSet)
+                ensures ok { OnOk result.0 (Offers N.terms N.setup (λ history. Check (effective history moment) server ok) result.1) }
+                ensures err { IfErr result.0 (λ refusal. SomeHeld N.terms N.setup (λ held. refuses_check held.history server ≡ Some refusal)) }
+            {
+                let mut woken = PlaceSet::new();
+                (self.desk.check(rt, moment, server, ok, &mut woken), woken)
+            },
+        );
         noted
     }
 
@@ -172,15 +193,23 @@ impl<N: DeskName> Proxy<N> {
         gate: &mut G,
         ticket: u64,
     ) -> Result<(), Refusal>
-        ensures ok { OnOk result ((moment : ℕ) × SomeStep N.terms N.setup (λ old new. AddsEvent old.history new.history (Abort (effective old.history moment) ticket))) }
+        ensures ok { OnOk result ((moment : ℕ) × IsToldOf N.terms N.setup (λ history. Abort (effective history moment) ticket) (G.notes gate.old) (G.notes gate.new)) }
         ensures err { IfErr result (λ refusal. SomeHeld N.terms N.setup (λ held. refuses_abort held.history ticket ≡ Some refusal)) }
+        ensures told { OnErr result (TellsSuch IsAny (G.notes gate.old) (G.notes gate.new)) }
         ensures counts { G.counts gate.new ≡ G.counts gate.old }
     {
         let moment = gate.moment();
-        let (given_up, _) = self.retry_in_new_window(rt, gate, || {
-            let mut woken = PlaceSet::new();
-            (self.desk.abort(rt, moment, ticket, &mut woken), woken)
-        });
+        let (given_up, _) = self.retry_in_new_window(
+            rt,
+            gate,
+            || -> (Result<(), Refusal>, PlaceSet)
+                ensures ok { OnOk result.0 (Offers N.terms N.setup (λ history. Abort (effective history moment) ticket) result.1) }
+                ensures err { IfErr result.0 (λ refusal. SomeHeld N.terms N.setup (λ held. refuses_abort held.history ticket ≡ Some refusal)) }
+            {
+                let mut woken = PlaceSet::new();
+                (self.desk.abort(rt, moment, ticket, &mut woken), woken)
+            },
+        );
         given_up
     }
 
@@ -192,16 +221,25 @@ impl<N: DeskName> Proxy<N> {
         server: usize,
         intake: Intake,
     ) -> Result<(), Refusal>
-        ensures ok { OnOk result ((moment : ℕ) × SomeStep N.terms N.setup (λ old new. AddsEvent old.history new.history (Limit (effective old.history moment) server intake))) }
+        ensures ok { OnOk result ((moment : ℕ) × (woken : List ℕ) × (woken_then : List ℕ)
+            × SomeStep N.terms N.setup (λ old new. AddsEvent old.history new.history (Limit (effective old.history moment) server intake) × SetsBound old new server (mark_by (record { limit = intake; served = served server (state_of old.history).rows })) woken woken_then)
+            × WasTold IsAny woken_then (G.notes gate.old) (G.notes gate.new)) }
         ensures err { IfErr result (λ refusal. SomeHeld N.terms N.setup (λ held. refuses_limit held.history server ≡ Some refusal)) }
         ensures counts { G.counts gate.new ≡ G.counts gate.old }
     {
         let moment = gate.moment();
-        let (set, _) = self.retry_in_new_window(rt, gate, || {
-            let mut woken = PlaceSet::new();
-            let set = self.desk.limit(rt, moment, server, intake, &mut woken);
-            (set, woken)
-        });
+        let (set, _) = self.retry_in_new_window(
+            rt,
+            gate,
+            || -> (Result<(), Refusal>, PlaceSet)
+                ensures ok { OnOk result.0 ((woken : List ℕ) × SomeStep N.terms N.setup (λ old new. AddsEvent old.history new.history (Limit (effective old.history moment) server intake) × SetsBound old new server (mark_by (record { limit = intake; served = served server (state_of old.history).rows })) woken result.1)) }
+                ensures err { IfErr result.0 (λ refusal. SomeHeld N.terms N.setup (λ held. refuses_limit held.history server ≡ Some refusal)) }
+            {
+                let mut woken = PlaceSet::new();
+                let set = self.desk.limit(rt, moment, server, intake, &mut woken);
+                (set, woken)
+            },
+        );
         set
     }
 
@@ -227,6 +265,7 @@ impl<N: DeskName> Proxy<N> {
     >(&self, rt: &R, gate: &mut G, call: F) -> (Result<T, Refusal>, PlaceSet)
         requires { F.IsAlwaysCallable call }
         ensures post { F.post call result }
+        ensures told { WasTold (λ places. (first : Result T Refusal) × F.post call (first, places) × (first ≡ Err LogFull)) result.1 (G.notes gate.old) (G.notes gate.new) }
         ensures counts { G.counts gate.new ≡ G.counts gate.old }
     {
         let (answer, woken) = call();

@@ -1,4 +1,9 @@
-ghost use Rattle.std.specs.Prelude.{◌≡◌, ◌<◌, [], ◌∷◌, ◌++◌, IfSome, IfNone};
+ghost use Rattle.std.specs.Prelude.{◌≡◌, ◌<◌, ◌↔◌, [], ◌∷◌, ◌++◌, IfSome, IfNone, IsTrue};
+ghost use Rattle.std.specs.Bool.{OnTrue, OnFalse};
+ghost use Rattle.relay_workers.specs.Carrying.{IsUntouched};
+ghost use Rattle.relay_workers.specs.Gates.{noted};
+ghost use Rattle.relay_workers.specs.Gates.Notice.{HasLeft};
+ghost use Rattle.relay_workers.specs.Waiting.{asked_for, Holds, HasWaited};
 ghost use Rattle.shared_desk.specs.Seats.{IsSameSeat};
 
 use crate::admitting::Admitted;
@@ -46,41 +51,90 @@ pub fn wait<R: Wait, N: DeskName, G: Gate + Drop, P: Pause + Drop>(
     ensures takes { IfSome result (λ it. seat.new.view.takes ≡ seat.old.view.takes ++ it.pass ∷ []) }
     ensures its_own { IfSome result (λ it. (it.pass.place ≡ admitted.at.place) × (it.pass.ticket ≡ admitted.at.ticket)) }
     ensures its_request { IfSome result (λ it. (it.admitted.at ≡ admitted.at) × (it.admitted.view ≡ admitted.view)) }
+    ensures client { IfSome result (λ it. IsUntouched G.Client.remaining G.Client.contents admitted.client it.admitted.client) }
     ensures none { IfNone result ((seat.new.view.passes ≡ []) × (P.left hand.new.pause ≡ 0)) }
+    ensures waited { (patience : Patience) × HasWaited N.terms N.setup admitted.at.ticket (G.notes hand.old.runner.gate) (P.left hand.old.pause) (G.notes hand.new.runner.gate) (P.left hand.new.pause) patience }
     ensures posts { seat.new.view.posts ≡ seat.old.view.posts }
     ensures same { IsSameSeat seat.old seat.new }
     ensures exchange { hand.new.runner.exchange ≡ hand.old.runner.exchange }
     ensures counts { G.counts hand.new.runner.gate ≡ G.counts hand.old.runner.gate }
 {
     let mut admitted = admitted;
-    let mut given_up = false;
-    let mut spent = false;
+    let mut patience = Patience::Waits;
     for _ in rt.forever() {
         match seat.try_take(proxy.desk.board(), admitted.at.place, admitted.at.ticket) {
             Taking::Taken(pass) => return Some(Granted::new(admitted, pass)),
             Taking::NotYet => {}
         }
-        if spent {
+        if patience.is_spent() {
             return None;
         }
-        if !given_up && is_gone(&mut hand.runner.gate, &mut admitted) {
-            let _ = proxy.give_up(rt, &mut hand.runner.gate, admitted.at.ticket);
-            given_up = true;
-            continue;
-        }
-        if !hand.pause.turn() {
-            let _ = proxy.give_up(rt, &mut hand.runner.gate, admitted.at.ticket);
-            spent = true;
-        }
-        let _ = proxy.turn(rt, &mut hand.runner.gate);
+        patience = hold(rt, proxy, hand, &mut admitted, patience);
     }
     unreachable!()
 }
 
-// Says whether a client that waits has left.
-fn is_gone<N: DeskName, G: Gate>(gate: &mut G, admitted: &mut Admitted<N, G::Client>) -> bool
+// Whether a request still waits for its pass.
+#[derive(Clone, Copy)]
+enum Patience {
+    Waits,
+    // Its client has left, and it was given up.
+    GaveUp,
+    // All pauses were spent, and it was given up.
+    Spent,
+}
+
+impl Patience {
+    // Says whether all pauses were spent.
+    fn is_spent(self) -> bool
+        ensures { IsTrue result ↔ (self ≡ Patience.Spent) }
+    {
+        matches!(self, Patience::Spent)
+    }
+}
+
+// Does what is to be done after a try that found no pass.
+fn hold<R: Wait, N: DeskName, G: Gate + Drop, P: Pause + Drop>(
+    rt: &R,
+    proxy: &Proxy<N>,
+    hand: &mut Worker<G, P>,
+    admitted: &mut Admitted<N, G::Client>,
+    patience: Patience,
+) -> Patience
+    ensures holds { Holds N.terms N.setup admitted.old.at.ticket (G.notes hand.old.runner.gate) (G.notes hand.new.runner.gate) (P.left hand.old.pause) (P.left hand.new.pause) patience result }
     ensures kept { (admitted.new.at ≡ admitted.old.at) × (admitted.new.view ≡ admitted.old.view) }
+    ensures client { IsUntouched G.Client.remaining G.Client.contents admitted.old.client admitted.new.client }
+    ensures exchange { hand.new.runner.exchange ≡ hand.old.runner.exchange }
+    ensures counts { G.counts hand.new.runner.gate ≡ G.counts hand.old.runner.gate }
+{
+    let ticket = admitted.at.ticket;
+    if has_left(&mut hand.runner.gate, admitted, patience) {
+        let _ = proxy.give_up(rt, &mut hand.runner.gate, ticket);
+        return Patience::GaveUp;
+    }
+    if hand.pause.turn() {
+        let _ = proxy.turn(rt, &mut hand.runner.gate);
+        return patience;
+    }
+    let _ = proxy.give_up(rt, &mut hand.runner.gate, ticket);
+    let _ = proxy.turn(rt, &mut hand.runner.gate);
+    Patience::Spent
+}
+
+// Says whether a client that waits has left. One that has left before isn't asked again.
+fn has_left<N: DeskName, G: Gate>(
+    gate: &mut G,
+    admitted: &mut Admitted<N, G::Client>,
+    patience: Patience,
+) -> bool
+    ensures kept { (admitted.new.at ≡ admitted.old.at) × (admitted.new.view ≡ admitted.old.view) }
+    ensures client { IsUntouched G.Client.remaining G.Client.contents admitted.old.client admitted.new.client }
+    ensures left { OnTrue result ((patience ≡ Patience.Waits) × (G.notes gate.new ≡ noted HasLeft (G.notes gate.old))) }
+    ensures there { OnFalse result (G.notes gate.new ≡ asked_for patience (G.notes gate.old)) }
     ensures counts { G.counts gate.new ≡ G.counts gate.old }
 {
-    gate.gone(&mut admitted.client)
+    match patience {
+        Patience::Waits => gate.gone(&mut admitted.client),
+        Patience::GaveUp | Patience::Spent => false,
+    }
 }

@@ -1,6 +1,7 @@
 ghost use Rattle.std.specs.Prelude.{◌≡◌, ℕ, [], ◌∷◌, IfOk, IfErr, IfSome, IfNone};
 ghost use Rattle.relay_http.specs.States.{IsFresh};
-ghost use Rattle.relay_workers.specs.Endings.{HasEnded};
+ghost use Rattle.relay_http.specs.declared.exchange.Stage.TheVariants.{Asked};
+ghost use Rattle.relay_workers.specs.Endings.{HasEnded, HaveEnded};
 ghost use Rattle.relay_workers.specs.Gates.{with_more, one_end};
 ghost use Rattle.relay_workers.specs.Tallies.{tally_noted, clients_of, AreAllNoted};
 ghost use Rattle.relay_workers.specs.declared.stopping.Stopped.TheVariants.{PausesSpent};
@@ -28,7 +29,7 @@ pub fn worker<R: Wait, N: DeskName, G: Gate + Drop, P: Pause + Drop>(
     hand: &mut Worker<G, P>,
 ) -> Result<Tally, Stopped>
     ensures same { IsSameSeat idle.old.seat idle.new.seat }
-    ensures ok { IfOk result (λ tally. AreAllNoted tally (G.counts hand.old.runner.gate) (G.counts hand.new.runner.gate)) }
+    ensures ok { IfOk result (λ tally. AreAllNoted (λ outcomes. HaveEnded G.Client.remaining G.Client.contents G.Server.remaining G.Server.contents N.terms N.setup proxy.now.config outcomes idle.old.seat.view.takes idle.new.seat.view.takes) tally (G.counts hand.old.runner.gate) (G.counts hand.new.runner.gate)) }
     ensures err { IfErr result (λ stopped. (stopped ≡ PausesSpent) × (P.left hand.new.pause ≡ 0)) }
 {
     let mut tally = Tally::zero();
@@ -62,11 +63,11 @@ fn serve_next<R: Wait, N: DeskName, G: Gate + Drop, P: Pause + Drop>(
     requires idle { seat.old.view.passes ≡ [] }
     ensures idle { seat.new.view.passes ≡ [] }
     ensures same { IsSameSeat seat.old seat.new }
-    ensures served { result ≡ Next.Served → (outcome : Outcome)
-        × HasEnded N.terms N.setup proxy.now.config seat.old.view.takes seat.new.view.takes hand.new.runner.exchange outcome
+    ensures served { result ≡ Next.Served → (outcome : Outcome) × (client : G.Client)
+        × HasEnded G.Client.remaining G.Client.contents G.Server.remaining G.Server.contents N.terms N.setup proxy.now.config seat.old.view.takes seat.new.view.takes hand.new.runner.exchange outcome client
         × (tally.new ≡ tally_noted outcome tally.old)
         × ((connected : ℕ) × (missing : ℕ) × (G.counts hand.new.runner.gate ≡ with_more (clients_of (outcome ∷ []) connected missing) (G.counts hand.old.runner.gate))) }
-    ensures no_more { result ≡ Next.NoMore → (tally.new ≡ tally.old) × (G.counts hand.new.runner.gate ≡ with_more one_end (G.counts hand.old.runner.gate)) }
+    ensures no_more { result ≡ Next.NoMore → (tally.new ≡ tally.old) × (seat.new.view.takes ≡ seat.old.view.takes) × (G.counts hand.new.runner.gate ≡ with_more one_end (G.counts hand.old.runner.gate)) }
     ensures spent { result ≡ Next.Spent → P.left hand.new.pause ≡ 0 }
 {
     let Some(client) = hand.runner.gate.next() else {
@@ -96,8 +97,8 @@ fn attend<R: Wait, N: DeskName, G: Gate + Drop, P: Pause + Drop>(
     ensures idle { seat.new.view.passes ≡ [] }
     ensures same { IsSameSeat seat.old seat.new }
     ensures most { hand.new.runner.exchange.most ≡ hand.old.runner.exchange.most }
-    ensures ended { IfSome result (λ outcome. HasEnded N.terms N.setup proxy.now.config seat.old.view.takes seat.new.view.takes hand.new.runner.exchange outcome) }
-    ensures spent { IfNone result (P.left hand.new.pause ≡ 0) }
+    ensures ended { IfSome result (λ outcome. HasEnded G.Client.remaining G.Client.contents G.Server.remaining G.Server.contents N.terms N.setup proxy.now.config seat.old.view.takes seat.new.view.takes hand.new.runner.exchange outcome client) }
+    ensures spent { IfNone result ((P.left hand.new.pause ≡ 0) × (hand.new.runner.exchange.stage ≡ Asked)) }
     ensures counts { (connected : ℕ) × (missing : ℕ) × (G.counts hand.new.runner.gate ≡ with_more (clients_of [] connected missing) (G.counts hand.old.runner.gate)) }
 {
     let mut admitted = match admit(rt, proxy, &mut hand.runner, client) {

@@ -1,6 +1,6 @@
 -- A text that is written piece by piece.
-use Rattle.std.proofs.Common.{◌≡◌, ℕ, ◌+◌, ◌-◌, ◌≤◌, List, ◌++◌, length, take, drop, Option, sym, ap, ◌∙◌, subst, take-append-drop}
-use Rattle.std.proofs.lemmas.List.{take-take}
+use Rattle.std.proofs.Common.{◌≡◌, ℕ, ◌+◌, ◌-◌, ◌≤◌, ◌<◌, List, ◌++◌, length, take, drop, Option, sym, ap, ◌∙◌, subst, take-append-drop, arith}
+use Rattle.std.proofs.lemmas.List.{take-take, length-drop}
 use Rattle.std.proofs.Math.Seq.{take-add}
 use Rattle.std.proofs.KnownBytes.{Appends-trans}
 use Rattle.std.specs.Io.KnownBytes.{Appends}
@@ -16,5 +16,5 @@ pub written_more : (a b c : Option (List ℕ)) (text : List ℕ) (at count : ℕ
     → Appends b c (take count (take (length text - at) (drop at text))) → Appends a c (take (at + count) text)
 written_more a b c text at count within before more = subst (Appends a c) (front_more text at count within) (Appends-trans a b c (take at text) _ before more)
 
-pub front_written : (a b : Option (List ℕ)) (text : List ℕ) (at : ℕ) → Appends a b (take at text) → WritesFront a b text
-front_written a b text at written = (take at text, drop at text, written, sym (take-append-drop at text))
+pub front_written : (a b : Option (List ℕ)) (text : List ℕ) (at : ℕ) → at < length text → Appends a b (take at text) → WritesFront a b text
+front_written a b text at below written = (take at text, drop at text, written, sym (take-append-drop at text), omega (arith, below, length-drop at text))

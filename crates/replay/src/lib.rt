@@ -6,6 +6,7 @@ mod defaults;
 mod events;
 mod fault;
 mod laws;
+mod reads;
 mod reports;
 mod run;
 mod streams;

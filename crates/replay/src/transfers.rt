@@ -3,6 +3,7 @@ ghost use Rattle.std.specs.Io.KnownBytes.{Appends, Consumes, IsAtEnd};
 ghost use Rattle.replay.specs.Transfers.{WritesFront, read_failures, write_failures};
 
 use crate::fault::Fault;
+use crate::reads::Reads;
 use base_streams::{Sink, Source};
 use log_texts::MOST_BYTES;
 use std::alloc::Global;
@@ -30,8 +31,9 @@ pub(crate) fn read_whole<S: Source>(alloc: Global, source: &mut S) -> Result<Vec
 {
     let mut all = Vec::new(alloc);
     let mut piece = [0u8; PIECE];
+    let mut reads = Reads::new(source);
     'reading: for turn in 0..MOST_READS {
-        let Ok(read) = source.take(&mut piece) else {
+        let Ok(read) = reads.take(source, &mut piece) else {
             return Err(Fault::Read);
         };
         if read == 0 {

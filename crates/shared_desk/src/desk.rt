@@ -21,6 +21,7 @@ ghost use Rattle.locked_book.specs.Calls.{CarriesOut, TakesBack, SetsBound};
 ghost use Rattle.locked_book.specs.Outstanding.{outstanding};
 ghost use Rattle.locked_book.specs.Turns.{Turns, Halts};
 
+use crate::followed::Followed;
 use base_places::PlaceSet;
 use binom_queue::BinomQueue;
 use dispatch_core::Core;
@@ -31,7 +32,7 @@ use grant_board::{Board, Closing, KeeperSeat, RelaySeat, Return};
 use late_cert::{Reports, Running};
 use locked_book::{Book, Deferred, DeskName, Wanted};
 use log_entries::{Entry, Intake, Queue, Refusal};
-use log_reading::{Batch, Tail};
+use log_reading::Batch;
 use std::alloc::{AllocError, Global};
 use std::sync::{Mutex, MutexGuard, Wait};
 
@@ -50,9 +51,8 @@ pub type DeskQueue = BinomQueue<Key, usize>;
 pub struct Desk<N: DeskName> {
     book: Mutex<Book<DeskQueue, N>>,
     board: Board,
-    /// The part of the log that waits to be read, where a reader follows it. A thread that takes
-    /// both locks takes this one first.
-    tail: Mutex<Option<Tail>>,
+    /// The part of the log that waits to be read.
+    tail: Followed,
     ghost named: { board ≡ N.board },
 }
 
@@ -71,7 +71,7 @@ impl<N: DeskName> Desk<N> {
         Desk {
             book: Mutex::new(Book::new(core, seat, running)),
             board,
-            tail: Mutex::new(None),
+            tail: Followed::new(),
         }
     }
 
@@ -216,14 +216,7 @@ impl<N: DeskName> Desk<N> {
     pub fn roll<R: Wait>(&self, rt: &R, alloc: Global) -> Result<EndedWindow, AllocError>
         ensures { IfOk result (λ window. SomeStep N.terms N.setup (λ old new. IsCertified old.history window.reports × AreLines old.history window.servers.items × (new ≡ record old { history = next_window old.history }))) }
     {
-        let mut tail = self.tail.lock(rt);
-        let mut book = self.enter(rt);
-        catch_up(&mut tail, book.entries());
-        let reports = book.report(alloc)?;
-        let servers = book.servers(alloc)?;
-        book.roll();
-        turn(&mut tail);
-        Ok(EndedWindow { reports, servers })
+        self.tail.end_window(rt, &self.book, alloc)
     }
 
     /// Keeps new entries of the log for `read_new` from now on, at most this number at a time.
@@ -231,25 +224,14 @@ impl<N: DeskName> Desk<N> {
     pub fn follow<R: Wait>(&self, rt: &R, alloc: Global, room: usize) -> Result<(), AllocError>
         requires { room < 2 ^ 32 }
     {
-        let made = Tail::with_room(alloc, room)?;
-        let mut tail = self.tail.lock(rt);
-        *tail = Some(made);
-        Ok(())
+        self.tail.begin(rt, alloc, room)
     }
 
     /// Replaces the batch by the entries since the last read, window after window; by nothing,
     /// where none are kept, or where the batch has less room than `follow` was given. `O(n)` in the
     /// new entries while the lock is held, without allocating.
     pub fn read_new<R: Wait>(&self, rt: &R, batch: &mut Batch) {
-        batch.clear();
-        let mut tail = self.tail.lock(rt);
-        let Some(tail) = &mut *tail else {
-            return;
-        };
-        tail.catch_up(self.enter(rt).entries());
-        if tail.room() <= batch.entries.capacity() {
-            tail.take(batch);
-        }
+        self.tail.read_new(rt, &self.book, batch);
     }
 
     /// Returns the reports of the present window. Fails only where memory is refused.
@@ -296,14 +278,7 @@ impl<N: DeskName> Desk<N> {
         ensures none { IfOk result (λ found. IfNone found (SomeHeld N.terms N.setup (λ held. HasEntryRoom held.history))) }
         ensures some { IfOk result (λ found. IfSome found (λ window. SomeStep N.terms N.setup (λ old new. (HasEntryRoom old.history → ⊥) × IsCertified old.history window.reports × AreLines old.history window.servers.items × (new ≡ record old { history = next_window old.history })))) }
     {
-        let mut tail = self.tail.lock(rt);
-        let mut book = self.enter(rt);
-        catch_up(&mut tail, book.entries());
-        let made = book.make_room(alloc);
-        if let Ok(Some(_)) = &made {
-            turn(&mut tail);
-        }
-        made
+        self.tail.make_room(rt, &self.book, alloc)
     }
 
     /// Returns the relay's seat unchanged, and the number of its passes, each of which is outstanding.
@@ -367,23 +342,19 @@ impl<N: DeskName> Desk<N> {
     fn enter<R: Wait>(&self, rt: &R) -> MutexGuard<'_, Book<DeskQueue, N>>
         ensures { IsHeld N.terms N.setup (mutex_guard_value result) }
     {
-        let book = self.book.lock(rt);
-        // This call states the book's invariant.
-        book.places();
-        book
+        enter(rt, &self.book)
     }
 }
 
-// Keeps the entries of the present window to be read.
-fn catch_up(tail: &mut Option<Tail>, entries: &[Entry]) {
-    if let Some(tail) = tail {
-        tail.catch_up(entries);
-    }
-}
-
-// Keeps the fact that the window ended.
-fn turn(tail: &mut Option<Tail>) {
-    if let Some(tail) = tail {
-        tail.turn();
-    }
+/// Takes the lock of a desk's book.
+pub(crate) fn enter<'a, R: Wait, N: DeskName>(
+    rt: &R,
+    book: &'a Mutex<Book<DeskQueue, N>>,
+) -> MutexGuard<'a, Book<DeskQueue, N>>
+    ensures { IsHeld N.terms N.setup (mutex_guard_value result) }
+{
+    let book = book.lock(rt);
+    // This call states the book's invariant.
+    book.places();
+    book
 }

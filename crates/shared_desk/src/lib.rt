@@ -4,5 +4,6 @@
 #![tactic(auto)]
 
 mod desk;
+mod followed;
 
 pub use desk::{Desk, DeskQueue};

@@ -99,10 +99,14 @@ fn ends(rt: &impl Abort, alloc: Global, streams: Streams, end: Result<(), Fault>
 #[test]
 fn pieces_are_joined(rt: HostRuntime) {
     for piece in 1..25usize {
+        // The last read finds the end, after which none is made.
+        let reads = SCRIPT.len().div_ceil(piece).saturating_add(1);
         let streams = Streams {
             read: piece,
+            reads,
             written: piece,
-            ..UNBROKEN
+            writes: TRACE.len().div_ceil(piece),
+            fails: true,
         };
         ends(&rt, rt.alloc(), streams, Ok(()), TRACE.len());
     }

@@ -1,5 +1,5 @@
 -- Bytes are read until a head stands there, or can't.
-use Rattle.std.proofs.Common.{◌∙◌, List, ℕ, [], ◌++◌, sym, ap, arith, refl, subst}
+use Rattle.std.proofs.Common.{◌∙◌, List, ℕ, [], ◌++◌, sym, ap, arith, refl, subst, inl, inr}
 use Rattle.httparse.specs.Grammar.{print_request}
 use Rattle.base_streams.specs.Streams.{Stream}
 use Rattle.http_bodies.proofs.Exits.{at_exit}
@@ -21,6 +21,7 @@ reading-init g c =
       (λ w. moves_none _),
       refl,
       record { rest = inbox; all = ap (λ l. l ++ inbox) fresh.held; none = subst (λ (l : List ℕ). HasNoHead l) fresh.held fresh.none },
+      inr (refl, refl),
     )
 
 pub returns-in-Whole-clause-ok : goal.returns-in-Whole-clause-ok
@@ -79,4 +80,8 @@ reading-preserved g c =
         all = sym read.held ∙ ap (λ l. l ++ read.taken) (ap (λ (p : Pipe). p.inbox) told.0 ∙ sym told.1);
         none = subst (λ (l : List ℕ). HasNoHead l) (sym told.1) told.2;
       },
+      inl (elim c.reading.invariant.3 [ inl none ↦ none | inr same ↦ subst (λ (l : List ℕ). HasNoHead l) same.1 told.2 ]),
     )
+
+pub returns-in-Whole-clause-unread : goal.returns-in-Whole-clause-unread
+returns-in-Whole-clause-unread g c = λ h rest has. elim c.reading.invariant.3 [ inl none ↦ absurd (none h rest has) | inr same ↦ same.0 ]

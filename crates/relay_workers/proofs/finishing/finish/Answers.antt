@@ -1,12 +1,14 @@
-use Rattle.std.proofs.Common.{◌≡◌, ◌⊎◌, inl, inr, Result, Ok, Err}
-use Rattle.std.specs.Prelude.{OnOk, IfErr}
-use Rattle.log_entries.specs.declared.refusal.Refusal.{Refusal}
-use Rattle.log_entries.specs.declared.refusal.Refusal.TheVariants.{LogFull}
+use Rattle.std.proofs.Common.{rules, ◌≡◌, ◌<◌, ℕ, List, length, slice_index_or, subst, sym, refl}
+use Rattle.grant_board.specs.Views.{Grant}
+use Rattle.relay_workers.proofs.Telling.{turned}
 use Rattle.relay_workers.proofs.finishing.finish.Goals as goal
 
-either : {A X Y : Type 0} (answer : Result A Refusal) → OnOk answer X → IfErr answer (λ refusal. (refusal ≡ LogFull) × Y) → X ⊎ Y
-either (Ok a) x y = inl x
-either (Err e) x y = inr y.1
-
 pub returns-clause-turned : goal.returns-clause-turned
-returns-clause-turned g c = either c.turn.result c.turn.ensures.ok c.turn.ensures.err
+returns-clause-turned g c =
+    turned g.N.BoardName.terms g.N.DeskName.setup _ c.turn.result c.carry-carried.ensures.notes c.turn.ensures.ok c.turn.ensures.stopped
+
+-- the pass is the only one of the seat
+pub post-requires-clause-held : goal.post-requires-clause-held
+post-requires-clause-held g c =
+    subst (λ (passes : List Grant). (at : ℕ) × (at < length passes) × (slice_index_or passes at c.args.granted.pass ≡ c.args.granted.pass))
+    (sym c.requires.holds) (0, search rules, refl)

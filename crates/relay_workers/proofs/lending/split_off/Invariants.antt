@@ -5,4 +5,4 @@ use Rattle.relay_workers.proofs.lending.split_off.Given as goal
 abbrev pub invariant-loop : goal.invariant-loop
 invariant-loop g l =
     IsLent l.initial.first l.first (vec_len l.initial.seats) (vec_len l.seats)
-    × (l.first.view.split ≡ l.initial.first.view.split + l.counter)
+    × (l.first.view.split ≡ l.initial.first.view.split + l.counter) × (vec_len l.seats ≡ vec_len l.initial.seats + l.counter)

@@ -1,4 +1,7 @@
-use Rattle.std.proofs.Common.{◌≡◌, [], true}
+use Rattle.std.proofs.Common.{◌≡◌, []}
+use Rattle.relay_workers.specs.Carrying.{IsUntouched}
+use Rattle.relay_workers.specs.Waiting.{HasWaited}
+use Rattle.relay_workers.specs.declared.waiting.Patience.TheVariants.{Spent}
 use Rattle.shared_desk.specs.Seats.{IsSameSeat}
 use Rattle.relay_workers.proofs.waiting.wait.Given as goal
 
@@ -9,6 +12,9 @@ invariant-loop g l =
     × (l.seat.view.passes ≡ []) × (l.seat.view.posts ≡ l.initial.seat.view.posts)
     × (l.seat.view.takes ≡ l.initial.seat.view.takes)
     × (l.admitted.at ≡ l.initial.admitted.at) × (l.admitted.view ≡ l.initial.admitted.view)
+    × IsUntouched g.G.Client.Read.remaining g.G.Client.Write.contents l.initial.admitted.client l.admitted.client
     × (l.hand.runner.exchange ≡ l.initial.hand.runner.exchange)
     × (g.G.Gate.counts l.hand.runner.gate ≡ g.G.Gate.counts l.initial.hand.runner.gate)
-    × (l.spent ≡ true → g.P.Pause.left l.hand.pause ≡ 0)
+    × (l.patience ≡ Spent → g.P.Pause.left l.hand.pause ≡ 0)
+    × HasWaited g.N.BoardName.terms g.N.DeskName.setup l.initial.admitted.at.ticket (g.G.Gate.notes l.initial.hand.runner.gate)
+    (g.P.Pause.left l.initial.hand.pause) (g.G.Gate.notes l.hand.runner.gate) (g.P.Pause.left l.hand.pause) l.patience

@@ -3,6 +3,7 @@ use Rattle.grant_board.specs.Views.{Grant}
 use Rattle.relay_http.specs.declared.exchange.Stage.TheVariants.{Asked}
 use Rattle.relay_http.specs.States.{IsOpen}
 use Rattle.relay_workers.proofs.Counting.{Connects}
+use Rattle.relay_workers.specs.Carrying.{IsUntouched}
 use Rattle.shared_desk.specs.Seats.{IsSameSeat}
 use Rattle.relay_workers.proofs.working.attend.Given as goal
 
@@ -15,5 +16,8 @@ invariant-loop g l =
     × (l.hand.runner.exchange.stage ≡ Asked) × (l.hand.runner.exchange.begun ≡ false)
     × IsOpen l.hand.runner.exchange
     × (l.hand.runner.exchange.most ≡ l.initial.hand.runner.exchange.most)
+    × (l.hand.runner.exchange ≡ l.initial.hand.runner.exchange)
+    × (l.admitted.view ≡ l.initial.admitted.view)
+    × IsUntouched g.G.Client.Read.remaining g.G.Client.Write.contents l.initial.admitted.client l.admitted.client
     × ((earlier : List Grant) × (l.seat.view.takes ≡ l.initial.seat.view.takes ++ earlier))
     × Connects (g.G.Gate.counts l.initial.hand.runner.gate) (g.G.Gate.counts l.hand.runner.gate)

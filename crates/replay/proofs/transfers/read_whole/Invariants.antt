@@ -1,4 +1,4 @@
-use Rattle.std.proofs.Common.{◌≡◌, ◌≤◌, vec_len}
+use Rattle.std.proofs.Common.{◌≡◌, ◌≤◌, false, vec_len}
 use Rattle.std.specs.Io.KnownBytes.{Consumes}
 use Rattle.log_texts.specs.declared.header.TheConstants.{MOST_BYTES}
 use Rattle.replay.proofs.transfers.read_whole.Given as goal
@@ -11,5 +11,6 @@ invariant-reading g l = record {
   consumed : Consumes (g.S.Source.stream l.initial.source).bytes (g.S.Source.stream l.source).bytes l.all.items;
   same : (g.S.Source.stream l.source).name ≡ (g.S.Source.stream l.initial.source).name;
   calls : (g.S.Source.stream l.source).calls ≡ l.turn;
+  goes_on : l.reads.ended ≡ false;
   failures : (g.S.Source.stream l.source).failures ≡ (g.S.Source.stream l.initial.source).failures;
 }

@@ -7,7 +7,7 @@ use Rattle.replay.proofs.transfers.write_whole.Goals as goal
 pub returns-in_default-clause-err : goal.returns-in_default-clause-err
 returns-in_default-clause-err g c = (
   refl,
-  front_written _ _ c.args.text.now c.writing.at (Appends-kept _ _ _ _ c.writing.invariant.written c.in_default.ensures.bytes),
+  front_written _ _ c.args.text.now c.writing.at (omega arith) (Appends-kept _ _ _ _ c.writing.invariant.written c.in_default.ensures.bytes),
 )
 
 pub writing-preserved : goal.writing-preserved

@@ -24,7 +24,7 @@ use grant_board::{Board, KeeperSeat, RelaySeat, Taking};
 use late_cert::Running;
 use locked_book::{DeskName, Wanted};
 use log_entries::{Refusal, ServerSet, Servers, Setup};
-use shared_desk::{Desk, DeskQueue};
+use shared_desk::{Desk, DeskKey, DeskQueue};
 use std::alloc::Global;
 use std::collections::VecDeque;
 use std::env;
@@ -138,12 +138,12 @@ fn setup_of(alloc: Global, places: usize, limit: u32) -> Result<Setup>
     })
 }
 
-fn start<N: DeskName>(opened: Opened) -> (Desk<N>, RelaySeat)
+fn start<N: DeskName>(opened: Opened) -> (Desk<N>, DeskKey<N>, RelaySeat)
     requires named { opened.board ≡ N.board }
     requires terms { N.terms ≡ terms_for opened.core.setup }
     requires setup { N.setup ≡ opened.core.setup }
-    ensures board { result.1.board ≡ N.board }
-    ensures view { result.1.view ≡ new_relay N.terms true }
+    ensures board { result.2.board ≡ N.board }
+    ensures view { result.2.view ≡ new_relay N.terms true }
 {
     let Opened {
         core,
@@ -152,7 +152,8 @@ fn start<N: DeskName>(opened: Opened) -> (Desk<N>, RelaySeat)
         relay,
         running,
     } = opened;
-    (Desk::new(core, board, seat, running), relay)
+    let (desk, key) = Desk::new(core, board, seat, running);
+    (desk, key, relay)
 }
 
 // Serves the requests with one thread, and returns how many were served.
@@ -161,8 +162,8 @@ fn one<N: DeskName, R: Wait>(rt: &R, alloc: Global, opened: Opened, share: Share
     requires terms { N.terms ≡ terms_for opened.core.setup }
     requires setup { N.setup ≡ opened.core.setup }
 {
-    let (desk, relay) = start::<N>(opened);
-    serve(rt, alloc, &desk, relay, share)
+    let (desk, key, relay) = start::<N>(opened);
+    serve(rt, alloc, (&desk, &key), relay, share)
 }
 
 // Serves the requests with four threads, a quarter each.
@@ -176,13 +177,13 @@ fn four<N: DeskName + Send + Sync, R: Threads + Wait + Sync>(
     requires terms { N.terms ≡ terms_for opened.core.setup }
     requires setup { N.setup ≡ opened.core.setup }
 {
-    let (desk, first) = start::<N>(opened);
+    let (desk, key, first) = start::<N>(opened);
     let seats = split(desk.board(), first);
     let share = Share {
         live: share.live / 4,
         requests: share.requests / 4,
     };
-    pairs(rt, alloc, &desk, seats, share)
+    pairs(rt, alloc, (&desk, &key), seats, share)
 }
 
 // The seats of four threads, in two pairs.
@@ -204,7 +205,7 @@ fn split(board: &Board, first: RelaySeat) -> ((RelaySeat, RelaySeat), (RelaySeat
 fn pairs<N: DeskName + Send + Sync, R: Threads + Wait + Sync>(
     rt: &R,
     alloc: Global,
-    desk: &Desk<N>,
+    desk: (&Desk<N>, &DeskKey<N>),
     seats: ((RelaySeat, RelaySeat), (RelaySeat, RelaySeat)),
     share: Share,
 ) -> u64
@@ -229,7 +230,7 @@ fn pairs<N: DeskName + Send + Sync, R: Threads + Wait + Sync>(
 fn two<N: DeskName + Send + Sync, R: Threads + Wait + Sync>(
     rt: &R,
     alloc: Global,
-    desk: &Desk<N>,
+    desk: (&Desk<N>, &DeskKey<N>),
     seats: (RelaySeat, RelaySeat),
     share: Share,
 ) -> u64
@@ -253,7 +254,7 @@ fn two<N: DeskName + Send + Sync, R: Threads + Wait + Sync>(
 fn serve<N: DeskName, R: Wait>(
     rt: &R,
     alloc: Global,
-    desk: &Desk<N>,
+    desk: (&Desk<N>, &DeskKey<N>),
     relay: RelaySeat,
     share: Share,
 ) -> u64
@@ -303,7 +304,7 @@ struct Stands<N: DeskName> {
 fn arrive<N: DeskName, R: Wait>(
     rt: &R,
     alloc: Global,
-    desk: &Desk<N>,
+    desk: (&Desk<N>, &DeskKey<N>),
     moment: u64,
 ) -> Option<Stands<N>> {
     let moment = Moment::new(moment)?;
@@ -319,7 +320,7 @@ fn arrive<N: DeskName, R: Wait>(
 fn admit<N: DeskName, R: Wait>(
     rt: &R,
     alloc: Global,
-    desk: &Desk<N>,
+    desk: (&Desk<N>, &DeskKey<N>),
     moment: Moment,
 ) -> Result<Stands<N>, Refusal> {
     let wanted = Wanted {
@@ -328,7 +329,10 @@ fn admit<N: DeskName, R: Wait>(
         pin: None,
     };
     let mut woken = PlaceSet::new();
-    let it = desk.arrive(rt, alloc, moment, wanted, &mut woken)?;
+    let it = desk
+        .0
+        .open(desk.1)
+        .arrive(rt, alloc, moment, wanted, &mut woken)?;
     Ok(Stands {
         it,
         of: PhantomData,
@@ -336,14 +340,18 @@ fn admit<N: DeskName, R: Wait>(
 }
 
 // Takes and posts the request's pass where it is offered. Says whether it was.
-fn take<N: DeskName>(desk: &Desk<N>, relay: &mut RelaySeat, stands: &Stands<N>) -> bool
+fn take<N: DeskName>(
+    desk: (&Desk<N>, &DeskKey<N>),
+    relay: &mut RelaySeat,
+    stands: &Stands<N>,
+) -> bool
     requires named { relay.old.board ≡ N.board }
     requires terms { relay.old.view.terms ≡ N.terms }
     ensures { (relay.new.board ≡ N.board) × (relay.new.view.terms ≡ N.terms) }
 {
-    match relay.try_take(desk.board(), stands.it.place, stands.it.ticket) {
+    match relay.try_take(desk.0.board(), stands.it.place, stands.it.ticket) {
         Taking::Taken(pass) => {
-            relay.post(desk.board(), pass, Ending::Done);
+            relay.post(desk.0.board(), pass, Ending::Done);
             true
         }
         Taking::NotYet => false,
@@ -351,8 +359,8 @@ fn take<N: DeskName>(desk: &Desk<N>, relay: &mut RelaySeat, stands: &Stands<N>) 
 }
 
 // Begins the next window; what is told of the one that ended isn't used.
-fn begin_window<N: DeskName, R: Wait>(rt: &R, alloc: Global, desk: &Desk<N>) {
-    match desk.roll(rt, alloc) {
+fn begin_window<N: DeskName, R: Wait>(rt: &R, alloc: Global, desk: (&Desk<N>, &DeskKey<N>)) {
+    match desk.0.open(desk.1).roll(rt, alloc) {
         Ok(
             EndedWindow {
                 reports: _,
@@ -363,11 +371,11 @@ fn begin_window<N: DeskName, R: Wait>(rt: &R, alloc: Global, desk: &Desk<N>) {
     }
 }
 
-fn turn<N: DeskName, R: Wait>(rt: &R, alloc: Global, desk: &Desk<N>, moment: u64) {
+fn turn<N: DeskName, R: Wait>(rt: &R, alloc: Global, desk: (&Desk<N>, &DeskKey<N>), moment: u64) {
     let mut woken = PlaceSet::new();
     let moment = Moment::new(moment).unwrap_or(Moment::zero());
-    if desk.turn(rt, moment, &mut woken).is_err() {
+    if desk.0.open(desk.1).turn(rt, moment, &mut woken).is_err() {
         begin_window(rt, alloc, desk);
-        let _ = desk.turn(rt, moment, &mut woken);
+        let _ = desk.0.open(desk.1).turn(rt, moment, &mut woken);
     }
 }

@@ -8,3 +8,4 @@ pub mod Booking
 pub mod Turning
 pub mod Owing
 pub mod Turns
+mod WorkedRows

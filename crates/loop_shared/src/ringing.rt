@@ -1,11 +1,10 @@
 //! The thread that checks the servers, and how threads that aren't loops report places.
 
-ghost use Rattle.std.specs.Prelude.{None};
-
 use crate::shared::Shared;
 use base_places::PlaceSet;
 use dispatch_reports::EndedWindow;
 use due_key::Moment;
+use grant_board::RelaySeat;
 use locked_book::DeskName;
 use relay_workers::{Gate, Slot, checker};
 use run_gate::{Pauses, SocketGate};
@@ -38,15 +37,24 @@ impl<
 
     type Server = TcpStream;
 
-    // It counts nothing.
-    ghost counts = { λ gate. None };
-
     fn next(&mut self) -> Option<TcpStream> {
         None
     }
 
+    fn release(&mut self, client: TcpStream) {
+        self.gate.release(client);
+    }
+
     fn connect<M: DeskName>(&mut self, slot: &Slot<'_, M>) -> Option<TcpStream> {
         self.gate.connect(slot)
+    }
+
+    fn disconnect(&mut self, server: TcpStream) {
+        self.gate.disconnect(server);
+    }
+
+    fn posted(&mut self, seat: &RelaySeat) {
+        self.gate.posted(seat);
     }
 
     fn probe(&mut self, server: usize) -> Option<bool> {

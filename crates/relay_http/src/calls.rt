@@ -167,6 +167,7 @@ impl Exchange {
         ensures ok { OnOk result (Appends (W.contents writer.old) (W.contents writer.new) (refusal_text code)) }
         ensures err { IfErr result (λ fault. (fault ≡ Fault.Write) × WrotePrefix (W.contents writer.old) (W.contents writer.new) (refusal_text code)) }
         ensures stage { self.new.stage ≡ Stage.Failed }
+        ensures turns { self.new.pipe.turns ≤ length (refusal_text code) }
         ensures most { self.new.most ≡ self.old.most }
         ensures silent { IsFalse self.new.begun → Keeps (W.contents writer.old) (W.contents writer.new) }
         ensures closing { self.new.closing ≡ self.old.closing }

@@ -20,6 +20,7 @@ impl Exchange {
             × WritesFront (K.stream sink.old) (K.stream sink.new) (refusal_text code)) }
         ensures few { (K.stream sink.new).calls ≤ (K.stream sink.old).calls + length (refusal_text code) }
         ensures stage { self.new.stage ≡ Stage.Failed }
+        ensures turns { self.new.pipe.turns ≤ length (refusal_text code) }
         ensures same_sink { (K.stream sink.new).name ≡ (K.stream sink.old).name }
         ensures most { self.new.most ≡ self.old.most }
         ensures marks { Marks (K.stream sink.old) (K.stream sink.new) self.old.begun self.new.begun }

@@ -1,4 +1,4 @@
--- What was read and written while a request was handed on, call after call.
+-- What was read and written while a request was handed on, call after call; and one client's end after the others'.
 use Rattle.std.proofs.Common.{◌≡◌, ℕ, List, [], ◌∷◌, ◌++◌, Option, None, Some, Bool, true, false, refl, subst, sym, ◌∙◌, append-nil, ap}
 use Rattle.http_texts.specs.Replies.{leave_text}
 use Rattle.relay_http.specs.Calls.{Forwards, FailsToForward, Answers, FailsToAnswer}
@@ -10,7 +10,9 @@ use Rattle.http_texts.specs.declared.fault.Fault.{Fault}
 use Rattle.grant_board.specs.Views.{Grant, Terms}
 use Rattle.log_entries.specs.declared.setup.Setup.{Setup}
 use Rattle.proxy_config.specs.declared.parts.Config.{Config}
-use Rattle.relay_workers.specs.Endings.{HasEnded, HaveEnded}
+use Rattle.relay_workers.specs.Gates.{Notice}
+use Rattle.relay_workers.specs.Serving.{with_client, HasEnded, HaveEnded}
+use Rattle.relay_workers.specs.Waiting.{Stand}
 use Rattle.relay_workers.specs.Carrying.{IsAsked, IsRelayed, IsServed}
 use Rattle.base_verdict.specs.declared.Verdict.{Verdict}
 use Rattle.relay_http.specs.declared.exchange.Exchange.{Exchange}
@@ -99,24 +101,32 @@ module _ {C S : Type 0} (left told : C → Option (List ℕ)) (left_there told_t
   )
 
   -- the same for a request and bytes that are the same
-  pub for_this : (verdict : Verdict) (exchange : Exchange) (outcome : Outcome) (client client_then : C) {view seen : Request} {held kept : List ℕ} → seen ≡ view
-      → kept ≡ held → IsServed left told left_there told_there verdict exchange outcome seen kept client client_then
-      → IsServed left told left_there told_there verdict exchange outcome view held client client_then
-  for_this verdict exchange outcome client client_then {view} {seen} {held} {kept} same holds is =
-      subst (λ (it : Request). IsServed left told left_there told_there verdict exchange outcome it held client client_then) same
-      (subst (λ (it : List ℕ). IsServed left told left_there told_there verdict exchange outcome seen it client client_then) holds is)
+  pub for_this : (verdict : Verdict) (pass : Grant) (exchange : Exchange) (outcome : Outcome) (client client_then : C) (before after : Option (List (Notice C S)))
+      {view seen : Request} {held kept : List ℕ} → seen ≡ view → kept ≡ held
+      → IsServed left told left_there told_there verdict pass exchange outcome seen kept client client_then before after
+      → IsServed left told left_there told_there verdict pass exchange outcome view held client client_then before after
+  for_this verdict pass exchange outcome client client_then before after {view} {seen} {held} {kept} same holds is =
+      subst (λ (it : Request). IsServed left told left_there told_there verdict pass exchange outcome it held client client_then before after) same
+      (subst (λ (it : List ℕ). IsServed left told left_there told_there verdict pass exchange outcome seen it client client_then before after) holds is)
 
   -- one more client's end, after the others
-  pub ended_more : (terms : Terms) (setup : Setup) (config : Config) (outcomes : List Outcome) (before between now : List Grant) (exchange : Exchange)
-      (outcome : Outcome) (client : C) → HaveEnded left told left_there told_there terms setup config outcomes before between
-      → HasEnded left told left_there told_there terms setup config between now exchange outcome client
-      → HaveEnded left told left_there told_there terms setup config (outcomes ++ outcome ∷ []) before now
-  ended_more terms setup config [] before between now exchange outcome client same ended = (
+  pub ended_more : (terms : Terms) (setup : Setup) (config : Config) (outcomes : List Outcome) (first between now : Stand C S) (exchange : Exchange)
+      (outcome : Outcome) (client : C) (pauses : ℕ) → HaveEnded left told left_there told_there terms setup config outcomes first between
+      → HasEnded left told left_there told_there terms setup config exchange outcome client (with_client client pauses between) now
+      → HaveEnded left told left_there told_there terms setup config (outcomes ++ outcome ∷ []) first now
+  ended_more terms setup config [] first between now exchange outcome client pauses same ended = (
     now,
     exchange,
     client,
-    subst (λ (it : List Grant). HasEnded left told left_there told_there terms setup config it now exchange outcome client) same ended,
+    pauses,
+    subst (λ (it : Stand C S). HasEnded left told left_there told_there terms setup config exchange outcome client (with_client client pauses it) now) same ended,
     refl,
   )
-  ended_more terms setup config (first ∷ outcomes) before between now exchange outcome client others ended =
-      (others.0, others.1, others.2, others.3, ended_more terms setup config outcomes others.0 between now exchange outcome client others.4 ended)
+  ended_more terms setup config (one ∷ outcomes) first between now exchange outcome client pauses others ended = (
+    others.0,
+    others.1,
+    others.2,
+    others.3,
+    others.4,
+    ended_more terms setup config outcomes others.0 between now exchange outcome client pauses others.5 ended,
+  )

@@ -1,34 +1,44 @@
--- Requests that wait, try after try, and checks that are reported, one after the other.
-use Rattle.std.proofs.Common.{◌≡◌, ℕ, Bool, true, false, List, Option, subst, sym}
-use Rattle.std.specs.Bool.{OnTrue, OnFalse}
+-- What a gate notes, one step after the other.
+use Rattle.std.proofs.Common.{◌≡◌, ◌∷◌, ◌++◌, [], ℕ, Bool, List, Option, Result, Ok, Err, IfOk, refl, subst, ◌<◌, zero, suc, length, slice_index_or, arith}
 use Rattle.grant_board.specs.Views.{Terms}
+use Rattle.log_entries.specs.declared.refusal.Refusal.{Refusal}
 use Rattle.log_entries.specs.declared.setup.Setup.{Setup}
-use Rattle.relay_workers.specs.Gates.{Notice, noted}
-use Rattle.relay_workers.specs.Gates.Notice.{Found}
-use Rattle.relay_workers.specs.Turning.{Reports}
-use Rattle.relay_workers.specs.Waiting.{Holds, HasReported}
-use Rattle.relay_workers.specs.Waiting.Holds.{leaves, pauses, spends}
-use Rattle.relay_workers.specs.Waiting.HasReported.{no_result, result}
-use Rattle.relay_workers.specs.declared.waiting.Patience.{Patience}
-use Rattle.relay_workers.specs.declared.waiting.Patience.TheVariants.{Spent}
+use Rattle.relay_workers.specs.Gates.{Notice}
+use Rattle.relay_workers.specs.Tallies.{tally_noted, all_noted}
+use Rattle.relay_workers.specs.Turning.{AnswersAbort, AnswersCheck, AnswersTurn, IsAnswered, HasTurned, GivesUp, Reports}
+use Rattle.relay_workers.specs.declared.outcome.Outcome.{Outcome}
+use Rattle.relay_workers.specs.declared.tally.Tally.{Tally}
 
--- where the pauses were spent in this step none is left
-pub spent_now : {terms : Terms} {setup : Setup} {ticket : ℕ} {before after : Option (List Notice)} {left left_then : ℕ} {patience then_patience : Patience}
-    → Holds terms setup ticket before after left left_then patience then_patience → (patience ≡ Spent → ⊥) → then_patience ≡ Spent → left_then ≡ 0
-spent_now (leaves given same) still is = cc
-spent_now (pauses patience turned fewer) still is = absurd (still is)
-spent_now (spends patience between given turned none none_then) still is = none_then
+-- two things that are known, one of them of an Ok
+pub known_both : {A E : Type 0} {P : Type 0} (Q : A → Type 0) (answer : Result A E) → P → IfOk answer Q → IfOk answer (λ it. P × Q it)
+known_both Q (Ok it) p q = (p, q)
+known_both Q (Err error) p q = tt
 
--- what was reported since was reported after that
-pub reported_on : {terms : Terms} {setup : Setup} {first before after : Option (List Notice)} → HasReported terms setup first before
-    → HasReported terms setup before after → HasReported terms setup first after
-reported_on earlier no_result = earlier
-reported_on earlier (result before after server ok so_far reports) = result before after server ok (reported_on earlier so_far) reports
+-- what is read where there is something is the same, whatever else would be
+pub same_read : (xs : List ℕ) (i a b : ℕ) → i < length xs → slice_index_or xs i a ≡ slice_index_or xs i b
+same_read [] i a b inside = let none : i < 0 = inside in omega arith
+same_read (x ∷ xs) zero a b inside = refl
+same_read (x ∷ xs) (suc i) a b inside = same_read xs i a b (omega (arith, inside))
 
--- one more result, or none
-pub reported_one : {terms : Terms} {setup : Setup} {first : Option (List Notice)} (before after : Option (List Notice)) (server : ℕ) (over : Bool)
-    → OnTrue over ((ok : Bool) × Reports terms setup server ok (noted (Found server ok) before) after) → OnFalse over (after ≡ before)
-    → HasReported terms setup first before → HasReported terms setup first after
-reported_one before after server true reports same so_far = result before after server reports.0 so_far reports.1
-reported_one {terms} {setup} {first} before after server false reports same so_far =
-    subst (λ (it : Option (List Notice)). HasReported terms setup first it) (sym same) so_far
+-- one more outcome at the end
+pub noted_more : (t : Tally) (outcomes : List Outcome) (outcome : Outcome) → all_noted t (outcomes ++ outcome ∷ []) ≡ tally_noted outcome (all_noted t outcomes)
+noted_more t [] outcome = refl
+noted_more t (first ∷ outcomes) outcome = noted_more (tally_noted first t) outcomes outcome
+
+module _ {C S : Type 0} (terms : Terms) (setup : Setup) where
+  -- a call that was made where a gate had noted this, whatever it answered
+  pub turned_from : {first before : Option (List (Notice C S))} (answer : Result (Unit {0}) Refusal) (after : Option (List (Notice C S))) → before ≡ first
+      → IsAnswered terms setup (AnswersTurn terms setup) answer before after → HasTurned terms setup first after
+  turned_from answer after same is =
+      (answer, subst (λ (it : Option (List (Notice C S))). IsAnswered terms setup (AnswersTurn terms setup) answer it after) same is)
+
+  pub gave_up_from : (ticket : ℕ) {first before : Option (List (Notice C S))} (answer : Result (Unit {0}) Refusal) (after : Option (List (Notice C S)))
+      → before ≡ first → IsAnswered terms setup (AnswersAbort terms setup ticket) answer before after → GivesUp terms setup ticket first after
+  gave_up_from ticket answer after same is =
+      (answer, subst (λ (it : Option (List (Notice C S))). IsAnswered terms setup (AnswersAbort terms setup ticket) answer it after) same is)
+
+  pub reported_from : (server : ℕ) (ok : Bool) {first before : Option (List (Notice C S))} (answer : Result (Unit {0}) Refusal)
+      (after : Option (List (Notice C S))) → before ≡ first → IsAnswered terms setup (AnswersCheck terms setup server ok) answer before after
+      → Reports terms setup server ok first after
+  reported_from server ok answer after same is =
+      (answer, subst (λ (it : Option (List (Notice C S))). IsAnswered terms setup (AnswersCheck terms setup server ok) answer it after) same is)

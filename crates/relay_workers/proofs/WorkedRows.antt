@@ -1,20 +1,27 @@
--- Worked examples of what is said of a client, a gate and a crew; and wrong ones, which don't hold.
-use Rattle.std.proofs.Common.{◌≡◌, ℕ, List, [], ◌∷◌, Option, Some, None, Ok, Err, inl, refl, ap, arith, length}
+-- Worked examples of what is said of a client, a gate, a checker and a crew; and wrong ones, which don't hold.
+use Rattle.std.proofs.Common.{◌≡◌, ℕ, List, [], ◌∷◌, Option, Some, None, Ok, Err, inl, refl, ap, arith, inr, length, replicate, ◌-◌, ◌^◌}
 use Rattle.std.specs.List.{AllZip}
+use Rattle.dispatch_state.specs.declared.position.Ticketed.{Ticketed}
 use Rattle.grant_board.specs.Views.{Terms}
 use Rattle.http_texts.specs.declared.fault.Fault.TheVariants.{Head, Write}
 use Rattle.http_texts.specs.declared.refusals.Code.TheVariants.{BadRequest, BadGateway}
 use Rattle.log_entries.specs.declared.setup.Setup.{Setup}
+use Rattle.proxy_config.specs.declared.parts.Checks.{Checks}
+use Rattle.proxy_config.specs.declared.parts.Config.{Config}
+use Rattle.proxy_config.specs.declared.parts.Server.{Server}
 use Rattle.relay_http.specs.declared.closing.Closing.TheVariants.{Reading, Forwarding, Breaking}
 use Rattle.relay_http.specs.declared.exchange.Exchange.{Exchange}
 use Rattle.relay_workers.specs.Carrying.{IsTold, IsUntouched}
+use Rattle.relay_workers.specs.Checks.{later_by, IsDue, Looks, HasChecked}
+use Rattle.relay_workers.specs.Checks.HasChecked.{began as began_checks}
 use Rattle.relay_workers.specs.Crews.{EndsAs, of_all}
 use Rattle.relay_workers.specs.Endings.{after_closing}
-use Rattle.relay_workers.specs.Gates.{Counts, noted, with_more, one_client, WasTold}
-use Rattle.relay_workers.specs.Gates.Notice.{Told, HasLeft}
+use Rattle.relay_workers.specs.Gates.{Notice, noted}
+use Rattle.relay_workers.specs.Gates.Notice.{HasLeft, NotYet, Told}
+use Rattle.relay_workers.specs.Serving.{HaveEnded, HasWorked}
 use Rattle.relay_workers.specs.Tallies.{no_clients}
-use Rattle.relay_workers.specs.Turning.{IsAny}
-use Rattle.relay_workers.specs.Waiting.{Holds, HasWaited}
+use Rattle.relay_workers.specs.Turning.{WasTold}
+use Rattle.relay_workers.specs.Waiting.{Stand, Holds, HasWaited}
 use Rattle.relay_workers.specs.Waiting.Holds.{pauses, spends}
 use Rattle.relay_workers.specs.Waiting.HasWaited.{began}
 use Rattle.relay_workers.specs.declared.outcome.Outcome.TheVariants.{Refused, Cut}
@@ -38,26 +45,53 @@ told_nothing exchange = refl
 told_a_byte : (exchange : Exchange) → ¬ (IsTold {C = List ℕ} Some exchange Cut [] (65 ∷ []))
 told_a_byte exchange told = omega (arith, ap (length {A = ℕ}) told)
 
-count_of : Option (List ℕ) → ℕ
-count_of None = 0
-count_of (Some bytes) = length bytes
+many : {A : Type 0} → Option (List A) → ℕ
+many None = 0
+many (Some them) = length them
 
 -- a client of which a byte was read isn't untouched
 read_from : ¬ (IsUntouched {C = List ℕ} Some (λ client. None) (65 ∷ []) [])
-unfolding count_of
-read_from untouched = omega (arith, ap count_of untouched.left_is)
+unfolding many
+read_from untouched = omega (arith, ap many untouched.left_is)
 
--- a gate that notes nothing says nothing; one that notes was told of the last places last
-notes_nothing : noted HasLeft None ≡ None
+-- a gate that notes nothing says nothing
+notes_nothing : noted {C = ℕ} {S = ℕ} HasLeft None ≡ None
 notes_nothing = refl
 
-was_told : WasTold IsAny [] (Some []) (Some (Told [] ∷ []))
-was_told = inl refl
+-- a gate was told of the places of a call
+was_told : (terms : Terms) (setup : Setup) → WasTold {C = ℕ} {S = ℕ} terms setup (λ places. ⊥) [] (Some []) (Some (Told [] ∷ []))
+was_told terms setup = inl refl
 
--- one client more is counted as one
-one_more : with_more one_client (Some (record { clients = 1; ends = 0; connected = 0; missing = 0 }))
-    ≡ Some (record { clients = 2; ends = 0; connected = 0; missing = 0 })
-one_more = refl
+-- it wasn't told twice of a call that no state refuses
+told_twice : (terms : Terms) (setup : Setup)
+    → ¬ (WasTold {C = ℕ} {S = ℕ} terms setup (λ places. ⊥) [] (Some []) (Some (Told [] ∷ Told [] ∷ [])))
+unfolding many
+told_twice terms setup (inl once) = omega (arith, ap many once)
+told_twice terms setup (inr again) = again.1
+
+-- where there is no server none is due, and nothing else
+no_servers : IsDue [] 0 0 0 None
+no_servers = inl refl
+
+due_without_a_server : (checks : Checks) → ¬ (IsDue [] 0 0 0 (Some checks))
+due_without_a_server checks due = let none = due.1 in cc
+
+-- a check isn't due before its moment
+due_too_early : (server : Server) (checks : Checks) → ¬ (IsDue (server ∷ []) 0 5 4 (Some checks))
+due_too_early server checks due = let soon = due.3 in omega arith
+
+-- there is no moment after the last one
+last_moment : later_by 1 (2 ^ 62 - 1) ≡ 2 ^ 62 - 1
+last_moment = refl
+
+-- a gate isn't asked for a check that isn't due
+asked_too_early : (terms : Terms) (setup : Setup) → ¬ (Looks {C = ℕ} {S = ℕ} terms setup 0 0 None 0 0 (Some []) (Some (NotYet 0 ∷ [])))
+unfolding many
+asked_too_early terms setup looks = omega (arith, ap many looks.1)
+
+-- before the first round each check is due at once
+no_round : (terms : Terms) (setup : Setup) → HasChecked {C = ℕ} {S = ℕ} terms setup [] None 3 None (replicate 64 0) 3
+no_round terms setup = began_checks
 
 -- the first stop is a crew's; a crew without members has no clients
 stops : of_all (Ok no_clients ∷ Err PausesSpent ∷ Err NoMemory ∷ []) ≡ Err PausesSpent
@@ -67,17 +101,27 @@ nobody : of_all [] ≡ Ok no_clients
 nobody = refl
 
 -- a member without a result is left out
-left_out : (counts : ℕ → Option Counts) → ¬ (AllZip (EndsAs (λ outcomes. Unit {0}) counts) (0 ∷ []) [])
-left_out counts zipped = zipped
+left_out : (notes : ℕ → Option (List (Notice ℕ ℕ))) → ¬ (AllZip (EndsAs (λ result before after. Unit {0}) notes) (0 ∷ []) [])
+left_out notes zipped = zipped
+
+-- without a client nothing is done
+no_client : (terms : Terms) (setup : Setup) (config : Config) (stand : Stand (List ℕ) (List ℕ))
+    → HaveEnded Some Some Some Some terms setup config [] stand stand
+no_client terms setup config stand = refl
+
+-- a worker's memory isn't refused, since it has its exchange before it begins
+without_memory : (terms : Terms) (setup : Setup) (config : Config) (stand : Stand (List ℕ) (List ℕ))
+    → ¬ (HasWorked Some Some Some Some terms setup config (Err NoMemory) stand stand)
+without_memory terms setup config stand worked = worked
 
 -- nothing was done yet, and all pauses are left
-at_first : (terms : Terms) (setup : Setup) → HasWaited terms setup 0 None 3 None 3 Waits
-at_first terms setup = began
+at_first : (terms : Terms) (setup : Setup) (at : Ticketed) (stand : Stand ℕ ℕ) → HasWaited terms setup at stand stand Waits
+at_first terms setup at stand = began
 
 -- a step without a pause isn't one of a request that waits on
-without_a_pause : (terms : Terms) (setup : Setup) → ¬ (Holds terms setup 0 None None 1 1 Waits Waits)
+without_a_pause : (terms : Terms) (setup : Setup) → ¬ (Holds {C = ℕ} {S = ℕ} terms setup 0 None None 1 1 Waits Waits)
 without_a_pause terms setup (pauses patience turned fewer) = omega (arith, fewer)
 
 -- a client is given up by its pauses only where none is left
-with_a_pause : (terms : Terms) (setup : Setup) → ¬ (Holds terms setup 0 None None 1 1 Waits Spent)
+with_a_pause : (terms : Terms) (setup : Setup) → ¬ (Holds {C = ℕ} {S = ℕ} terms setup 0 None None 1 1 Waits Spent)
 with_a_pause terms setup (spends patience between given turned none none_then) = omega (arith, none)

@@ -3,12 +3,15 @@ use Rattle.std.specs.Prelude.{◌≡◌, ℕ, List, true, Option, None, Some}
 use Rattle.std.specs.Io.KnownBytes.{Appends}
 use Rattle.base_verdict.specs.declared.Verdict.{Verdict}
 use Rattle.base_verdict.specs.declared.Verdict.TheVariants.{Serve, Told}
+use Rattle.grant_board.specs.Views.{Grant}
 use Rattle.http_texts.specs.Replies.{leave_text, refusal_text}
 use Rattle.relay_http.specs.Calls.{Forwards, FailsToForward, Answers, FailsToAnswer}
 use Rattle.relay_http.specs.Failures.{WrotePrefix}
 use Rattle.relay_http.specs.declared.closing.Closing.{Closing}
 use Rattle.relay_http.specs.declared.closing.Closing.TheVariants.{Reading, Leaving, Forwarding, Answering, Breaking}
 use Rattle.relay_http.specs.declared.exchange.Exchange.{Exchange}
+use Rattle.relay_workers.specs.Gates.{Notice, noted}
+use Rattle.relay_workers.specs.Gates.Notice.{Connected, Disconnected}
 use Rattle.relay_workers.specs.declared.outcome.Outcome.{Outcome}
 use Rattle.relay_workers.specs.declared.outcome.Outcome.TheVariants.{Answered, Refused, Cut}
 use Rattle.req_view.specs.Request.{Request}
@@ -62,8 +65,11 @@ module _ {C S : Type 0} (left told : C → Option (List ℕ)) (left_there told_t
   IsHandedOn exchange outcome view held client client_then server server_then =
       (ended : C) × IsRelayed exchange.closing view held client ended server server_then × IsTold told exchange outcome ended client_then
 
-  -- a request was served under a verdict: it was handed on to some connection, or the client was told why it has no slot
-  abbrev pub IsServed : Verdict → Exchange → Outcome → Request → List ℕ → C → C → Type 0
-  IsServed (Serve server) exchange outcome view held client client_then =
+  -- A request was served under a pass: the gate gave a connection for the pass, the request was handed
+  -- on to it, and the gate took the connection back; or the client was told why it has no slot.
+  abbrev pub IsServed : Verdict → Grant → Exchange → Outcome → Request → List ℕ → C → C → Option (List (Notice C S)) → Option (List (Notice C S)) → Type 0
+  IsServed (Serve server) pass exchange outcome view held client client_then before after =
       (there : S) × (there_then : S) × IsHandedOn exchange outcome view held client client_then there there_then
-  IsServed (Told cause) exchange outcome view held client client_then = IsTold told exchange outcome client client_then
+      × (after ≡ noted (Disconnected there_then) (noted (Connected pass there) before))
+  IsServed (Told cause) pass exchange outcome view held client client_then before after =
+      IsTold told exchange outcome client client_then × (after ≡ before)

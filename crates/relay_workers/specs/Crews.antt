@@ -1,29 +1,30 @@
 -- What the threads of a crew return.
-use Rattle.std.specs.Prelude.{◌≡◌, ◌⊎◌, List, [], ◌∷◌, Option, Result, Ok, Err}
+use Rattle.std.specs.Prelude.{◌≡◌, ◌⊎◌, List, [], ◌∷◌, map, Option, None, Some, Result, Ok, Err}
 use Rattle.std.specs.List.{AllZip}
-use Rattle.relay_workers.specs.declared.outcome.Outcome.{Outcome}
+use Rattle.relay_workers.specs.Gates.{Notice}
+use Rattle.relay_workers.specs.declared.finished.Finished.{Finished}
+use Rattle.relay_workers.specs.Tallies.{no_clients, of_both}
 use Rattle.relay_workers.specs.declared.stopping.Stopped.{Stopped}
 use Rattle.relay_workers.specs.declared.stopping.Stopped.TheVariants.{NoMemory}
 use Rattle.relay_workers.specs.declared.tally.Tally.{Tally}
-use Rattle.relay_workers.specs.Gates.{Counts}
-use Rattle.relay_workers.specs.Tallies.{AreAllNoted, no_clients, of_both}
-
--- what the thread of a member returns: the tally of just the clients that its gate gave until it said that no more come, who ended so, or a stop
-abbrev pub EndsAs : {G : Type 0} → (List Outcome → Type 0) → (G → Option Counts) → G → Result Tally Stopped → Type 0
-EndsAs {G} Ended counts gate (Ok tally) = (after : G) × AreAllNoted Ended tally (counts gate) (counts after)
-EndsAs Ended counts gate (Err stopped) = Unit {0}
 
 -- the result of many threads: the sum, or why the first one stopped that did; no clients where there are none
 abbrev pub of_all : List (Result Tally Stopped) → Result Tally Stopped
 of_all [] = Ok no_clients
 of_all (one ∷ others) = of_both one (of_all others)
 
--- the thread of each member, a gate and a pause, returned one of these results, and this is the result of all, in the members' order
-abbrev pub IsOfAll : {G P : Type 0} → (List Outcome → Type 0) → (G → Option Counts) → List (G × P) → Result Tally Stopped → Type 0
-IsOfAll Ended counts members result =
-    (results : List (Result Tally Stopped)) × AllZip (λ member. EndsAs Ended counts member.0) members results × (result ≡ of_all results)
+module _ {C S G : Type 0} (Worked : Result Tally Stopped → Option (List (Notice C S)) → Option (List (Notice C S)) → Type 0)
+    (notes : G → Option (List (Notice C S))) where
+  -- what the thread of a member returns, and its gate then: it is what a worker returned that began with its gate; or there was no memory for it
+  abbrev pub EndsAs : G → Result Tally Stopped × Option (Finished G) → Type 0
+  EndsAs gate (result, Some finished) = Worked result (notes gate) (notes finished.gate)
+  EndsAs gate (result, None) = result ≡ Err NoMemory
 
--- the result of a crew: that of all its members, or, where the thread for the checks couldn't be started, a stop
-abbrev pub IsOfCrew : {G P : Type 0} → (List Outcome → Type 0) → (G → Option Counts) → List (G × P) → Result Tally Stopped → Type 0
-IsOfCrew Ended counts members result =
-    (all : Result Tally Stopped) × IsOfAll Ended counts members all × ((result ≡ all) ⊎ (result ≡ of_both all (Err NoMemory)))
+  -- the thread of each member, a gate and a pause, returned one of these results, and this is the result of all, in the members' order
+  abbrev pub IsOfAll : {P : Type 0} → List (G × P) → Result Tally Stopped → Type 0
+  IsOfAll members result =
+      (ends : List (Result Tally Stopped × Option (Finished G))) × AllZip (λ member. EndsAs member.0) members ends × (result ≡ of_all (map (λ end. end.0) ends))
+
+  -- the result of a crew: that of all its members, or that with a stop for no memory behind it
+  abbrev pub IsOfCrew : {P : Type 0} → List (G × P) → Result Tally Stopped → Type 0
+  IsOfCrew members result = (all : Result Tally Stopped) × IsOfAll members all × ((result ≡ all) ⊎ (result ≡ of_both all (Err NoMemory)))

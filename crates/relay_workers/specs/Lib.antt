@@ -1,12 +1,14 @@
 pub mod Admissions
 pub mod Boards
 pub mod Carrying
+pub mod Checks
 pub mod Crews
 pub mod Endings
 pub mod Gates
 pub mod Outcomes
 pub mod Seats
+pub mod Serving
+pub mod Tallies
 pub mod Turning
 pub mod Waiting
 pub mod Windows
-pub mod Tallies

@@ -1,10 +1,9 @@
 -- Numbers of clients, each of which saturates at its greatest value.
-use Rattle.std.specs.Prelude.{◌≡◌, ℕ, ◌+◌, ◌-◌, ◌^◌, min, List, [], ◌∷◌, length, Option, Result, Ok, Err}
+use Rattle.std.specs.Prelude.{ℕ, ◌+◌, ◌-◌, ◌^◌, min, List, [], ◌∷◌, Result, Ok, Err}
 use Rattle.http_texts.specs.declared.refusals.Code.TheVariants.{BadRequest, BadGateway, Unavailable}
 use Rattle.relay_workers.specs.declared.outcome.Outcome.{Outcome}
 use Rattle.relay_workers.specs.declared.outcome.Outcome.TheVariants.{Answered, Refused, Cut}
 use Rattle.relay_workers.specs.declared.tally.Tally.{Tally}
-use Rattle.relay_workers.specs.Gates.{Counts, with_more, one_end}
 use Rattle.relay_workers.specs.declared.stopping.Stopped.{Stopped}
 
 abbrev pub plus : ℕ → ℕ → ℕ
@@ -30,20 +29,6 @@ no_clients = record { clients = 0; answered = 0; bad_requests = 0; bad_gateways 
 abbrev pub all_noted : Tally → List Outcome → Tally
 all_noted t [] = t
 all_noted t (outcome ∷ outcomes) = all_noted (tally_noted outcome t) outcomes
-
--- as many clients as there are outcomes, and this number of connections that were there and that weren't
-abbrev pub clients_of : List Outcome → ℕ → ℕ → Counts
-clients_of outcomes connected missing = record { clients = length outcomes; ends = 0; connected = connected; missing = missing }
-
--- the tally is that of the outcomes of some clients, who ended so, and the gate gave just as many clients
-abbrev pub AreNoted : (List Outcome → Type 0) → Tally → Option Counts → Option Counts → Type 0
-AreNoted Ended tally old new =
-    (outcomes : List Outcome) × Ended outcomes × (connected : ℕ) × (missing : ℕ) × (tally ≡ all_noted no_clients outcomes)
-    × (new ≡ with_more (clients_of outcomes connected missing) old)
-
--- and then said that no more come
-abbrev pub AreAllNoted : (List Outcome → Type 0) → Tally → Option Counts → Option Counts → Type 0
-AreAllNoted Ended tally old new = (between : Option Counts) × AreNoted Ended tally old between × (new ≡ with_more one_end between)
 
 abbrev pub together : Tally → Tally → Tally
 together a b = record {

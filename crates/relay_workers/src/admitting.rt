@@ -1,23 +1,24 @@
-ghost use Rattle.std.specs.Prelude.{◌≡◌, ◌≢◌, ◌<◌, ℕ, IfOk, OnOk, IfErr, None, false};
+ghost use Rattle.std.specs.Prelude.{◌≡◌, ◌≢◌, ◌<◌, ℕ, IfOk, OnOk, IfErr, Ok, None, false};
 ghost use Rattle.log_entries.specs.declared.refusal.Refusal.TheVariants.{NoSuchServer};
 ghost use Rattle.relay_http.specs.Askings.{HasReadHead};
 ghost use Rattle.relay_http.specs.States.{IsFresh, IsOpen};
 ghost use Rattle.relay_http.specs.declared.exchange.Stage.TheVariants as stage;
 ghost use Rattle.relay_http.specs.declared.exchange.Stage.TheVariants.{Asked};
-ghost use Rattle.relay_workers.specs.Admissions.{arrival, late_arrival, IsAdmitted, IsAdmittedAs, IsAdmittedLate, IsRequestAt, WishIsTurnedAway, IsRefusedFor};
+ghost use Rattle.relay_workers.specs.Admissions.{arrival, late_arrival, AnswersArrival, IsAdmitted, IsAdmittedAs, IsAdmittedLate, IsRequestAt, WishIsTurnedAway, IsRefusedFor};
 ghost use Rattle.relay_workers.specs.declared.outcome.Outcome.TheVariants.{Answered, Refused};
 ghost use Rattle.prio_rules.specs.Wishes.{wish};
-ghost use Rattle.log_entries.specs.Histories.{effective};
 ghost use Rattle.relay_workers.specs.Carrying.{IsTold};
-ghost use Rattle.relay_workers.specs.Turning.{Offers, IsToldOf};
+ghost use Rattle.relay_workers.specs.Turning.{IsAnswered};
 ghost use Rattle.relay_workers.specs.Endings.{IsTurnedAway, IsSent};
+ghost use Rattle.relay_workers.specs.Gates.{noted};
+ghost use Rattle.relay_workers.specs.Gates.Notice.{Released};
 
+use crate::asking::Offered;
 use crate::gate::Gate;
 use crate::outcome::Outcome;
 use crate::proxy::{Proxy, Runner};
-use base_places::PlaceSet;
 use dispatch_state::Ticketed;
-use locked_book::{Deferred, DeskName, Wanted};
+use locked_book::{Deferred, DeskName};
 use log_entries::Refusal;
 use prio_rules::{Wish, decide};
 use relay_http::{Code, Exchange};
@@ -26,9 +27,9 @@ use std::io::{Read, Write};
 use std::marker::PhantomData;
 use std::sync::Wait;
 
-/// A client whose request has arrived at the board that N names.
-#[derive(Drop)]
-pub struct Admitted<N: DeskName, C: Read + Write + Drop> {
+/// A client whose request has arrived at the board that N names. It can't be dropped: its gate
+/// takes the client back.
+pub struct Admitted<N: DeskName, C: Read + Write> {
     pub client: C,
     pub view: View,
     /// Its place and its ticket.
@@ -37,8 +38,24 @@ pub struct Admitted<N: DeskName, C: Read + Write + Drop> {
     pub ghost arrived: { IsRequestAt N.terms N.setup view at },
 }
 
+impl<N: DeskName, C: Read + Write> Admitted<N, C> {
+    /// Gives the client back to its gate.
+    pub fn release<G: Gate<Client = C>>(self, gate: &mut G)
+        ensures { G.notes gate.new ≡ noted (Released self.client) (G.notes gate.old) }
+    {
+        let Admitted {
+            client,
+            view: _,
+            at: _,
+            of: _,
+        } = self;
+        gate.release(client);
+    }
+}
+
 /// From a client to a place: reads the request's head, and lets the request arrive as the rules
-/// wish. Where that fails, the client is told so, and its connection is closed.
+/// wish. Where that fails, the client is told its refusal, where it is refused, and its gate takes
+/// it back.
 ///
 /// Refused with 400 where the head isn't one that the proxy accepts, and with 503 where there is no
 /// memory, or the dispatcher refuses: all places are taken, the log is full, or the tickets are
@@ -53,21 +70,17 @@ pub fn admit<R: Wait, N: DeskName, G: Gate + Drop>(
     ensures ok { IfOk result (λ it. IsAdmitted N.terms N.setup proxy.now.config it.view it.at) }
     ensures read { IfOk result (λ it. HasReadHead it.view runner.new.exchange.pipe.inbox (G.Client.remaining client) (G.Client.remaining it.client)) }
     ensures asked { OnOk result (runner.new.exchange.stage ≡ Asked) }
-    ensures arrives { IfOk result (λ it. (moment : ℕ) × IsToldOf N.terms N.setup (λ history. arrival (wish proxy.now.config it.view) it.at (effective history moment)) (G.notes runner.old.gate) (G.notes runner.new.gate)) }
+    ensures arrives { IfOk result (λ it. IsAnswered N.terms N.setup (AnswersArrival N.terms N.setup (arrival (wish proxy.now.config it.view)) (wish proxy.now.config it.view).pin) (Ok it.at) (G.notes runner.old.gate) (G.notes runner.new.gate)) }
     ensures begun { OnOk result (runner.new.exchange.begun ≡ false) }
     ensures err { IfErr result (λ outcome. outcome ≢ Answered) }
-    ensures told { IfErr result (λ outcome. (client_then : G.Client) × IsTurnedAway G.Client.remaining G.Client.contents N.terms N.setup proxy.now.config runner.new.exchange outcome client client_then) }
+    ensures told { IfErr result (λ outcome. IsTurnedAway G.Client.remaining G.Client.contents N.terms N.setup proxy.now.config runner.new.exchange outcome client (G.notes runner.old.gate) (G.notes runner.new.gate)) }
     ensures sent { IfErr result (λ outcome. IsSent runner.new.exchange outcome) }
     ensures unclosed { OnOk result (IsOpen runner.new.exchange) }
-    ensures counts { G.counts runner.new.gate ≡ G.counts runner.old.gate }
     ensures most { runner.new.exchange.most ≡ runner.old.exchange.most }
 {
     let mut client = client;
     match runner.exchange.read_request(proxy.alloc, &mut client) {
-        Err(fault) => {
-            let outcome = Outcome::after_reading(fault);
-            Err(answer_refusal(&mut runner.exchange, &mut client, outcome))
-        }
+        Err(fault) => Err(turn_away(runner, client, Outcome::after_reading(fault))),
         Ok(view) => match arrive(rt, proxy, &mut runner.gate, &view) {
             Ok(at) => Ok(Admitted {
                 client,
@@ -77,10 +90,29 @@ pub fn admit<R: Wait, N: DeskName, G: Gate + Drop>(
             }),
             Err(_) => {
                 let outcome = Outcome::Refused(Code::Unavailable);
-                Err(answer_refusal(&mut runner.exchange, &mut client, outcome))
+                Err(turn_away(runner, client, outcome))
             }
         },
     }
+}
+
+// Sends a client that has no place its refusal, where it is refused, and gives it back to its gate.
+fn turn_away<G: Gate + Drop>(runner: &mut Runner<G>, client: G::Client, outcome: Outcome) -> Outcome
+    requires begun { runner.old.exchange.begun ≡ false }
+    requires unanswered { (outcome ≢ Answered) × (runner.old.exchange.stage ≢ stage.Answered) }
+    requires unsent { runner.old.exchange.refused ≡ None }
+    ensures same { result ≡ outcome }
+    ensures unanswered { result ≢ Answered }
+    ensures sent { IsSent runner.new.exchange result }
+    ensures told { (client_then : G.Client) × IsTold G.Client.contents runner.new.exchange result client client_then
+        × (G.notes runner.new.gate ≡ noted (Released client_then) (G.notes runner.old.gate)) }
+    ensures closing { runner.new.exchange.closing ≡ runner.old.exchange.closing }
+    ensures most { runner.new.exchange.most ≡ runner.old.exchange.most }
+{
+    let mut client = client;
+    let outcome = answer_refusal(&mut runner.exchange, &mut client, outcome);
+    runner.gate.release(client);
+    outcome
 }
 
 /// Lets the request with this head arrive as the rules wish. Refused as the dispatcher's `arrive`
@@ -93,11 +125,10 @@ pub fn arrive<R: Wait, N: DeskName, G: Gate>(
     view: &View,
 ) -> Result<Ticketed, Refusal>
     ensures ok { IfOk result (λ it. IsAdmitted N.terms N.setup proxy.now.config view.now it) }
-    ensures told { IfOk result (λ it. (moment : ℕ) × IsToldOf N.terms N.setup (λ history. arrival (wish proxy.now.config view.now) it (effective history moment)) (G.notes gate.old) (G.notes gate.new)) }
     ensures err { IfErr result (λ refusal. WishIsTurnedAway N.terms N.setup proxy.now.config view.now refusal) }
     // A pin is a server of the dispatcher.
     ensures known { IfErr result (λ refusal. refusal ≢ NoSuchServer) }
-    ensures counts { G.counts gate.new ≡ G.counts gate.old }
+    ensures answered { IsAnswered N.terms N.setup (AnswersArrival N.terms N.setup (arrival (wish proxy.now.config view.now)) (wish proxy.now.config view.now).pin) result (G.notes gate.old) (G.notes gate.new) }
 {
     let wish = decide(&proxy.config, view);
     arrive_as(rt, proxy, gate, &wish)
@@ -111,31 +142,21 @@ pub fn arrive_as<R: Wait, N: DeskName, G: Gate>(
     wish: &Wish,
 ) -> Result<Ticketed, Refusal>
     ensures ok { IfOk result (λ it. IsAdmittedAs N.terms N.setup wish.now it) }
-    ensures told { IfOk result (λ it. (moment : ℕ) × IsToldOf N.terms N.setup (λ history. arrival wish.now it (effective history moment)) (G.notes gate.old) (G.notes gate.new)) }
     ensures err { IfErr result (λ refusal. IsRefusedFor N.terms N.setup wish.now.pin refusal) }
-    ensures counts { G.counts gate.new ≡ G.counts gate.old }
+    ensures answered { IsAnswered N.terms N.setup (AnswersArrival N.terms N.setup (arrival wish.now) wish.now.pin) result (G.notes gate.old) (G.notes gate.new) }
 {
     let moment = gate.moment();
-    let (arrived, _) = proxy.retry_in_new_window(
+    proxy.retry_in_new_window(
         rt,
         gate,
-        || -> (Result<Ticketed, Refusal>, PlaceSet)
-            ensures ok { IfOk result.0 (λ it. Offers N.terms N.setup (λ history. arrival wish.entry.now it (effective history moment)) result.1) }
-            ensures place { IfOk result.0 (λ it. it.place < N.terms.places) }
-            ensures err { IfErr result.0 (λ refusal. IsRefusedFor N.terms N.setup wish.entry.now.pin refusal) }
+        || -> (Result<Ticketed, Refusal>, Offered)
+            ensures { AnswersArrival N.terms N.setup (arrival wish.entry.now) wish.entry.now.pin moment result.0 result.1 }
         {
-            let wanted = Wanted {
-                class: wish.class,
-                offset: wish.offset,
-                pin: wish.pin,
-            };
-            let mut woken = PlaceSet::new();
-            let desk = &proxy.desk;
-            let arrived = desk.arrive(rt, proxy.alloc, moment, wanted, &mut woken);
-            (arrived, woken)
+            proxy
+                .asking
+                .arrive(rt, &proxy.desk, proxy.alloc, moment, wish)
         },
-    );
-    arrived
+    )
 }
 
 /// Lets a request arrive that waited elsewhere: it keeps its due date, or gets the nearest one that
@@ -147,26 +168,21 @@ pub fn arrive_late<R: Wait, N: DeskName, G: Gate>(
     deferred: Deferred,
 ) -> Result<Ticketed, Refusal>
     ensures ok { IfOk result (λ it. IsAdmittedLate N.terms N.setup deferred it) }
-    ensures told { IfOk result (λ it. (moment : ℕ) × IsToldOf N.terms N.setup (λ history. late_arrival deferred it (effective history moment)) (G.notes gate.old) (G.notes gate.new)) }
     ensures err { IfErr result (λ refusal. IsRefusedFor N.terms N.setup deferred.pin refusal) }
-    ensures counts { G.counts gate.new ≡ G.counts gate.old }
+    ensures answered { IsAnswered N.terms N.setup (AnswersArrival N.terms N.setup (late_arrival deferred) deferred.pin) result (G.notes gate.old) (G.notes gate.new) }
 {
     let moment = gate.moment();
-    let (arrived, _) = proxy.retry_in_new_window(
+    proxy.retry_in_new_window(
         rt,
         gate,
-        || -> (Result<Ticketed, Refusal>, PlaceSet)
-            ensures ok { IfOk result.0 (λ it. Offers N.terms N.setup (λ history. late_arrival deferred it (effective history moment)) result.1) }
-            ensures place { IfOk result.0 (λ it. it.place < N.terms.places) }
-            ensures err { IfErr result.0 (λ refusal. IsRefusedFor N.terms N.setup deferred.pin refusal) }
+        || -> (Result<Ticketed, Refusal>, Offered)
+            ensures { AnswersArrival N.terms N.setup (late_arrival deferred) deferred.pin moment result.0 result.1 }
         {
-            let mut woken = PlaceSet::new();
-            let desk = &proxy.desk;
-            let arrived = desk.arrive_due(rt, proxy.alloc, moment, deferred, &mut woken);
-            (arrived, woken)
+            proxy
+                .asking
+                .arrive_due(rt, &proxy.desk, proxy.alloc, moment, deferred)
         },
-    );
-    arrived
+    )
 }
 
 /// Sends a client its refusal, where it is refused.

@@ -2,11 +2,12 @@ ghost use Rattle.std.specs.Prelude.{◌≡◌, ◌+◌, ◌≤◌, ◌⊎◌, tr
 ghost use Rattle.std.specs.Thread.{IsSend};
 ghost use Rattle.std.specs.Vec.Iter.{into_iter_items};
 ghost use Rattle.relay_workers.specs.Crews.{EndsAs, IsOfAll, IsOfCrew};
-ghost use Rattle.relay_workers.specs.Endings.{SomeHaveEnded};
+ghost use Rattle.relay_workers.specs.Serving.{SomeHasWorked};
 ghost use Rattle.relay_workers.specs.Tallies.{of_both};
 ghost use Rattle.relay_workers.specs.declared.stopping.Stopped.TheVariants.{NoMemory};
 
 use crate::checking::checker;
+use crate::finished::Finished;
 use crate::gate::{Gate, Pause};
 use crate::lending::{join_all, split_off};
 use crate::proxy::{Proxy, Worker};
@@ -48,7 +49,7 @@ pub fn serve<
     ensures idle { result.0.view.passes ≡ [] }
     ensures joined { result.0.view.split + seat.view.joined ≡ result.0.view.joined + seat.view.split }
     ensures each { IfOk result.1 (λ tally. result.0.view.split ≡ seat.view.split + vec_len crew) }
-    ensures all { (result.1 ≡ Err NoMemory) ⊎ IsOfCrew (SomeHaveEnded G.Client.remaining G.Client.contents G.Server.remaining G.Server.contents N.terms N.setup) G.counts crew.items result.1 }
+    ensures all { (result.1 ≡ Err NoMemory) ⊎ IsOfCrew (SomeHasWorked G.Client.remaining G.Client.contents G.Server.remaining G.Server.contents N.terms N.setup) G.notes crew.items result.1 }
 {
     let mut first = seat;
     let mut seats = Vec::new(proxy.alloc);
@@ -78,7 +79,7 @@ fn run_all<
 ) -> Result<Tally, Stopped>
     requires { vec_len crew ≤ vec_len seats.old }
     ensures seats { vec_len seats.new ≡ vec_len seats.old }
-    ensures all { IsOfCrew (SomeHaveEnded G.Client.remaining G.Client.contents G.Server.remaining G.Server.contents N.terms N.setup) G.counts crew.items result }
+    ensures all { IsOfCrew (SomeHasWorked G.Client.remaining G.Client.contents G.Server.remaining G.Server.contents N.terms N.setup) G.notes crew.items result }
 {
     let stop = AtomicBool::new(false);
     let told = &stop;
@@ -89,7 +90,7 @@ fn run_all<
         rt,
         move |scope| -> Result<Tally, Stopped>
             requires { length (into_iter_items members) ≤ length lent.now }
-            ensures { IsOfCrew (SomeHaveEnded G.Client.remaining G.Client.contents G.Server.remaining G.Server.contents N.terms N.setup) G.counts (into_iter_items members) result }
+            ensures { IsOfCrew (SomeHasWorked G.Client.remaining G.Client.contents G.Server.remaining G.Server.contents N.terms N.setup) G.notes (into_iter_items members) result }
         {
             let (gate, pause) = checks;
             let checking = scope
@@ -112,12 +113,15 @@ fn run_all<
     )
 }
 
+// How the thread of a member ends: its result, and its gate, unless there was no memory for it.
+type End<G> = (Result<Tally, Stopped>, Option<Finished<G>>);
+
 // Promises how the thread of a member with this gate ends.
 #[derive(Drop)]
 struct EndOf<N: DeskName, G: Gate + Drop>(Snapshot<G>, PhantomData<N>);
 
-impl<N: DeskName, G: Gate + Drop> Promise<Result<Tally, Stopped>> for EndOf<N, G> {
-    ghost kept_by = { λ promise result. EndsAs (SomeHaveEnded G.Client.remaining G.Client.contents G.Server.remaining G.Server.contents N.terms N.setup) G.counts promise.0.value result };
+impl<N: DeskName, G: Gate + Drop> Promise<End<G>> for EndOf<N, G> {
+    ghost kept_by = { λ promise result. EndsAs (SomeHasWorked G.Client.remaining G.Client.contents G.Server.remaining G.Server.contents N.terms N.setup) G.notes promise.0.value result };
 }
 
 // Starts a thread for each member, which has a seat. One that can't be started isn't run.
@@ -137,7 +141,7 @@ fn run_crew<
     crew: &mut vec::IntoIter<(G, P)>,
 ) -> Result<Tally, Stopped>
     requires { length (into_iter_items crew.old) ≤ length seats.old }
-    ensures { IsOfAll (SomeHaveEnded G.Client.remaining G.Client.contents G.Server.remaining G.Server.contents N.terms N.setup) G.counts (into_iter_items crew.old) result }
+    ensures { IsOfAll (SomeHasWorked G.Client.remaining G.Client.contents G.Server.remaining G.Server.contents N.terms N.setup) G.notes (into_iter_items crew.old) result }
 {
     let Some((idle, rest)) = seats.split_first_mut() else {
         return Ok(Tally::zero());
@@ -149,22 +153,23 @@ fn run_crew<
     let started = scope
         .spawn_with(
             promise,
-            move || -> Result<Tally, Stopped>
+            move || -> End<G>
                 requires { IsSend G.Client.row × IsSend G.Server.row }
-                ensures { EndsAs (SomeHaveEnded G.Client.remaining G.Client.contents G.Server.remaining G.Server.contents N.terms N.setup) G.counts gate result }
+                ensures { EndsAs (SomeHasWorked G.Client.remaining G.Client.contents G.Server.remaining G.Server.contents N.terms N.setup) G.notes gate result }
             {
                 let Ok(mut hand) = Worker::new(shared.proxy().alloc, gate, pause) else {
-                    return Err(Stopped::NoMemory);
+                    return (Err(Stopped::NoMemory), None);
                 };
-                worker(rt, shared.proxy(), idle, &mut hand)
+                let result = worker(rt, shared.proxy(), idle, &mut hand);
+                (result, Some(Finished::new(hand)))
             },
         )
         .ok();
     let others = run_crew(scope, rt, shared, rest, crew);
-    let mine = match started {
-        Some(handle) => handle.join(rt),
-        None => Err(Stopped::NoMemory),
+    let Some(handle) = started else {
+        return first_stop(Err(Stopped::NoMemory), others);
     };
+    let (mine, _) = handle.join(rt);
     first_stop(mine, others)
 }
 

@@ -1,11 +1,13 @@
-ghost use Rattle.std.specs.Prelude.{◌≡◌, ℕ, [], ◌∷◌, ◌++◌, false, Ok, None, Some, IfOk, IfErr, OnOk, OnErr, IfSome, IfNone, ◌↔◌};
+ghost use Rattle.std.specs.Prelude.{◌≡◌, ℕ, List, [], ◌∷◌, Ok, None, Some, IfOk, IfErr, OnOk, OnErr, IfSome, IfNone, ◌↔◌, Option, false};
 ghost use Rattle.grant_board.specs.Views.{return_of};
 ghost use Rattle.relay_http.specs.declared.exchange.Stage.TheVariants as stage;
 ghost use Rattle.relay_http.specs.States.{Serves};
 ghost use Rattle.relay_workers.specs.Carrying.{IsHandedOn, IsServed};
 ghost use Rattle.relay_workers.specs.Endings.{IsCarried, IsSent};
 ghost use Rattle.relay_workers.specs.Turning.{HasTurned};
-ghost use Rattle.relay_workers.specs.Gates.{with_more, one_connected, one_missing};
+ghost use Rattle.relay_workers.specs.Gates.{Notice, noted};
+ghost use Rattle.relay_workers.specs.Gates.Notice.{Missing, Posted, Released};
+ghost use Rattle.grant_board.specs.RelayCalls.{post_after};
 ghost use Rattle.relay_workers.specs.Outcomes.{after_telling};
 ghost use Rattle.shared_desk.specs.Seats.{IsSameSeat};
 ghost use Rattle.relay_workers.specs.declared.outcome.Outcome.TheVariants.{Answered};
@@ -45,20 +47,18 @@ pub fn finish<R: Wait, N: DeskName, G: Gate + Drop>(
     requires its_own { (granted.pass.place ≡ granted.admitted.at.place) × (granted.pass.ticket ≡ granted.admitted.at.ticket) }
     requires asked { (runner.old.exchange.stage ≡ stage.Asked) × (runner.old.exchange.begun ≡ false) }
     ensures idle { seat.new.view.passes ≡ [] }
-    ensures done { OnOk result (seat.new.view.posts ≡ seat.old.view.posts ++ return_of granted.pass ending.Done ∷ []) }
-    ensures failed { OnErr result ((seat.new.view.posts ≡ seat.old.view.posts ++ return_of granted.pass ending.Failed ∷ []) × Serves granted.pass.verdict) }
+    ensures done { OnOk result (seat.new.view ≡ post_after seat.old.view granted.pass ending.Done) }
+    ensures failed { OnErr result ((seat.new.view ≡ post_after seat.old.view granted.pass ending.Failed) × Serves granted.pass.verdict) }
     ensures told { (cause : Cause) → granted.pass.verdict ≡ Told cause → result ≡ Ok (after_telling cause) }
     ensures answered { IfOk result (λ outcome. (outcome ≡ Answered) ↔ (runner.new.exchange.stage ≡ stage.Answered)) }
     ensures carried { (server : ℕ) → granted.pass.verdict ≡ Serve server → IfOk result (λ outcome. IsCarried runner.new.exchange outcome) }
     ensures closing { (cause : Cause) → granted.pass.verdict ≡ Told cause → runner.new.exchange.closing ≡ None }
     ensures sent { IfOk result (λ outcome. IsSent runner.new.exchange outcome) }
-    ensures missing { OnErr result (G.counts runner.new.gate ≡ with_more one_missing (G.counts runner.old.gate)) }
-    ensures there { (server : ℕ) → granted.pass.verdict ≡ Serve server → OnOk result (G.counts runner.new.gate ≡ with_more one_connected (G.counts runner.old.gate)) }
-    ensures unasked { (cause : Cause) → granted.pass.verdict ≡ Told cause → G.counts runner.new.gate ≡ G.counts runner.old.gate }
-    ensures turned { HasTurned N.terms N.setup (G.notes runner.old.gate) (G.notes runner.new.gate) }
-    ensures takes { seat.new.view.takes ≡ seat.old.view.takes }
-    ensures again { IfErr result (λ it. (it.client ≡ granted.admitted.client) × (it.at ≡ granted.admitted.at) × (it.view ≡ granted.admitted.view) × (runner.new.exchange ≡ runner.old.exchange)) }
-    ensures relayed { IfOk result (λ outcome. (client_then : G.Client) × IsServed G.Client.remaining G.Client.contents G.Server.remaining G.Server.contents granted.pass.verdict runner.new.exchange outcome granted.admitted.view runner.old.exchange.pipe.inbox granted.admitted.client client_then) }
+    ensures relayed { IfOk result (λ outcome. (client_then : G.Client) × (served : Option (List (Notice G.Client G.Server))) × (turned : Option (List (Notice G.Client G.Server)))
+        × IsServed G.Client.remaining G.Client.contents G.Server.remaining G.Server.contents granted.pass.verdict granted.pass runner.new.exchange outcome granted.admitted.view runner.old.exchange.pipe.inbox granted.admitted.client client_then (G.notes runner.old.gate) served
+        × HasTurned N.terms N.setup (noted (Posted seat.new.view) served) turned × (G.notes runner.new.gate ≡ noted (Released client_then) turned)) }
+    ensures again { IfErr result (λ it. (it.client ≡ granted.admitted.client) × (it.at ≡ granted.admitted.at) × (it.view ≡ granted.admitted.view) × (runner.new.exchange ≡ runner.old.exchange)
+        × HasTurned N.terms N.setup (noted (Posted seat.new.view) (noted (Missing granted.pass) (G.notes runner.old.gate))) (G.notes runner.new.gate)) }
     ensures same { IsSameSeat seat.old seat.new }
     ensures most { runner.new.exchange.most ≡ runner.old.exchange.most }
 {
@@ -70,9 +70,16 @@ pub fn finish<R: Wait, N: DeskName, G: Gate + Drop>(
         None => Ending::Failed,
     };
     seat.post(proxy.desk.board(), pass, ending);
-    // A refused turn is one that found nothing.
+    runner.gate.posted(seat);
+    // A refused turn met a full log: what it didn't collect stays on the board.
     let _ = proxy.turn(rt, &mut runner.gate);
-    carried.ok_or(admitted)
+    match carried {
+        Some(outcome) => {
+            admitted.release(&mut runner.gate);
+            Ok(outcome)
+        }
+        None => Err(admitted),
+    }
 }
 
 // Does what a pass asks for. `None` where there is no connection to its server.
@@ -92,12 +99,8 @@ fn carry<N: DeskName, G: Gate + Drop>(
     ensures carried { (server : ℕ) → pass.now.verdict ≡ Serve server → IfSome result (λ outcome. IsCarried runner.new.exchange outcome) }
     ensures closing { (cause : Cause) → pass.now.verdict ≡ Told cause → runner.new.exchange.closing ≡ None }
     ensures sent { IfSome result (λ outcome. IsSent runner.new.exchange outcome) }
-    ensures missing { IfNone result (G.counts runner.new.gate ≡ with_more one_missing (G.counts runner.old.gate)) }
-    ensures there { (server : ℕ) → pass.now.verdict ≡ Serve server → IfSome result (λ outcome. G.counts runner.new.gate ≡ with_more one_connected (G.counts runner.old.gate)) }
-    ensures unasked { (cause : Cause) → pass.now.verdict ≡ Told cause → G.counts runner.new.gate ≡ G.counts runner.old.gate }
-    ensures notes { G.notes runner.new.gate ≡ G.notes runner.old.gate }
-    ensures none { IfNone result (Serves pass.now.verdict × (runner.new.exchange ≡ runner.old.exchange) × (admitted.new.client ≡ admitted.old.client)) }
-    ensures relayed { IfSome result (λ outcome. IsServed G.Client.remaining G.Client.contents G.Server.remaining G.Server.contents pass.now.verdict runner.new.exchange outcome admitted.old.view runner.old.exchange.pipe.inbox admitted.old.client admitted.new.client) }
+    ensures none { IfNone result (Serves pass.now.verdict × (runner.new.exchange ≡ runner.old.exchange) × (admitted.new.client ≡ admitted.old.client) × (G.notes runner.new.gate ≡ noted (Missing pass.now) (G.notes runner.old.gate))) }
+    ensures relayed { IfSome result (λ outcome. IsServed G.Client.remaining G.Client.contents G.Server.remaining G.Server.contents pass.now.verdict pass.now runner.new.exchange outcome admitted.old.view runner.old.exchange.pipe.inbox admitted.old.client admitted.new.client (G.notes runner.old.gate) (G.notes runner.new.gate)) }
     ensures kept { (admitted.new.at ≡ admitted.old.at) × (admitted.new.view ≡ admitted.old.view) }
     ensures most { runner.new.exchange.most ≡ runner.old.exchange.most }
 {
@@ -110,7 +113,9 @@ fn carry<N: DeskName, G: Gate + Drop>(
             let slot = Slot::<N>::new(seat, pass, &admitted.view, admitted.at, server);
             let mut server = runner.gate.connect(&slot)?;
             let client = &mut admitted.client;
-            Some(hand_on(alloc, &slot, &mut runner.exchange, client, &mut server))
+            let outcome = hand_on(alloc, &slot, &mut runner.exchange, client, &mut server);
+            runner.gate.disconnect(server);
+            Some(outcome)
         }
     }
 }

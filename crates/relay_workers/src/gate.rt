@@ -1,74 +1,79 @@
 ghost use Rattle.std.specs.Prelude.{◌≡◌, ◌+◌, ℕ, List, None, Option, IfSome, IfNone};
 ghost use Rattle.std.specs.Bool.{OnTrue, OnFalse};
 ghost use Rattle.relay_workers.specs.Carrying.{IsUntouched};
-ghost use Rattle.relay_workers.specs.Gates.{Counts, Notice, noted, with_more, one_client, one_end, one_connected, one_missing};
-ghost use Rattle.relay_workers.specs.Gates.Notice.{Told, IsThere, HasLeft, Found};
+ghost use Rattle.relay_workers.specs.Gates.{Notice, noted};
+ghost use Rattle.relay_workers.specs.Gates.Notice.{Came, NoMore, IsThere, HasLeft, Released, Connected, Missing, Disconnected, Posted, Found, NotYet, Now, Told, Ended};
 ghost use Rattle.relay_workers.specs.Windows.{WindowHasEnded};
 
 use crate::slot::Slot;
 use base_places::PlaceSet;
 use dispatch_reports::EndedWindow;
 use due_key::Moment;
+use grant_board::RelaySeat;
 use locked_book::DeskName;
 use std::io::{Read, Write};
 
 /// The source of a thread's clients, connections and moments. Each thread has its own.
 pub trait Gate {
-    type Client: Read + Write + Drop + Send;
+    /// A client can't be dropped: the gate takes it back.
+    type Client: Read + Write + Send;
 
-    type Server: Read + Write + Drop + Send;
+    /// A connection can't be dropped either.
+    type Server: Read + Write + Send;
 
-    /// What it counts: clients, the end of clients, connections, and those that it hadn't. `None`
-    /// where it counts nothing.
-    ghost counts: { Self → Option Counts };
-
-    /// What passed between it and the thread that asks it, in order. `None` where it notes nothing.
-    ghost notes: { Self → Option (List Notice) } = { λ _. None };
+    /// All that passed between it and the thread that asks it, in order. `None` where it notes
+    /// nothing.
+    ghost notes: { Self → Option (List (Notice Self.Client Self.Server)) } = { λ _. None };
 
     /// Returns the next client; `None` where no more come to this thread. It may wait without limit.
     fn next(&mut self) -> Option<Self::Client>
-        ensures some { IfSome result (λ client. counts self.new ≡ with_more one_client (counts self.old)) }
-        ensures none { IfNone result (counts self.new ≡ with_more one_end (counts self.old)) }
-        ensures notes { notes self.new ≡ notes self.old };
+        ensures some { IfSome result (λ client. notes self.new ≡ noted (Came client) (notes self.old)) }
+        ensures none { IfNone result (notes self.new ≡ noted NoMore (notes self.old)) };
+
+    /// Takes back a client, and closes its connection.
+    fn release(&mut self, client: Self::Client)
+        ensures { notes self.new ≡ noted (Released client) (notes self.old) };
 
     /// Returns a connection to the server of a slot; `None` where there is none, and the request is
     /// retried there or elsewhere.
     fn connect<N: DeskName>(&mut self, slot: &Slot<'_, N>) -> Option<Self::Server>
-        ensures some { IfSome result (λ server. counts self.new ≡ with_more one_connected (counts self.old)) }
-        ensures none { IfNone result (counts self.new ≡ with_more one_missing (counts self.old)) }
-        ensures notes { notes self.new ≡ notes self.old };
+        ensures some { IfSome result (λ server. notes self.new ≡ noted (Connected slot.now.pass.now server) (notes self.old)) }
+        ensures none { IfNone result (notes self.new ≡ noted (Missing slot.now.pass.now) (notes self.old)) };
+
+    /// Takes back a connection to a server, and closes it.
+    fn disconnect(&mut self, server: Self::Server)
+        ensures { notes self.new ≡ noted (Disconnected server) (notes self.old) };
+
+    /// Is shown the thread's seat, which has just posted a pass.
+    fn posted(&mut self, seat: &RelaySeat)
+        ensures { notes self.new ≡ noted (Posted seat.now.view) (notes self.old) };
 
     /// Looks at the check of a server, and begins one where none runs; `None` where it isn't over
     /// yet. It doesn't wait, so no server's checks delay another's.
     fn probe(&mut self, server: usize) -> Option<bool>
-        ensures counts { counts self.new ≡ counts self.old }
         ensures found { IfSome result (λ ok. notes self.new ≡ noted (Found server ok) (notes self.old)) }
-        ensures none { IfNone result (notes self.new ≡ notes self.old) };
+        ensures none { IfNone result (notes self.new ≡ noted (NotYet server) (notes self.old)) };
 
     /// Says whether a client that waits has left. What it sent meanwhile can still be read.
     fn gone(&mut self, client: &mut Self::Client) -> bool
-        ensures counts { counts self.new ≡ counts self.old }
         ensures left { OnTrue result (notes self.new ≡ noted HasLeft (notes self.old)) }
         ensures there { OnFalse result (notes self.new ≡ noted IsThere (notes self.old)) }
         ensures kept { IsUntouched Self.Client.remaining Self.Client.contents client.old client.new };
 
     /// Returns the present moment.
     fn moment(&mut self) -> Moment
-        ensures counts { counts self.new ≡ counts self.old }
-        ensures notes { notes self.new ≡ notes self.old };
+        ensures { notes self.new ≡ noted (Now result) (notes self.old) };
 
     /// Takes what is told of a window that ended, because the log was full or its time was over.
     /// Each window goes to the gate of one thread, and they may come to the gates in another order
     /// than they ended.
     fn window(&mut self, window: EndedWindow)
         requires { WindowHasEnded window }
-        ensures counts { counts self.new ≡ counts self.old }
-        ensures notes { notes self.new ≡ notes self.old };
+        ensures { notes self.new ≡ noted (Ended window) (notes self.old) };
 
     /// Is told after a call of the dispatcher at which places it offered verdicts. The lock is free then.
     fn wake(&mut self, places: &PlaceSet)
-        ensures counts { counts self.new ≡ counts self.old }
-        ensures notes { notes self.new ≡ noted (Told places.now) (notes self.old) };
+        ensures { notes self.new ≡ noted (Told places.now) (notes self.old) };
 }
 
 /// A bound on the pauses of a thread.

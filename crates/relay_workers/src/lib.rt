@@ -8,8 +8,10 @@
 #![tactic(auto)]
 
 mod admitting;
+mod asking;
 mod checking;
 mod crew;
+mod finished;
 mod finishing;
 mod gate;
 mod lending;
@@ -30,7 +32,7 @@ pub use lending::{join_all, split_off};
 pub use outcome::Outcome;
 pub use proxy::{Proxy, Runner, Worker};
 pub use slot::Slot;
-pub use stopping::{Stopped, TURNS};
+pub use stopping::{StopFlag, Stopped, TURNS};
 pub use tally::Tally;
 pub use waiting::{Granted, wait};
 pub use working::worker;

@@ -1,25 +1,21 @@
-ghost use Rattle.std.specs.Prelude.{◌<◌, ◌≡◌, ℕ, List, [], length, IfOk, IfErr, IfSome, IfNone, OnOk, OnErr, Result, Err, Some};
+ghost use Rattle.std.specs.Prelude.{◌≡◌, ◌<◌, ℕ, List, [], length, IfOk, OnOk, OnErr, Err};
 ghost use Rattle.config_setup.specs.Setups.{SetupIsAsked};
-ghost use Rattle.log_entries.specs.declared.entry.Entry.TheVariants.{Abort, Check, Limit};
-ghost use Rattle.log_entries.specs.declared.refusal.Refusal.TheVariants.{LogFull};
-ghost use Rattle.locked_book.specs.Calls.{SetsBound, TakesBack};
-ghost use Rattle.locked_book.specs.Turns.{Turns};
-ghost use Rattle.log_entries.specs.Rows.{served};
-ghost use Rattle.log_entries.specs.Histories.{effective, first_window, next_window, state_of, refuses_abort, refuses_check, refuses_limit, refuses_tick};
-ghost use Rattle.log_entries.specs.Legal.{AddsEvent};
-ghost use Rattle.grant_board.specs.KeeperCalls.{new_keeper, FindsUnposted};
-ghost use Rattle.shared_desk.specs.Replies.{SomeHeld, SomeStep};
-ghost use Rattle.locked_book.specs.Books.{terms_for, mark_by};
-ghost use Rattle.proxy_config.specs.Sound.{IsSoundConfig};
-ghost use Rattle.relay_workers.specs.Boards.{IsBoardOf};
-ghost use Rattle.relay_workers.specs.Gates.{WasTold, TellsSuch};
-ghost use Rattle.relay_workers.specs.Turning.{HasHalted, HaltsTelling, TurnsTelling, IsAny, Offers, IsToldOf};
 ghost use Rattle.dispatch_reports.specs.Reporting.{IsNew};
+ghost use Rattle.grant_board.specs.KeeperCalls.{new_keeper};
+ghost use Rattle.locked_book.specs.Books.{terms_for};
+ghost use Rattle.log_entries.specs.declared.refusal.Refusal.TheVariants.{LogFull};
+ghost use Rattle.log_entries.specs.Histories.{first_window};
+ghost use Rattle.proxy_config.specs.Sound.{IsSoundConfig};
 ghost use Rattle.relay_http.specs.States.{IsFresh};
+ghost use Rattle.relay_workers.specs.Boards.{IsBoardOf};
+ghost use Rattle.relay_workers.specs.Gates.{noted};
+ghost use Rattle.relay_workers.specs.Gates.Notice.{Ended};
+ghost use Rattle.relay_workers.specs.Turning.{AnswersAbort, AnswersCheck, AnswersCollect, AnswersLimit, AnswersTurn, EndsWindow, IsAnswered, WasTold};
+ghost use Rattle.dispatch_reports.specs.declared.reporting.EndedWindow.{EndedWindow};
 
+use crate::asking::{Asking, Offered};
 use crate::gate::{Gate, Pause};
 use crate::stopping::TURNS;
-use base_places::PlaceSet;
 use dispatch_core::Core;
 use grant_board::{Board, KeeperSeat, Return};
 use late_cert::Running;
@@ -39,6 +35,7 @@ use std::sync::Wait;
 pub struct Proxy<N: DeskName> {
     pub alloc: Global,
     pub desk: Desk<N>,
+    pub(crate) asking: Asking<N>,
     pub config: Config,
     of: PhantomData<N>,
     pub ghost its_board: { IsBoardOf config N.terms },
@@ -95,9 +92,11 @@ impl<N: DeskName> Proxy<N> {
         ensures config { result.config ≡ config }
     {
         let (board, seat) = opened;
+        let (desk, key) = Desk::new(core, board, seat, running);
         Proxy {
             alloc,
-            desk: Desk::new(core, board, seat, running),
+            desk,
+            asking: Asking::new(key),
             config,
             of: PhantomData,
         }
@@ -107,29 +106,20 @@ impl<N: DeskName> Proxy<N> {
     /// is; where the log is full only if there is no memory for the reports of its window, or the
     /// next window is full as well.
     pub fn turn<R: Wait, G: Gate>(&self, rt: &R, gate: &mut G) -> Result<(), Refusal>
-        ensures ok { OnOk result (TurnsTelling N.terms N.setup (G.notes gate.old) (G.notes gate.new)) }
-        ensures err { IfErr result (λ refusal. (refusal ≡ LogFull) × SomeHeld N.terms N.setup (λ held. refuses_tick held.history ≡ Some LogFull)) }
-        ensures stopped { OnErr result (HaltsTelling N.terms N.setup (G.notes gate.old) (G.notes gate.new)) }
-        ensures counts { G.counts gate.new ≡ G.counts gate.old }
+        ensures { IsAnswered N.terms N.setup (AnswersTurn N.terms N.setup) result (G.notes gate.old) (G.notes gate.new) }
     {
         let moment = gate.moment();
-        let (turned, _) = self.retry_in_new_window(
+        self.retry_in_new_window(
             rt,
             gate,
-            || -> (Result<(), Refusal>, PlaceSet)
-                ensures ok { OnOk result.0 ((woken : List ℕ) × SomeStep N.terms N.setup (λ old new. Turns moment old woken new result.1)) }
-                ensures err { IfErr result.0 (λ refusal. (refusal ≡ LogFull) × SomeHeld N.terms N.setup (λ held. refuses_tick held.history ≡ Some LogFull)) }
-                ensures stopped { OnErr result.0 (HasHalted N.terms N.setup result.1) }
-            {
-                let mut woken = PlaceSet::new();
-                (self.desk.turn(rt, moment, &mut woken), woken)
-            },
-        );
-        turned
+            || -> (Result<(), Refusal>, Offered)
+                ensures { AnswersTurn N.terms N.setup moment result.0 result.1 }
+            { self.asking.turn(rt, &self.desk, moment) },
+        )
     }
 
     /// Collects what was posted at one place, without a look at any other. Refused where the log is
-    /// full, as `turn` is: it then stays on the board for a turn.
+    /// full, as `turn` is: the return then stays on the board for a turn.
     pub fn collect<R: Wait, G: Gate>(
         &self,
         rt: &R,
@@ -137,24 +127,17 @@ impl<N: DeskName> Proxy<N> {
         place: usize,
     ) -> Result<Option<Return>, Refusal>
         requires in_range { place < N.terms.places }
-        ensures some { IfOk result (λ found. IfSome found (λ back. (moment : ℕ) × (woken : List ℕ) × (woken_then : List ℕ) × SomeStep N.terms N.setup (λ old new. TakesBack old new place (effective old.history moment) back woken woken_then)
-            × WasTold IsAny woken_then (G.notes gate.old) (G.notes gate.new))) }
-        ensures none { IfOk result (λ found. IfNone found (SomeStep N.terms N.setup (λ old new. FindsUnposted old.view new.view place))) }
-        ensures err { IfErr result (λ refusal. (refusal ≡ LogFull) × SomeHeld N.terms N.setup (λ held. refuses_tick held.history ≡ Some LogFull)) }
-        ensures counts { G.counts gate.new ≡ G.counts gate.old }
+        ensures { IsAnswered N.terms N.setup (AnswersCollect N.terms N.setup place) result (G.notes gate.old) (G.notes gate.new) }
     {
         let moment = gate.moment();
-        let (found, _) = self.retry_in_new_window(
+        self.retry_in_new_window(
             rt,
             gate,
-            || -> (Result<Option<Return>, Refusal>, PlaceSet)
+            || -> (Result<Option<Return>, Refusal>, Offered)
                 requires { place < N.terms.places }
-            {
-                let mut woken = PlaceSet::new();
-                (self.desk.collect_at(rt, moment, place, &mut woken), woken)
-            },
-        );
-        found
+                ensures { AnswersCollect N.terms N.setup place moment result.0 result.1 }
+            { self.asking.collect_at(rt, &self.desk, moment, place) },
+        )
     }
 
     // Reports the result of a server's check. Refused as the dispatcher's `check` is.
@@ -165,24 +148,16 @@ impl<N: DeskName> Proxy<N> {
         server: usize,
         ok: bool,
     ) -> Result<(), Refusal>
-        ensures ok { OnOk result ((moment : ℕ) × IsToldOf N.terms N.setup (λ history. Check (effective history moment) server ok) (G.notes gate.old) (G.notes gate.new)) }
-        ensures err { IfErr result (λ refusal. SomeHeld N.terms N.setup (λ held. refuses_check held.history server ≡ Some refusal)) }
-        ensures told { OnErr result (TellsSuch IsAny (G.notes gate.old) (G.notes gate.new)) }
-        ensures counts { G.counts gate.new ≡ G.counts gate.old }
+        ensures { IsAnswered N.terms N.setup (AnswersCheck N.terms N.setup server ok) result (G.notes gate.old) (G.notes gate.new) }
     {
         let moment = gate.moment();
-        let (noted, _) = self.retry_in_new_window(
+        self.retry_in_new_window(
             rt,
             gate,
-            || -> (Result<(), Refusal>, PlaceSet)
-                ensures ok { OnOk result.0 (Offers N.terms N.setup (λ history. Check (effective history moment) server ok) result.1) }
-                ensures err { IfErr result.0 (λ refusal. SomeHeld N.terms N.setup (λ held. refuses_check held.history server ≡ Some refusal)) }
-            {
-                let mut woken = PlaceSet::new();
-                (self.desk.check(rt, moment, server, ok, &mut woken), woken)
-            },
-        );
-        noted
+            || -> (Result<(), Refusal>, Offered)
+                ensures { AnswersCheck N.terms N.setup server ok moment result.0 result.1 }
+            { self.asking.check(rt, &self.desk, moment, server, ok) },
+        )
     }
 
     /// Gives up a request that waits. Refused as the dispatcher's `abort` is: a request that doesn't
@@ -193,24 +168,16 @@ impl<N: DeskName> Proxy<N> {
         gate: &mut G,
         ticket: u64,
     ) -> Result<(), Refusal>
-        ensures ok { OnOk result ((moment : ℕ) × IsToldOf N.terms N.setup (λ history. Abort (effective history moment) ticket) (G.notes gate.old) (G.notes gate.new)) }
-        ensures err { IfErr result (λ refusal. SomeHeld N.terms N.setup (λ held. refuses_abort held.history ticket ≡ Some refusal)) }
-        ensures told { OnErr result (TellsSuch IsAny (G.notes gate.old) (G.notes gate.new)) }
-        ensures counts { G.counts gate.new ≡ G.counts gate.old }
+        ensures { IsAnswered N.terms N.setup (AnswersAbort N.terms N.setup ticket) result (G.notes gate.old) (G.notes gate.new) }
     {
         let moment = gate.moment();
-        let (given_up, _) = self.retry_in_new_window(
+        self.retry_in_new_window(
             rt,
             gate,
-            || -> (Result<(), Refusal>, PlaceSet)
-                ensures ok { OnOk result.0 (Offers N.terms N.setup (λ history. Abort (effective history moment) ticket) result.1) }
-                ensures err { IfErr result.0 (λ refusal. SomeHeld N.terms N.setup (λ held. refuses_abort held.history ticket ≡ Some refusal)) }
-            {
-                let mut woken = PlaceSet::new();
-                (self.desk.abort(rt, moment, ticket, &mut woken), woken)
-            },
-        );
-        given_up
+            || -> (Result<(), Refusal>, Offered)
+                ensures { AnswersAbort N.terms N.setup ticket moment result.0 result.1 }
+            { self.asking.abort(rt, &self.desk, moment, ticket) },
+        )
     }
 
     /// Sets how many requests a server takes. Refused as the dispatcher's `limit` is.
@@ -221,35 +188,25 @@ impl<N: DeskName> Proxy<N> {
         server: usize,
         intake: Intake,
     ) -> Result<(), Refusal>
-        ensures ok { OnOk result ((moment : ℕ) × (woken : List ℕ) × (woken_then : List ℕ)
-            × SomeStep N.terms N.setup (λ old new. AddsEvent old.history new.history (Limit (effective old.history moment) server intake) × SetsBound old new server (mark_by (record { limit = intake; served = served server (state_of old.history).rows })) woken woken_then)
-            × WasTold IsAny woken_then (G.notes gate.old) (G.notes gate.new)) }
-        ensures err { IfErr result (λ refusal. SomeHeld N.terms N.setup (λ held. refuses_limit held.history server ≡ Some refusal)) }
-        ensures counts { G.counts gate.new ≡ G.counts gate.old }
+        ensures { IsAnswered N.terms N.setup (AnswersLimit N.terms N.setup server intake) result (G.notes gate.old) (G.notes gate.new) }
     {
         let moment = gate.moment();
-        let (set, _) = self.retry_in_new_window(
+        self.retry_in_new_window(
             rt,
             gate,
-            || -> (Result<(), Refusal>, PlaceSet)
-                ensures ok { OnOk result.0 ((woken : List ℕ) × SomeStep N.terms N.setup (λ old new. AddsEvent old.history new.history (Limit (effective old.history moment) server intake) × SetsBound old new server (mark_by (record { limit = intake; served = served server (state_of old.history).rows })) woken result.1)) }
-                ensures err { IfErr result.0 (λ refusal. SomeHeld N.terms N.setup (λ held. refuses_limit held.history server ≡ Some refusal)) }
-            {
-                let mut woken = PlaceSet::new();
-                let set = self.desk.limit(rt, moment, server, intake, &mut woken);
-                (set, woken)
-            },
-        );
-        set
+            || -> (Result<(), Refusal>, Offered)
+                ensures { AnswersLimit N.terms N.setup server intake moment result.0 result.1 }
+            { self.asking.limit(rt, &self.desk, moment, server, intake) },
+        )
     }
 
     /// Ends the present window, which the gate takes. Where there is no memory for that, the window goes on.
     pub fn end_window<R: Wait, G: Gate>(&self, rt: &R, gate: &mut G) -> Result<(), AllocError>
-        ensures ok { OnOk result (SomeStep N.terms N.setup (λ old new. new ≡ record old { history = next_window old.history })) }
-        ensures counts { G.counts gate.new ≡ G.counts gate.old }
+        ensures ok { OnOk result ((window : EndedWindow) × EndsWindow N.terms N.setup window × (G.notes gate.new ≡ noted (Ended window) (G.notes gate.old))) }
+        ensures err { OnErr result (G.notes gate.new ≡ G.notes gate.old) }
     {
-        let window = self.desk.roll(rt, self.alloc)?;
-        gate.window(window);
+        let window = self.asking.roll(rt, &self.desk, self.alloc)?;
+        window.hand_over(gate);
         Ok(())
     }
 
@@ -261,26 +218,25 @@ impl<N: DeskName> Proxy<N> {
         R: Wait,
         G: Gate,
         T,
-        F: Fn() -> (Result<T, Refusal>, PlaceSet),
-    >(&self, rt: &R, gate: &mut G, call: F) -> (Result<T, Refusal>, PlaceSet)
+        F: Fn() -> (Result<T, Refusal>, Offered),
+    >(&self, rt: &R, gate: &mut G, call: F) -> Result<T, Refusal>
         requires { F.IsAlwaysCallable call }
-        ensures post { F.post call result }
-        ensures told { WasTold (λ places. (first : Result T Refusal) × F.post call (first, places) × (first ≡ Err LogFull)) result.1 (G.notes gate.old) (G.notes gate.new) }
-        ensures counts { G.counts gate.new ≡ G.counts gate.old }
+        ensures { (places : List ℕ) × F.post call (result, places)
+            × WasTold N.terms N.setup (λ earlier. F.post call (Err LogFull, earlier)) places (G.notes gate.old) (G.notes gate.new) }
     {
-        let (answer, woken) = call();
-        gate.wake(&woken);
+        let (answer, offered) = call();
+        offered.tell(gate);
         match answer {
             Err(Refusal::LogFull) => {}
-            answer => return (answer, woken),
+            answer => return answer,
         }
-        match self.desk.make_room(rt, self.alloc) {
-            Ok(Some(window)) => gate.window(window),
+        match self.asking.make_room(rt, &self.desk, self.alloc) {
+            Ok(Some(window)) => window.hand_over(gate),
             Ok(None) => {}
-            Err(_) => return (Err(Refusal::LogFull), woken),
+            Err(_) => return Err(Refusal::LogFull),
         }
-        let told = call();
-        gate.wake(&told.1);
-        told
+        let (answer, offered) = call();
+        offered.tell(gate);
+        answer
     }
 }

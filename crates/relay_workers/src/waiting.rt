@@ -1,9 +1,9 @@
-ghost use Rattle.std.specs.Prelude.{◌≡◌, ◌<◌, ◌↔◌, [], ◌∷◌, ◌++◌, IfSome, IfNone, IsTrue};
+ghost use Rattle.std.specs.Prelude.{◌≡◌, ◌<◌, ◌↔◌, [], ◌∷◌, IfSome, IfNone, IsTrue};
 ghost use Rattle.std.specs.Bool.{OnTrue, OnFalse};
 ghost use Rattle.relay_workers.specs.Carrying.{IsUntouched};
 ghost use Rattle.relay_workers.specs.Gates.{noted};
 ghost use Rattle.relay_workers.specs.Gates.Notice.{HasLeft};
-ghost use Rattle.relay_workers.specs.Waiting.{asked_for, Holds, HasWaited};
+ghost use Rattle.relay_workers.specs.Waiting.{asked_for, Holds, TakesPass, SpendsPauses};
 ghost use Rattle.shared_desk.specs.Seats.{IsSameSeat};
 
 use crate::admitting::Admitted;
@@ -14,15 +14,15 @@ use locked_book::DeskName;
 use std::io::{Read, Write};
 use std::sync::Wait;
 
-/// A client whose request has its pass. It has no `Drop`: the pass has to be posted.
-pub struct Granted<N: DeskName, C: Read + Write + Drop> {
+/// A client whose request has its pass. It can't be dropped: the pass has to be posted.
+pub struct Granted<N: DeskName, C: Read + Write> {
     pub admitted: Admitted<N, C>,
     pub pass: Pass,
     pub ghost its_place: { pass.place ≡ admitted.at.place },
     pub ghost its_ticket: { pass.ticket ≡ admitted.at.ticket },
 }
 
-impl<N: DeskName, C: Read + Write + Drop> Granted<N, C> {
+impl<N: DeskName, C: Read + Write> Granted<N, C> {
     // Joins a client and the pass of its request's place and ticket.
     fn new(admitted: Admitted<N, C>, pass: Pass) -> Granted<N, C>
         requires { (pass.place ≡ admitted.at.place) × (pass.ticket ≡ admitted.at.ticket) }
@@ -34,9 +34,10 @@ impl<N: DeskName, C: Read + Write + Drop> Granted<N, C> {
 
 /// From a place to a pass: tries to take it, and between two tries asks whether the client has
 /// left, pauses, and makes a turn. A request whose client has left, or whose pauses are spent, is
-/// given up; where that is refused its pass is there, and is taken.
+/// given up; where that is refused because it has its verdict, its pass is taken.
 ///
-/// `None` where all pauses were spent and no pass is there even then: the place stays occupied.
+/// `None` where all pauses were spent and no pass is there even then: the place stays occupied, and
+/// the gate takes the client back.
 pub fn wait<R: Wait, N: DeskName, G: Gate + Drop, P: Pause + Drop>(
     rt: &R,
     proxy: &Proxy<N>,
@@ -48,16 +49,19 @@ pub fn wait<R: Wait, N: DeskName, G: Gate + Drop, P: Pause + Drop>(
     requires idle { seat.old.view.passes ≡ [] }
     requires place { admitted.at.place < N.terms.places }
     ensures granted { IfSome result (λ it. seat.new.view.passes ≡ it.pass ∷ []) }
-    ensures takes { IfSome result (λ it. seat.new.view.takes ≡ seat.old.view.takes ++ it.pass ∷ []) }
     ensures its_own { IfSome result (λ it. (it.pass.place ≡ admitted.at.place) × (it.pass.ticket ≡ admitted.at.ticket)) }
     ensures its_request { IfSome result (λ it. (it.admitted.at ≡ admitted.at) × (it.admitted.view ≡ admitted.view)) }
     ensures client { IfSome result (λ it. IsUntouched G.Client.remaining G.Client.contents admitted.client it.admitted.client) }
-    ensures none { IfNone result ((seat.new.view.passes ≡ []) × (P.left hand.new.pause ≡ 0)) }
-    ensures waited { (patience : Patience) × HasWaited N.terms N.setup admitted.at.ticket (G.notes hand.old.runner.gate) (P.left hand.old.pause) (G.notes hand.new.runner.gate) (P.left hand.new.pause) patience }
-    ensures posts { seat.new.view.posts ≡ seat.old.view.posts }
+    ensures takes { IfSome result (λ it. TakesPass N.terms N.setup admitted.at it.pass
+        (record { notes = G.notes hand.old.runner.gate; left = P.left hand.old.pause; view = seat.old.view })
+        (record { notes = G.notes hand.new.runner.gate; left = P.left hand.new.pause; view = seat.new.view })) }
+    ensures none { IfNone result (seat.new.view.passes ≡ []) }
+    ensures spent { IfNone result ((client_then : G.Client) × IsUntouched G.Client.remaining G.Client.contents admitted.client client_then
+        × SpendsPauses N.terms N.setup admitted.at client_then
+        (record { notes = G.notes hand.old.runner.gate; left = P.left hand.old.pause; view = seat.old.view })
+        (record { notes = G.notes hand.new.runner.gate; left = P.left hand.new.pause; view = seat.new.view })) }
     ensures same { IsSameSeat seat.old seat.new }
     ensures exchange { hand.new.runner.exchange ≡ hand.old.runner.exchange }
-    ensures counts { G.counts hand.new.runner.gate ≡ G.counts hand.old.runner.gate }
 {
     let mut admitted = admitted;
     let mut patience = Patience::Waits;
@@ -67,6 +71,7 @@ pub fn wait<R: Wait, N: DeskName, G: Gate + Drop, P: Pause + Drop>(
             Taking::NotYet => {}
         }
         if patience.is_spent() {
+            admitted.release(&mut hand.runner.gate);
             return None;
         }
         patience = hold(rt, proxy, hand, &mut admitted, patience);
@@ -105,7 +110,6 @@ fn hold<R: Wait, N: DeskName, G: Gate + Drop, P: Pause + Drop>(
     ensures kept { (admitted.new.at ≡ admitted.old.at) × (admitted.new.view ≡ admitted.old.view) }
     ensures client { IsUntouched G.Client.remaining G.Client.contents admitted.old.client admitted.new.client }
     ensures exchange { hand.new.runner.exchange ≡ hand.old.runner.exchange }
-    ensures counts { G.counts hand.new.runner.gate ≡ G.counts hand.old.runner.gate }
 {
     let ticket = admitted.at.ticket;
     if has_left(&mut hand.runner.gate, admitted, patience) {
@@ -131,7 +135,6 @@ fn has_left<N: DeskName, G: Gate>(
     ensures client { IsUntouched G.Client.remaining G.Client.contents admitted.old.client admitted.new.client }
     ensures left { OnTrue result ((patience ≡ Patience.Waits) × (G.notes gate.new ≡ noted HasLeft (G.notes gate.old))) }
     ensures there { OnFalse result (G.notes gate.new ≡ asked_for patience (G.notes gate.old)) }
-    ensures counts { G.counts gate.new ≡ G.counts gate.old }
 {
     match patience {
         Patience::Waits => gate.gone(&mut admitted.client),

@@ -1,10 +1,9 @@
-ghost use Rattle.std.specs.Prelude.{◌≡◌, ℕ, [], ◌∷◌, IfOk, IfErr, IfSome, IfNone};
+ghost use Rattle.std.specs.Prelude.{◌≡◌, ℕ, [], Err, IfSome, IfNone};
 ghost use Rattle.relay_http.specs.States.{IsFresh};
-ghost use Rattle.relay_http.specs.declared.exchange.Stage.TheVariants.{Asked};
-ghost use Rattle.relay_workers.specs.Endings.{HasEnded, HaveEnded};
-ghost use Rattle.relay_workers.specs.Gates.{with_more, one_end};
-ghost use Rattle.relay_workers.specs.Tallies.{tally_noted, clients_of, AreAllNoted};
-ghost use Rattle.relay_workers.specs.declared.stopping.Stopped.TheVariants.{PausesSpent};
+ghost use Rattle.relay_workers.specs.Gates.{noted};
+ghost use Rattle.relay_workers.specs.Gates.Notice.{NoMore};
+ghost use Rattle.relay_workers.specs.Serving.{with_client, HasEnded, HasSpentPauses, HasWorked};
+ghost use Rattle.relay_workers.specs.Tallies.{tally_noted};
 ghost use Rattle.shared_desk.specs.Seats.{IsSameSeat};
 
 use crate::admitting::admit;
@@ -29,8 +28,9 @@ pub fn worker<R: Wait, N: DeskName, G: Gate + Drop, P: Pause + Drop>(
     hand: &mut Worker<G, P>,
 ) -> Result<Tally, Stopped>
     ensures same { IsSameSeat idle.old.seat idle.new.seat }
-    ensures ok { IfOk result (λ tally. AreAllNoted (λ outcomes. HaveEnded G.Client.remaining G.Client.contents G.Server.remaining G.Server.contents N.terms N.setup proxy.now.config outcomes idle.old.seat.view.takes idle.new.seat.view.takes) tally (G.counts hand.old.runner.gate) (G.counts hand.new.runner.gate)) }
-    ensures err { IfErr result (λ stopped. (stopped ≡ PausesSpent) × (P.left hand.new.pause ≡ 0)) }
+    ensures worked { HasWorked G.Client.remaining G.Client.contents G.Server.remaining G.Server.contents N.terms N.setup proxy.now.config result
+        (record { notes = G.notes hand.old.runner.gate; left = P.left hand.old.pause; view = idle.old.seat.view })
+        (record { notes = G.notes hand.new.runner.gate; left = P.left hand.new.pause; view = idle.new.seat.view }) }
 {
     let mut tally = Tally::zero();
     for _ in rt.forever() {
@@ -63,12 +63,16 @@ fn serve_next<R: Wait, N: DeskName, G: Gate + Drop, P: Pause + Drop>(
     requires idle { seat.old.view.passes ≡ [] }
     ensures idle { seat.new.view.passes ≡ [] }
     ensures same { IsSameSeat seat.old seat.new }
-    ensures served { result ≡ Next.Served → (outcome : Outcome) × (client : G.Client)
-        × HasEnded G.Client.remaining G.Client.contents G.Server.remaining G.Server.contents N.terms N.setup proxy.now.config seat.old.view.takes seat.new.view.takes hand.new.runner.exchange outcome client
-        × (tally.new ≡ tally_noted outcome tally.old)
-        × ((connected : ℕ) × (missing : ℕ) × (G.counts hand.new.runner.gate ≡ with_more (clients_of (outcome ∷ []) connected missing) (G.counts hand.old.runner.gate))) }
-    ensures no_more { result ≡ Next.NoMore → (tally.new ≡ tally.old) × (seat.new.view.takes ≡ seat.old.view.takes) × (G.counts hand.new.runner.gate ≡ with_more one_end (G.counts hand.old.runner.gate)) }
-    ensures spent { result ≡ Next.Spent → P.left hand.new.pause ≡ 0 }
+    ensures served { result ≡ Next.Served → (outcome : Outcome) × (client : G.Client) × (pauses : ℕ)
+        × HasEnded G.Client.remaining G.Client.contents G.Server.remaining G.Server.contents N.terms N.setup proxy.now.config hand.new.runner.exchange outcome client
+        (with_client client pauses (record { notes = G.notes hand.old.runner.gate; left = P.left hand.old.pause; view = seat.old.view }))
+        (record { notes = G.notes hand.new.runner.gate; left = P.left hand.new.pause; view = seat.new.view })
+        × (tally.new ≡ tally_noted outcome tally.old) }
+    ensures no_more { result ≡ Next.NoMore → (tally.new ≡ tally.old) × (seat.new.view ≡ seat.old.view) × (G.notes hand.new.runner.gate ≡ noted NoMore (G.notes hand.old.runner.gate)) }
+    ensures spent { result ≡ Next.Spent → (client : G.Client) × (pauses : ℕ)
+        × HasSpentPauses G.Client.remaining G.Client.contents N.terms N.setup proxy.now.config client
+        (with_client client pauses (record { notes = G.notes hand.old.runner.gate; left = P.left hand.old.pause; view = seat.old.view }))
+        (record { notes = G.notes hand.new.runner.gate; left = P.left hand.new.pause; view = seat.new.view }) }
 {
     let Some(client) = hand.runner.gate.next() else {
         return Next::NoMore;
@@ -97,16 +101,21 @@ fn attend<R: Wait, N: DeskName, G: Gate + Drop, P: Pause + Drop>(
     ensures idle { seat.new.view.passes ≡ [] }
     ensures same { IsSameSeat seat.old seat.new }
     ensures most { hand.new.runner.exchange.most ≡ hand.old.runner.exchange.most }
-    ensures ended { IfSome result (λ outcome. HasEnded G.Client.remaining G.Client.contents G.Server.remaining G.Server.contents N.terms N.setup proxy.now.config seat.old.view.takes seat.new.view.takes hand.new.runner.exchange outcome client) }
-    ensures spent { IfNone result ((P.left hand.new.pause ≡ 0) × (hand.new.runner.exchange.stage ≡ Asked)) }
-    ensures counts { (connected : ℕ) × (missing : ℕ) × (G.counts hand.new.runner.gate ≡ with_more (clients_of [] connected missing) (G.counts hand.old.runner.gate)) }
+    ensures ended { IfSome result (λ outcome. HasEnded G.Client.remaining G.Client.contents G.Server.remaining G.Server.contents N.terms N.setup proxy.now.config hand.new.runner.exchange outcome client
+        (record { notes = G.notes hand.old.runner.gate; left = P.left hand.old.pause; view = seat.old.view })
+        (record { notes = G.notes hand.new.runner.gate; left = P.left hand.new.pause; view = seat.new.view })) }
+    ensures given_up { IfNone result (HasSpentPauses G.Client.remaining G.Client.contents N.terms N.setup proxy.now.config client
+        (record { notes = G.notes hand.old.runner.gate; left = P.left hand.old.pause; view = seat.old.view })
+        (record { notes = G.notes hand.new.runner.gate; left = P.left hand.new.pause; view = seat.new.view })) }
 {
     let mut admitted = match admit(rt, proxy, &mut hand.runner, client) {
         Ok(admitted) => admitted,
         Err(outcome) => return Some(outcome),
     };
     for _ in rt.forever() {
-        let granted = wait(rt, proxy, seat, hand, admitted)?;
+        let Some(granted) = wait(rt, proxy, seat, hand, admitted) else {
+            return None;
+        };
         match finish(rt, proxy, seat, &mut hand.runner, granted) {
             Ok(outcome) => return Some(outcome),
             Err(again) => admitted = again,

@@ -1,4 +1,4 @@
-ghost use Rattle.std.specs.Prelude.{◌≡◌, ◌≤◌, ℕ, IfOk, None, false, length};
+ghost use Rattle.std.specs.Prelude.{◌≡◌, ◌≤◌, ℕ, IfOk, false, length};
 ghost use Rattle.base_places.specs.Sets.{Has};
 ghost use Rattle.relay_workers.specs.Windows.{WindowHasEnded};
 
@@ -10,6 +10,7 @@ use crate::waits::{duration, left, patience, turnaround};
 use base_places::{MOST_PLACES, PlaceSet};
 use dispatch_reports::EndedWindow;
 use due_key::Moment;
+use grant_board::RelaySeat;
 use locked_book::DeskName;
 use log_requests::CheckFailure;
 use relay_workers::{Gate, Slot};
@@ -160,11 +161,12 @@ impl<'a, R: Net<Listener = TcpListener, Stream = TcpStream> + Clock + Wait> Gate
 
     type Server = TcpStream;
 
-    // It counts nothing.
-    ghost counts = { λ gate. None };
-
     fn next(&mut self) -> Option<TcpStream> {
         self.front.next(self.rt)
+    }
+
+    fn release(&mut self, client: TcpStream) {
+        drop(client);
     }
 
     fn connect<N: DeskName>(&mut self, slot: &Slot<'_, N>) -> Option<TcpStream> {
@@ -181,6 +183,12 @@ impl<'a, R: Net<Listener = TcpListener, Stream = TcpStream> + Clock + Wait> Gate
             }
         }
     }
+
+    fn disconnect(&mut self, server: TcpStream) {
+        drop(server);
+    }
+
+    fn posted(&mut self, _seat: &RelaySeat) {}
 
     fn probe(&mut self, server: usize) -> Option<bool> {
         let now = self.now();

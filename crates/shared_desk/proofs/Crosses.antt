@@ -17,6 +17,7 @@ use Rattle.due_key.proofs.key.Key.TheSendSync as key
 use Rattle.log_reading.proofs.tail.Tail.TheSendSync as tail
 use Rattle.grant_board.proofs.board.Board.TheSendSync as board
 use Rattle.shared_desk.specs.contracts.desk.Desk as desk
+use Rattle.shared_desk.specs.contracts.locked.Locked as locked
 
 module _ (K V : RattleType) (k : IsSend K) (v : IsSend V) where
   pub queue_send : (o : ord.Ghosts K.Denot) (e : eq.Ghosts K.Denot) (p : partial.Ghosts K.Denot) → IsSend (queue.the_row K V o e p)
@@ -25,10 +26,15 @@ module _ (K V : RattleType) (k : IsSend K) (v : IsSend V) where
   pub single_send : IsSend (single.the_row K V)
   single_send = search (crosses, knot.crosses, sendable) depth 60 fits 20000
 
+locked_sync : (N : RattleType) (d : desk_name.Ghosts N.Denot) (g : board_name.Ghosts N.Denot) → IsSync (locked.the_field N d g).row
+locked_sync N d g =
+    struct_sync (shape (locked.the_type N d g))
+    (search (queue_send, single_send, key.the_send, book.the_send, mutex.the_sync, crosses, sendable) depth 60 fits 20000, tt)
+
 pub desk_sync : (N : RattleType) (d : desk_name.Ghosts N.Denot) (g : board_name.Ghosts N.Denot) → IsSync (desk.the_row N d g)
 desk_sync N d g =
     recorded_sync (desk.the_field N d g).row _ _ (desk.the_type N d g).to_one (struct_sync (shape (desk.the_type N d g)) (
-      search (queue_send, single_send, key.the_send, book.the_send, mutex.the_sync, crosses, sendable) depth 60 fits 20000,
+      locked_sync N d g,
       (
         search (board.the_sync, crosses, sendable) depth 60 fits 20000,
         (search (tail.the_send, mutex.the_sync, crosses, sendable) depth 60 fits 20000, tt),

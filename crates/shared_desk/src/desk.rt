@@ -22,6 +22,8 @@ ghost use Rattle.locked_book.specs.Outstanding.{outstanding};
 ghost use Rattle.locked_book.specs.Turns.{Turns, Halts};
 
 use crate::followed::Followed;
+use crate::locked::Locked;
+use crate::opened::DeskKey;
 use base_places::PlaceSet;
 use binom_queue::BinomQueue;
 use dispatch_core::Core;
@@ -34,7 +36,7 @@ use locked_book::{Book, Deferred, DeskName, Wanted};
 use log_entries::{Entry, Intake, Queue, Refusal};
 use log_reading::Batch;
 use std::alloc::{AllocError, Global};
-use std::sync::{Mutex, MutexGuard, Wait};
+use std::sync::Wait;
 
 /// The queues of a desk's dispatcher.
 pub type DeskQueue = BinomQueue<Key, usize>;
@@ -42,14 +44,13 @@ pub type DeskQueue = BinomQueue<Key, usize>;
 /// A dispatcher that threads share: its book behind a lock, of the setup that N names, and the board
 /// that N names, which no lock guards.
 ///
-/// Each call waits for the lock and makes the book's call of the same name. No clause can say what
+/// Most calls wait for the lock and make the book's call of the same name. No clause can say what
 /// the lock held before and after the call; the clauses say that the reply is the book's for some
-/// state of that setup that the lock may have held. The places where a call offered verdicts are
-/// added to the caller's set while the lock is held, so that the caller can wake whoever waits
-/// there once the lock is free.
+/// state of that setup that the lock may have held. Calls that change what the lock holds are those
+/// of an `OpenDesk`, for which `open` asks for the desk's key.
 #[derive(Drop)]
 pub struct Desk<N: DeskName> {
-    book: Mutex<Book<DeskQueue, N>>,
+    book: Locked<N>,
     board: Board,
     /// The part of the log that waits to be read.
     tail: Followed,
@@ -59,8 +60,13 @@ pub struct Desk<N: DeskName> {
 impl<N: DeskName> Desk<N> {
     /// Makes a desk of a fresh dispatcher of the setup that N names and a fresh keeper's seat,
     /// where the board was opened for the dispatcher's places and limits, and of an empty running
-    /// worst for the dispatcher's servers.
-    pub fn new(core: Core<DeskQueue>, board: Board, seat: KeeperSeat, running: Running) -> Desk<N>
+    /// worst for the dispatcher's servers. Returns its key, too.
+    pub fn new(
+        core: Core<DeskQueue>,
+        board: Board,
+        seat: KeeperSeat,
+        running: Running,
+    ) -> (Desk<N>, DeskKey<N>)
         requires first { core ≡ first_window core.setup [] }
         requires board { (board ≡ N.board) × (seat.board ≡ N.board) }
         requires terms { N.terms ≡ terms_for core.setup }
@@ -68,11 +74,12 @@ impl<N: DeskName> Desk<N> {
         requires seat { seat.view ≡ new_keeper N.terms }
         requires running { IsNew running (length core.setup.servers) }
     {
-        Desk {
-            book: Mutex::new(Book::new(core, seat, running)),
+        let desk = Desk {
+            book: Locked::new(Book::new(core, seat, running)),
             board,
             tail: Followed::new(),
-        }
+        };
+        (desk, DeskKey::new())
     }
 
     /// Returns the board, for the seats of threads.
@@ -80,143 +87,6 @@ impl<N: DeskName> Desk<N> {
         ensures { result.now ≡ N.board }
     {
         &self.board
-    }
-
-    /// A request arrives. Refused as the dispatcher's `arrive` is.
-    pub fn arrive<R: Wait>(
-        &self,
-        rt: &R,
-        alloc: Global,
-        moment: Moment,
-        wanted: Wanted,
-        woken: &mut PlaceSet,
-    ) -> Result<Ticketed, Refusal>
-        ensures ok { IfOk result (λ it. SomeStep N.terms N.setup (λ old new. AddsEvent old.history new.history (Arrive (effective old.history moment) (record { ticket = it.ticket; class = wanted.class; due = pos (effective old.history moment) +ℤ wanted.offset; pin = wanted.pin; place = it.place })) × CarriesOut old new woken.old woken.new)) }
-        ensures place { IfOk result (λ it. it.place < N.terms.places) }
-        ensures err { IfErr result (λ refusal. SomeHeld N.terms N.setup (λ held. RefusedOrNoMemory (refuses_arrival held.history wanted.pin) refusal)) }
-        ensures unchanged { OnErr result (woken.new ≡ woken.old) }
-    {
-        self.enter(rt)
-            .arrive(alloc, &self.board, moment, wanted, woken)
-    }
-
-    /// A request that waited elsewhere arrives: it keeps its due date, or gets the earliest one
-    /// that an arrival at this moment may have. Refused as `arrive` is.
-    pub fn arrive_due<R: Wait>(
-        &self,
-        rt: &R,
-        alloc: Global,
-        moment: Moment,
-        deferred: Deferred,
-        woken: &mut PlaceSet,
-    ) -> Result<Ticketed, Refusal>
-        ensures ok { IfOk result (λ it. SomeStep N.terms N.setup (λ old new. AddsEvent old.history new.history (Arrive (effective old.history moment) (record { ticket = it.ticket; class = deferred.class; due = due_at deferred.due (effective old.history moment); pin = deferred.pin; place = it.place })) × CarriesOut old new woken.old woken.new)) }
-        ensures place { IfOk result (λ it. it.place < N.terms.places) }
-        ensures err { IfErr result (λ refusal. SomeHeld N.terms N.setup (λ held. RefusedOrNoMemory (refuses_arrival held.history deferred.pin) refusal)) }
-        ensures unchanged { OnErr result (woken.new ≡ woken.old) }
-    {
-        self.enter(rt)
-            .arrive_due(alloc, &self.board, moment, deferred, woken)
-    }
-
-    /// A request that waits is given up. Refused as the dispatcher's `abort` is.
-    pub fn abort<R: Wait>(
-        &self,
-        rt: &R,
-        moment: Moment,
-        ticket: u64,
-        woken: &mut PlaceSet,
-    ) -> Result<(), Refusal>
-        ensures ok { OnOk result (SomeStep N.terms N.setup (λ old new. AddsEvent old.history new.history (Abort (effective old.history moment) ticket) × CarriesOut old new woken.old woken.new)) }
-        ensures err { IfErr result (λ refusal. SomeHeld N.terms N.setup (λ held. refuses_abort held.history ticket ≡ Some refusal)) }
-        ensures unchanged { OnErr result (woken.new ≡ woken.old) }
-    {
-        self.enter(rt).abort(&self.board, moment, ticket, woken)
-    }
-
-    /// Each request that has waited as long as it may is told so. Refused as the dispatcher's `tick` is.
-    pub fn tick<R: Wait>(&self, rt: &R, moment: Moment, woken: &mut PlaceSet) -> Result<(), Refusal>
-        ensures ok { OnOk result (SomeStep N.terms N.setup (λ old new. AddsEvent old.history new.history (Tick (effective old.history moment)) × CarriesOut old new woken.old woken.new)) }
-        ensures err { IfErr result (λ refusal. SomeHeld N.terms N.setup (λ held. refuses_tick held.history ≡ Some refusal)) }
-        ensures unchanged { OnErr result (woken.new ≡ woken.old) }
-    {
-        self.enter(rt).tick(&self.board, moment, woken)
-    }
-
-    /// A check of a server ended. Refused as the dispatcher's `check` is.
-    pub fn check<R: Wait>(
-        &self,
-        rt: &R,
-        moment: Moment,
-        server: usize,
-        ok: bool,
-        woken: &mut PlaceSet,
-    ) -> Result<(), Refusal>
-        ensures ok { OnOk result (SomeStep N.terms N.setup (λ old new. AddsEvent old.history new.history (Check (effective old.history moment) server ok) × CarriesOut old new woken.old woken.new)) }
-        ensures err { IfErr result (λ refusal. SomeHeld N.terms N.setup (λ held. refuses_check held.history server ≡ Some refusal)) }
-        ensures unchanged { OnErr result (woken.new ≡ woken.old) }
-    {
-        self.enter(rt).check(&self.board, moment, server, ok, woken)
-    }
-
-    /// Sets a server's limit: the event, then the server's mark at the board, then the offers.
-    /// Refused as the dispatcher's `limit` is.
-    pub fn limit<R: Wait>(
-        &self,
-        rt: &R,
-        moment: Moment,
-        server: usize,
-        limit: Intake,
-        woken: &mut PlaceSet,
-    ) -> Result<(), Refusal>
-        ensures ok { OnOk result (SomeStep N.terms N.setup (λ old new. AddsEvent old.history new.history (Limit (effective old.history moment) server limit) × SetsBound old new server (mark_by (record { limit = limit; served = served server (state_of old.history).rows })) woken.old woken.new)) }
-        ensures err { IfErr result (λ refusal. SomeHeld N.terms N.setup (λ held. refuses_limit held.history server ≡ Some refusal)) }
-        ensures unchanged { OnErr result (woken.new ≡ woken.old) }
-    {
-        self.enter(rt)
-            .limit(&self.board, moment, server, limit, woken)
-    }
-
-    /// Collects what was posted at a place, which becomes the dispatcher's event. `None` where
-    /// nothing is posted there. Refused where the log is full: the return then stays on the board.
-    pub fn collect_at<R: Wait>(
-        &self,
-        rt: &R,
-        moment: Moment,
-        place: usize,
-        woken: &mut PlaceSet,
-    ) -> Result<Option<Return>, Refusal>
-        requires in_range { place < N.terms.places }
-        ensures some { IfOk result (λ found. IfSome found (λ back. SomeStep N.terms N.setup (λ old new. TakesBack old new place (effective old.history moment) back woken.old woken.new))) }
-        ensures none { IfOk result (λ found. IfNone found (SomeStep N.terms N.setup (λ old new. FindsUnposted old.view new.view place) × (woken.new ≡ woken.old))) }
-        ensures err { IfErr result (λ refusal. (refusal ≡ LogFull) × SomeHeld N.terms N.setup (λ held. refuses_tick held.history ≡ Some LogFull)) }
-        ensures unchanged { OnErr result (woken.new ≡ woken.old) }
-    {
-        self.enter(rt).collect_at(&self.board, moment, place, woken)
-    }
-
-    /// Looks at each place that is out, by rising number, and collects what was posted there; then
-    /// makes a tick, where a request has waited too long. Refused where the log is full, even if no
-    /// place is out: the returns that were collected before are kept, and their places are in the
-    /// set. `O(1)` for each place that is out, beside the events.
-    pub fn turn<R: Wait>(&self, rt: &R, moment: Moment, woken: &mut PlaceSet) -> Result<(), Refusal>
-        ensures ok { OnOk result (SomeStep N.terms N.setup (λ old new. Turns moment old woken.old new woken.new)) }
-        ensures err { IfErr result (λ refusal. (refusal ≡ LogFull) × SomeHeld N.terms N.setup (λ held. refuses_tick held.history ≡ Some LogFull)) }
-        ensures stopped { OnErr result (SomeStep N.terms N.setup (λ old new. Halts moment old woken.old new woken.new)) }
-    {
-        let mut book = self.enter(rt);
-        let turned = book.turn(&self.board, moment, woken);
-        // This call states the book's invariant after it, too.
-        book.places();
-        turned
-    }
-
-    /// Begins the next window of the log, and returns what is told of the one that ended. Where
-    /// memory is refused nothing changes.
-    pub fn roll<R: Wait>(&self, rt: &R, alloc: Global) -> Result<EndedWindow, AllocError>
-        ensures { IfOk result (λ window. SomeStep N.terms N.setup (λ old new. IsCertified old.history window.reports × AreLines old.history window.servers.items × (new ≡ record old { history = next_window old.history }))) }
-    {
-        self.tail.end_window(rt, &self.book, alloc)
     }
 
     /// Keeps new entries of the log for `read_new` from now on, at most this number at a time.
@@ -238,14 +108,14 @@ impl<N: DeskName> Desk<N> {
     pub fn report<R: Wait>(&self, rt: &R, alloc: Global) -> Result<Reports, AllocError>
         ensures { IfOk result (λ reports. SomeHeld N.terms N.setup (λ held. IsCertified held.history reports)) }
     {
-        self.enter(rt).report(alloc)
+        self.book.look(rt).book().report(alloc)
     }
 
     /// Returns a line for each server in file order, of the present window. Fails only where memory is refused.
     pub fn servers<R: Wait>(&self, rt: &R, alloc: Global) -> Result<Vec<ServerLine>, AllocError>
         ensures { IfOk result (λ lines. SomeHeld N.terms N.setup (λ held. AreLines held.history lines.items)) }
     {
-        self.enter(rt).servers(alloc)
+        self.book.look(rt).book().servers(alloc)
     }
 
     /// Returns the entries of the present window after the first `count`. Fails only where memory is refused.
@@ -257,7 +127,7 @@ impl<N: DeskName> Desk<N> {
     ) -> Result<Vec<Entry>, AllocError>
         ensures { IfOk result (λ entries. SomeHeld N.terms N.setup (λ held. entries.items ≡ drop count held.history.log)) }
     {
-        self.enter(rt).entries_after(alloc, count)
+        self.book.look(rt).book().entries_after(alloc, count)
     }
 
     /// Returns the greatest lateness of a queue and class in the present window, in milliseconds;
@@ -265,58 +135,35 @@ impl<N: DeskName> Desk<N> {
     pub fn worst<R: Wait>(&self, rt: &R, queue: Queue, class: Class) -> Option<i64>
         ensures { SomeHeld N.terms N.setup (λ held. IsWorstIn (window_in held.history) queue class result) }
     {
-        self.enter(rt).worst(queue, class)
-    }
-
-    /// Begins the next window where the log has no room for an event, and returns what is told of
-    /// the one that ended; `None` where it has room. Where memory is refused nothing changes.
-    pub fn make_room<R: Wait>(
-        &self,
-        rt: &R,
-        alloc: Global,
-    ) -> Result<Option<EndedWindow>, AllocError>
-        ensures none { IfOk result (λ found. IfNone found (SomeHeld N.terms N.setup (λ held. HasEntryRoom held.history))) }
-        ensures some { IfOk result (λ found. IfSome found (λ window. SomeStep N.terms N.setup (λ old new. (HasEntryRoom old.history → ⊥) × IsCertified old.history window.reports × AreLines old.history window.servers.items × (new ≡ record old { history = next_window old.history })))) }
-    {
-        self.tail.make_room(rt, &self.book, alloc)
-    }
-
-    /// Returns the relay's seat unchanged, and the number of its passes, each of which is outstanding.
-    pub fn vouch<R: Wait>(&self, rt: &R, relay: RelaySeat) -> (RelaySeat, u64)
-        requires named { relay.board ≡ N.board }
-        ensures back { result.0 ≡ relay }
-        ensures count { result.1 ≡ length relay.view.passes }
-        ensures outstanding { SomeHeld N.terms N.setup (λ held. AreIn relay.view.passes (outstanding (state_of held.history).rows)) }
-    {
-        self.enter(rt).vouch(&self.board, relay)
+        self.book.look(rt).book().worst(queue, class)
     }
 
     /// Returns the number of requests that a server serves. `O(1)`.
     pub fn served<R: Wait>(&self, rt: &R, server: usize) -> usize
         ensures { SomeHeld N.terms N.setup (λ held. result ≡ served server (state_of held.history).rows) }
     {
-        self.enter(rt).served(server)
+        self.book.look(rt).book().served(server)
     }
 
     /// Returns the number of requests that wait in a queue. `O(1)`.
     pub fn queued<R: Wait>(&self, rt: &R, queue: Queue) -> usize
         ensures { SomeHeld N.terms N.setup (λ held. result ≡ queued queue (state_of held.history).rows) }
     {
-        self.enter(rt).queued(queue)
+        self.book.look(rt).book().queued(queue)
     }
 
     /// Says whether a server is up. `O(1)`.
     pub fn up<R: Wait>(&self, rt: &R, server: usize) -> bool
         ensures { SomeHeld N.terms N.setup (λ held. result ≡ is_up (scene_of held.history) server) }
     {
-        self.enter(rt).up(server)
+        self.book.look(rt).book().up(server)
     }
 
     /// Says whether a tick at this moment would tell a timeout. `O(1)`.
     pub fn expired<R: Wait>(&self, rt: &R, moment: Moment) -> bool
         ensures { SomeHeld N.terms N.setup (λ held. IsTrue result ↔ SomeExpires held.history moment) }
     {
-        self.enter(rt).expired(moment)
+        self.book.look(rt).book().expired(moment)
     }
 
     /// Closes the board, once all its seats are joined. What the seats took and posted is what the
@@ -332,29 +179,21 @@ impl<N: DeskName> Desk<N> {
             board,
             tail: _,
         } = self;
-        let book = book.into_inner();
+        let book = book.into_book();
         // This call states the book's invariant.
         book.places();
         board.close(book.into_seat(), relay)
     }
 
-    // Takes the lock.
-    fn enter<R: Wait>(&self, rt: &R) -> MutexGuard<'_, Book<DeskQueue, N>>
-        ensures { IsHeld N.terms N.setup (mutex_guard_value result) }
+    // Returns the lock of the book.
+    pub(crate) fn locked(&self) -> &Locked<N>
+        ensures { result.now ≡ self.now.book }
     {
-        enter(rt, &self.book)
+        &self.book
     }
-}
 
-/// Takes the lock of a desk's book.
-pub(crate) fn enter<'a, R: Wait, N: DeskName>(
-    rt: &R,
-    book: &'a Mutex<Book<DeskQueue, N>>,
-) -> MutexGuard<'a, Book<DeskQueue, N>>
-    ensures { IsHeld N.terms N.setup (mutex_guard_value result) }
-{
-    let book = book.lock(rt);
-    // This call states the book's invariant.
-    book.places();
-    book
+    // Returns what waits to be read.
+    pub(crate) fn followed(&self) -> &Followed {
+        &self.tail
+    }
 }

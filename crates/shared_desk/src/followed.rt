@@ -7,7 +7,9 @@ ghost use Rattle.log_reading.specs.Tails.{Waiting};
 ghost use Rattle.shared_desk.specs.Replies.{SomeHeld, SomeStep};
 ghost use Rattle.shared_desk.specs.Tails.{HasCaughtUp, HasNotedEnd, HasKept, WhereFollowed, IsTakenFrom};
 
-use crate::desk::{DeskQueue, enter};
+use crate::desk::DeskQueue;
+use crate::locked::Locked;
+use crate::opened::DeskKey;
 use dispatch_reports::EndedWindow;
 use locked_book::{Book, DeskName};
 use log_entries::Entry;
@@ -30,7 +32,7 @@ impl Followed {
         }
     }
 
-    /// `Desk::follow`.
+    /// Makes the call `Desk::follow`.
     pub(crate) fn begin<R: Wait>(
         &self,
         rt: &R,
@@ -45,46 +47,48 @@ impl Followed {
         Ok(())
     }
 
-    /// `Desk::read_new`.
+    /// Makes the call `Desk::read_new`.
     pub(crate) fn read_new<R: Wait, N: DeskName>(
         &self,
         rt: &R,
-        book: &Mutex<Book<DeskQueue, N>>,
+        book: &Locked<N>,
         batch: &mut Batch,
     ) {
         batch.clear();
         let mut tail = self.tail.lock(rt);
         if let Some(tail) = &mut *tail {
-            take_new(tail, enter(rt, book).entries(), batch);
+            take_new(tail, book.look(rt).book().entries(), batch);
         }
     }
 
-    /// `Desk::roll`.
+    /// Makes the call `OpenDesk::roll`.
     pub(crate) fn end_window<R: Wait, N: DeskName>(
         &self,
         rt: &R,
-        book: &Mutex<Book<DeskQueue, N>>,
+        book: &Locked<N>,
+        key: &DeskKey<N>,
         alloc: Global,
     ) -> Result<EndedWindow, AllocError>
         ensures { IfOk result (λ window. SomeStep N.terms N.setup (λ old new. IsCertified old.history window.reports × AreLines old.history window.servers.items × (new ≡ record old { history = next_window old.history }))) }
     {
         let mut tail = self.tail.lock(rt);
-        let mut book = enter(rt, book);
+        let mut book = book.change(rt, key);
         end_window(&mut tail, &mut book, alloc)
     }
 
-    /// `Desk::make_room`.
+    /// Makes the call `OpenDesk::make_room`.
     pub(crate) fn make_room<R: Wait, N: DeskName>(
         &self,
         rt: &R,
-        book: &Mutex<Book<DeskQueue, N>>,
+        book: &Locked<N>,
+        key: &DeskKey<N>,
         alloc: Global,
     ) -> Result<Option<EndedWindow>, AllocError>
         ensures none { IfOk result (λ found. IfNone found (SomeHeld N.terms N.setup (λ held. HasEntryRoom held.history))) }
         ensures some { IfOk result (λ found. IfSome found (λ window. SomeStep N.terms N.setup (λ old new. (HasEntryRoom old.history → ⊥) × IsCertified old.history window.reports × AreLines old.history window.servers.items × (new ≡ record old { history = next_window old.history })))) }
     {
         let mut tail = self.tail.lock(rt);
-        let mut book = enter(rt, book);
+        let mut book = book.change(rt, key);
         make_room(&mut tail, &mut book, alloc)
     }
 }

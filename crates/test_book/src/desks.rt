@@ -16,7 +16,7 @@ use grant_board::{Board, Closing, KeeperSeat, RelaySeat, Taking};
 use late_cert::{Report, Reports, Running, Stay};
 use locked_book::{DeskName, Wanted};
 use log_entries::{Intake, Queue, Refusal, ServerSet, Servers, Setup};
-use shared_desk::{Desk, DeskQueue};
+use shared_desk::{Desk, DeskKey, DeskQueue};
 use std::alloc::{AllocError, Global};
 use std::marker::Brand;
 use std::process::Abort;
@@ -116,12 +116,12 @@ fn setup_of_one(alloc: Global, places: usize, log: usize, limit: u32) -> Result<
 }
 
 // Makes a desk of what was opened, and the first of the seats that take passes.
-fn start<N: DeskName>(opened: Opened) -> (Desk<N>, RelaySeat)
+fn start<N: DeskName>(opened: Opened) -> (Desk<N>, DeskKey<N>, RelaySeat)
     requires named { opened.board ≡ N.board }
     requires terms { N.terms ≡ terms_for opened.core.setup }
     requires setup { N.setup ≡ opened.core.setup }
-    ensures board { result.1.board ≡ N.board }
-    ensures view { result.1.view ≡ new_relay N.terms true }
+    ensures board { result.2.board ≡ N.board }
+    ensures view { result.2.view ≡ new_relay N.terms true }
 {
     let Opened {
         core,
@@ -130,7 +130,8 @@ fn start<N: DeskName>(opened: Opened) -> (Desk<N>, RelaySeat)
         relay,
         running,
     } = opened;
-    (Desk::new(core, board, seat, running), relay)
+    let (desk, key) = Desk::new(core, board, seat, running);
+    (desk, key, relay)
 }
 
 // The wish of a request of class 0 with this offset and without a pin.
@@ -151,34 +152,44 @@ fn at(millis: u64) -> Moment {
 fn arrive<N: DeskName, R: Abort + Wait>(
     rt: &R,
     alloc: Global,
-    desk: &Desk<N>,
+    desk: (&Desk<N>, &DeskKey<N>),
     moment: u64,
     wanted: Wanted,
 ) -> Ticketed
     ensures { result.place < N.terms.places }
 {
     let mut woken = PlaceSet::new();
-    let answer = desk.arrive(rt, alloc, at(moment), wanted, &mut woken);
+    let answer = desk
+        .0
+        .open(desk.1)
+        .arrive(rt, alloc, at(moment), wanted, &mut woken);
     answer.expect(rt, "an arrival")
 }
 
 // Makes a turn that isn't refused, and returns the first place that it woke.
-fn turn<N: DeskName, R: Abort + Wait>(rt: &R, desk: &Desk<N>, moment: u64) -> Option<usize> {
+fn turn<N: DeskName, R: Abort + Wait>(
+    rt: &R,
+    desk: (&Desk<N>, &DeskKey<N>),
+    moment: u64,
+) -> Option<usize> {
     let mut woken = PlaceSet::new();
-    let answer = desk.turn(rt, at(moment), &mut woken);
+    let answer = desk.0.open(desk.1).turn(rt, at(moment), &mut woken);
     answer.expect(rt, "a turn");
     woken.next(0)
 }
 
 fn check<N: DeskName, R: Abort + Wait>(
     rt: &R,
-    desk: &Desk<N>,
+    desk: (&Desk<N>, &DeskKey<N>),
     moment: u64,
     server: usize,
     ok: bool,
 ) {
     let mut woken = PlaceSet::new();
-    let answer = desk.check(rt, at(moment), server, ok, &mut woken);
+    let answer = desk
+        .0
+        .open(desk.1)
+        .check(rt, at(moment), server, ok, &mut woken);
     answer.expect(rt, "a check");
 }
 
@@ -199,12 +210,16 @@ fn serve(board: &Board, relay: &mut RelaySeat, it: Ticketed) -> Option<Verdict>
 }
 
 // Returns the greatest lateness of a class in the backend's queue.
-fn worst<N: DeskName, R: Wait>(rt: &R, desk: &Desk<N>, class: i64) -> Option<i64> {
-    desk.worst(rt, Queue::Backend, Class::clamp(class))
+fn worst<N: DeskName, R: Wait>(rt: &R, desk: (&Desk<N>, &DeskKey<N>), class: i64) -> Option<i64> {
+    desk.0.worst(rt, Queue::Backend, Class::clamp(class))
 }
 
-fn reports<N: DeskName, R: Abort + Wait>(rt: &R, alloc: Global, desk: &Desk<N>) -> Reports {
-    desk.report(rt, alloc).expect(rt, "memory")
+fn reports<N: DeskName, R: Abort + Wait>(
+    rt: &R,
+    alloc: Global,
+    desk: (&Desk<N>, &DeskKey<N>),
+) -> Reports {
+    desk.0.report(rt, alloc).expect(rt, "memory")
 }
 
 fn stay(ticket: u64, joined: usize, slot: usize, moment: u64, offset: i64) -> Stay {

@@ -135,6 +135,7 @@ fn connects<
     let mut byte = [0u8; 1];
     accepted.read_exact(&mut byte).expect(rt, "a byte read");
     assert_eq!(rt; byte, *b"x");
+    gate.disconnect(server);
 }
 
 // The parts that a gate needs.

@@ -8,12 +8,15 @@ use crate::assertions::{holds, same};
 // Sets the server's limit, and returns the first place that was woken.
 fn limit<N: DeskName, R: Abort + Wait>(
     rt: &R,
-    desk: &Desk<N>,
+    desk: (&Desk<N>, &DeskKey<N>),
     moment: u64,
     limit: u32,
 ) -> Option<usize> {
     let mut woken = PlaceSet::new();
-    let answer = desk.limit(rt, at(moment), 0, Intake::Open(limit), &mut woken);
+    let answer = desk
+        .0
+        .open(desk.1)
+        .limit(rt, at(moment), 0, Intake::Open(limit), &mut woken);
     answer.expect(rt, "a limit");
     woken.next(0)
 }
@@ -23,7 +26,7 @@ fn limit<N: DeskName, R: Abort + Wait>(
 fn lower_and_lift<N: DeskName, R: Abort + Wait>(
     rt: &R,
     alloc: Global,
-    desk: &Desk<N>,
+    desk: (&Desk<N>, &DeskKey<N>),
     relay: &mut RelaySeat,
 ) -> Reports
     requires named { relay.old.board ≡ N.board }
@@ -35,9 +38,9 @@ fn lower_and_lift<N: DeskName, R: Abort + Wait>(
     let third = arrive(rt, alloc, desk, 1, offset(0));
     let fourth = arrive(rt, alloc, desk, 2, offset(0));
     let lowered = limit(rt, desk, 3, 1);
-    serve(desk.board(), relay, first);
+    serve(desk.0.board(), relay, first);
     let ended = turn(rt, desk, 4);
-    serve(desk.board(), relay, second);
+    serve(desk.0.board(), relay, second);
     let ended_too = turn(rt, desk, 5);
     let lifted = limit(rt, desk, 6, 0);
     same(rt, (lowered, ended), (None, None));
@@ -58,8 +61,8 @@ fn change_limits<N: DeskName, R: Abort + Wait>(
     requires terms { N.terms ≡ terms_for opened.core.setup }
     requires setup { N.setup ≡ opened.core.setup }
 {
-    let (desk, mut relay) = start::<N>(opened);
-    let told = lower_and_lift(rt, alloc, &desk, &mut relay);
+    let (desk, key, mut relay) = start::<N>(opened);
+    let told = lower_and_lift(rt, alloc, (&desk, &key), &mut relay);
     (told, desk.close(relay))
 }
 

@@ -18,7 +18,7 @@ struct Four {
 fn come<N: DeskName, R: Abort + Wait>(
     rt: &R,
     alloc: Global,
-    desk: &Desk<N>,
+    desk: (&Desk<N>, &DeskKey<N>),
     relay: &mut RelaySeat,
 ) -> Four
     requires named { relay.old.board ≡ N.board }
@@ -31,7 +31,7 @@ fn come<N: DeskName, R: Abort + Wait>(
     let late = arrive(rt, alloc, desk, 5, offset(0));
     abort(rt, desk, 6, aborted.ticket);
     turn(rt, desk, 14);
-    same(rt, serve(desk.board(), relay, late), None);
+    same(rt, serve(desk.0.board(), relay, late), None);
     turn(rt, desk, 15);
     check(rt, desk, 16, 0, false);
     let lost = arrive(rt, alloc, desk, 17, offset(0));
@@ -43,9 +43,17 @@ fn come<N: DeskName, R: Abort + Wait>(
     }
 }
 
-fn abort<N: DeskName, R: Abort + Wait>(rt: &R, desk: &Desk<N>, moment: u64, ticket: u64) {
+fn abort<N: DeskName, R: Abort + Wait>(
+    rt: &R,
+    desk: (&Desk<N>, &DeskKey<N>),
+    moment: u64,
+    ticket: u64,
+) {
     let mut woken = PlaceSet::new();
-    let answer = desk.abort(rt, at(moment), ticket, &mut woken);
+    let answer = desk
+        .0
+        .open(desk.1)
+        .abort(rt, at(moment), ticket, &mut woken);
     answer.expect(rt, "an abort");
 }
 
@@ -53,7 +61,7 @@ fn abort<N: DeskName, R: Abort + Wait>(rt: &R, desk: &Desk<N>, moment: u64, tick
 fn tell_each<N: DeskName, R: Abort + Wait>(
     rt: &R,
     alloc: Global,
-    desk: &Desk<N>,
+    desk: (&Desk<N>, &DeskKey<N>),
     relay: &mut RelaySeat,
 ) -> [Option<Verdict>; 4]
     requires named { relay.old.board ≡ N.board }
@@ -62,10 +70,10 @@ fn tell_each<N: DeskName, R: Abort + Wait>(
 {
     let four = come(rt, alloc, desk, relay);
     let verdicts = [
-        serve(desk.board(), relay, four.served),
-        serve(desk.board(), relay, four.aborted),
-        serve(desk.board(), relay, four.late),
-        serve(desk.board(), relay, four.lost),
+        serve(desk.0.board(), relay, four.served),
+        serve(desk.0.board(), relay, four.aborted),
+        serve(desk.0.board(), relay, four.late),
+        serve(desk.0.board(), relay, four.lost),
     ];
     turn(rt, desk, 18);
     verdicts
@@ -80,8 +88,8 @@ fn each_event<N: DeskName, R: Abort + Wait>(
     requires terms { N.terms ≡ terms_for opened.core.setup }
     requires setup { N.setup ≡ opened.core.setup }
 {
-    let (desk, mut relay) = start::<N>(opened);
-    let told = tell_each(rt, alloc, &desk, &mut relay);
+    let (desk, key, mut relay) = start::<N>(opened);
+    let told = tell_each(rt, alloc, (&desk, &key), &mut relay);
     (told, desk.close(relay))
 }
 
@@ -103,7 +111,7 @@ fn each_is_told(rt: HostRuntime) {
 // Returns the number of passes that the seat has between its take and its post, and after it.
 fn vouch<N: DeskName, R: Abort + Wait>(
     rt: &R,
-    desk: &Desk<N>,
+    desk: (&Desk<N>, &DeskKey<N>),
     relay: RelaySeat,
     it: Ticketed,
 ) -> (u64, u64)
@@ -111,42 +119,54 @@ fn vouch<N: DeskName, R: Abort + Wait>(
     requires in_range { it.place < relay.view.terms.places }
 {
     let mut relay = relay;
-    let pass = match relay.try_take(desk.board(), it.place, it.ticket) {
+    let pass = match relay.try_take(desk.0.board(), it.place, it.ticket) {
         Taking::Taken(pass) => pass,
         Taking::NotYet => panic!(rt; "not offered"),
     };
-    let (mut relay, taken) = desk.vouch(rt, relay);
-    relay.post(desk.board(), pass, Ending::Done);
-    let (_, posted) = desk.vouch(rt, relay);
+    let (mut relay, taken) = desk.0.open(desk.1).vouch(rt, relay);
+    relay.post(desk.0.board(), pass, Ending::Done);
+    let (_, posted) = desk.0.open(desk.1).vouch(rt, relay);
     (taken, posted)
 }
 
 // Returns the ticket that comes back from a place.
 fn collect<N: DeskName, R: Abort + Wait>(
     rt: &R,
-    desk: &Desk<N>,
+    desk: (&Desk<N>, &DeskKey<N>),
     moment: u64,
     place: usize,
 ) -> Option<u64>
     requires { place < N.terms.places }
 {
     let mut woken = PlaceSet::new();
-    let answer = desk.collect_at(rt, at(moment), place, &mut woken);
+    let answer = desk
+        .0
+        .open(desk.1)
+        .collect_at(rt, at(moment), place, &mut woken);
     let found = answer.expect(rt, "a collection");
     found.map(|back| back.ticket)
 }
 
 // Says whether a tick at this moment would tell a timeout, before the tick and after it.
-fn tick<N: DeskName, R: Abort + Wait>(rt: &R, desk: &Desk<N>, moment: u64) -> (bool, bool) {
-    let before = desk.expired(rt, at(moment));
+fn tick<N: DeskName, R: Abort + Wait>(
+    rt: &R,
+    desk: (&Desk<N>, &DeskKey<N>),
+    moment: u64,
+) -> (bool, bool) {
+    let before = desk.0.expired(rt, at(moment));
     let mut woken = PlaceSet::new();
-    let answer = desk.tick(rt, at(moment), &mut woken);
+    let answer = desk.0.open(desk.1).tick(rt, at(moment), &mut woken);
     answer.expect(rt, "a tick");
-    (before, desk.expired(rt, at(moment)))
+    (before, desk.0.expired(rt, at(moment)))
 }
 
 // Of three requests for one slot, one is over and one has waited too long.
-fn ask_on<N: DeskName, R: Abort + Wait>(rt: &R, alloc: Global, desk: &Desk<N>, relay: RelaySeat)
+fn ask_on<N: DeskName, R: Abort + Wait>(
+    rt: &R,
+    alloc: Global,
+    desk: (&Desk<N>, &DeskKey<N>),
+    relay: RelaySeat,
+)
     requires named { relay.board ≡ N.board }
     requires terms { relay.view.terms ≡ N.terms }
 {
@@ -164,8 +184,8 @@ fn ask<N: DeskName, R: Abort + Wait>(rt: &R, alloc: Global, opened: Opened)
     requires terms { N.terms ≡ terms_for opened.core.setup }
     requires setup { N.setup ≡ opened.core.setup }
 {
-    let (desk, relay) = start::<N>(opened);
-    ask_on(rt, alloc, &desk, relay);
+    let (desk, key, relay) = start::<N>(opened);
+    ask_on(rt, alloc, (&desk, &key), relay);
     drop(desk);
 }
 

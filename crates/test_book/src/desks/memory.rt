@@ -27,13 +27,20 @@ fn open_in_the_end(alloc: Global) -> Result<Opened, Fail> {
 fn come<N: DeskName, R: Wait>(
     rt: &R,
     alloc: Global,
-    desk: &Desk<N>,
+    desk: (&Desk<N>, &DeskKey<N>),
     woken: &mut PlaceSet,
 ) -> Result<Ticketed, Refusal>
     ensures { IfOk result (λ it. it.place < N.terms.places) }
 {
-    match desk.arrive(rt, alloc, Moment::zero(), offset(0), woken) {
-        Err(Refusal::NoMemory) => desk.arrive(rt, alloc, Moment::zero(), offset(0), woken),
+    match desk
+        .0
+        .open(desk.1)
+        .arrive(rt, alloc, Moment::zero(), offset(0), woken)
+    {
+        Err(Refusal::NoMemory) => desk
+            .0
+            .open(desk.1)
+            .arrive(rt, alloc, Moment::zero(), offset(0), woken),
         answer => answer,
     }
 }
@@ -42,34 +49,42 @@ fn come<N: DeskName, R: Wait>(
 fn report<N: DeskName, R: Wait>(
     rt: &R,
     alloc: Global,
-    desk: &Desk<N>,
+    desk: (&Desk<N>, &DeskKey<N>),
 ) -> Result<usize, AllocError> {
-    match desk.report(rt, alloc) {
+    match desk.0.report(rt, alloc) {
         Ok(reports) => Ok(reports.len()),
-        Err(_) => Ok(desk.report(rt, alloc)?.len()),
+        Err(_) => Ok(desk.0.report(rt, alloc)?.len()),
     }
 }
 
 // Returns the number of servers' lines.
-fn lines<N: DeskName, R: Wait>(rt: &R, alloc: Global, desk: &Desk<N>) -> Result<usize, AllocError> {
-    match desk.servers(rt, alloc) {
+fn lines<N: DeskName, R: Wait>(
+    rt: &R,
+    alloc: Global,
+    desk: (&Desk<N>, &DeskKey<N>),
+) -> Result<usize, AllocError> {
+    match desk.0.servers(rt, alloc) {
         Ok(lines) => Ok(lines.len()),
-        Err(_) => Ok(desk.servers(rt, alloc)?.len()),
+        Err(_) => Ok(desk.0.servers(rt, alloc)?.len()),
     }
 }
 
 // Says whether there was no room, so that a window ended.
-fn room<N: DeskName, R: Wait>(rt: &R, alloc: Global, desk: &Desk<N>) -> Result<bool, AllocError> {
-    match desk.make_room(rt, alloc) {
+fn room<N: DeskName, R: Wait>(
+    rt: &R,
+    alloc: Global,
+    desk: (&Desk<N>, &DeskKey<N>),
+) -> Result<bool, AllocError> {
+    match desk.0.open(desk.1).make_room(rt, alloc) {
         Ok(made) => Ok(has_ended(made)),
-        Err(_) => Ok(has_ended(desk.make_room(rt, alloc)?)),
+        Err(_) => Ok(has_ended(desk.0.open(desk.1).make_room(rt, alloc)?)),
     }
 }
 
 fn tell<N: DeskName, R: Wait>(
     rt: &R,
     alloc: Global,
-    desk: &Desk<N>,
+    desk: (&Desk<N>, &DeskKey<N>),
 ) -> Result<(usize, usize, bool), AllocError> {
     Ok((
         report(rt, alloc, desk)?,
@@ -82,7 +97,7 @@ fn tell<N: DeskName, R: Wait>(
 fn use_up<N: DeskName, R: Wait>(
     rt: &R,
     alloc: Global,
-    desk: &Desk<N>,
+    desk: (&Desk<N>, &DeskKey<N>),
     relay: &mut RelaySeat,
 ) -> Result<(usize, usize, bool), Fail>
     requires named { relay.old.board ≡ N.board }
@@ -93,7 +108,7 @@ fn use_up<N: DeskName, R: Wait>(
     let Ok(it) = come(rt, alloc, desk, &mut woken) else {
         return Err(Fail::from("refused"));
     };
-    serve(desk.board(), relay, it);
+    serve(desk.0.board(), relay, it);
     Ok(tell(rt, alloc, desk)?)
 }
 
@@ -106,8 +121,8 @@ fn use_up_one<N: DeskName, R: Wait>(
     requires terms { N.terms ≡ terms_for opened.core.setup }
     requires setup { N.setup ≡ opened.core.setup }
 {
-    let (desk, mut relay) = start::<N>(opened);
-    let told = use_up(rt, alloc, &desk, &mut relay);
+    let (desk, key, mut relay) = start::<N>(opened);
+    let told = use_up(rt, alloc, (&desk, &key), &mut relay);
     (told, desk.close(relay))
 }
 

@@ -9,7 +9,7 @@ use crate::assertions::{holds, same};
 fn overtake<N: DeskName, R: Abort + Wait>(
     rt: &R,
     alloc: Global,
-    desk: &Desk<N>,
+    desk: (&Desk<N>, &DeskKey<N>),
     relay: &mut RelaySeat,
 )
     requires named { relay.old.board ≡ N.board }
@@ -19,12 +19,12 @@ fn overtake<N: DeskName, R: Abort + Wait>(
     let first = arrive(rt, alloc, desk, 0, offset(0));
     let second = arrive(rt, alloc, desk, 1, offset(0));
     let third = arrive(rt, alloc, desk, 2, offset(-5));
-    let told = serve(desk.board(), relay, first);
+    let told = serve(desk.0.board(), relay, first);
     let woken = turn(rt, desk, 10);
-    let early = serve(desk.board(), relay, second);
-    let overtaking = serve(desk.board(), relay, third);
+    let early = serve(desk.0.board(), relay, second);
+    let overtaking = serve(desk.0.board(), relay, third);
     let woken_later = turn(rt, desk, 20);
-    let last = serve(desk.board(), relay, second);
+    let last = serve(desk.0.board(), relay, second);
     let slot = Some(Verdict::Serve(0));
     same(
         rt,
@@ -47,19 +47,28 @@ struct Told {
     is_full: bool,
 }
 
-fn tell<N: DeskName, R: Abort + Wait>(rt: &R, alloc: Global, desk: &Desk<N>) -> Told {
+fn tell<N: DeskName, R: Abort + Wait>(
+    rt: &R,
+    alloc: Global,
+    desk: (&Desk<N>, &DeskKey<N>),
+) -> Told {
     Told {
         reports: reports(rt, alloc, desk),
-        servers: desk.servers(rt, alloc).expect(rt, "memory"),
+        servers: desk.0.servers(rt, alloc).expect(rt, "memory"),
         worst: (worst(rt, desk, 0), worst(rt, desk, 1)),
-        is_full: has_ended(desk.make_room(rt, alloc).expect(rt, "memory")),
+        is_full: has_ended(
+            desk.0
+                .open(desk.1)
+                .make_room(rt, alloc)
+                .expect(rt, "memory"),
+        ),
     }
 }
 
 fn overtake_and_tell<N: DeskName, R: Abort + Wait>(
     rt: &R,
     alloc: Global,
-    desk: &Desk<N>,
+    desk: (&Desk<N>, &DeskKey<N>),
     relay: &mut RelaySeat,
 ) -> Told
     requires named { relay.old.board ≡ N.board }
@@ -81,8 +90,8 @@ fn overtake_once<N: DeskName, R: Abort + Wait>(
     requires terms { N.terms ≡ terms_for opened.core.setup }
     requires setup { N.setup ≡ opened.core.setup }
 {
-    let (desk, mut relay) = start::<N>(opened);
-    let told = overtake_and_tell(rt, alloc, &desk, &mut relay);
+    let (desk, key, mut relay) = start::<N>(opened);
+    let told = overtake_and_tell(rt, alloc, (&desk, &key), &mut relay);
     (told, desk.close(relay))
 }
 

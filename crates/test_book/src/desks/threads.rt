@@ -53,8 +53,13 @@ impl Sums {
 }
 
 // Hands over the window where the log is full.
-fn make_room<N: DeskName, R: Wait>(rt: &R, alloc: Global, desk: &Desk<N>, sums: &mut Sums) {
-    match desk.make_room(rt, alloc) {
+fn make_room<N: DeskName, R: Wait>(
+    rt: &R,
+    alloc: Global,
+    desk: (&Desk<N>, &DeskKey<N>),
+    sums: &mut Sums,
+) {
+    match desk.0.open(desk.1).make_room(rt, alloc) {
         Ok(Some(window)) => {
             let EndedWindow { reports, servers } = window;
             sums.add_lines(servers.as_slice());
@@ -68,14 +73,18 @@ fn make_room<N: DeskName, R: Wait>(rt: &R, alloc: Global, desk: &Desk<N>, sums: 
 fn admit<N: DeskName, R: Wait>(
     rt: &R,
     alloc: Global,
-    desk: &Desk<N>,
+    desk: (&Desk<N>, &DeskKey<N>),
     sums: &mut Sums,
 ) -> Option<Ticketed>
     ensures { IfSome result (λ it. it.place < N.terms.places) }
 {
     for _ in rt.forever() {
         let mut woken = PlaceSet::new();
-        match desk.arrive(rt, alloc, Moment::zero(), offset(0), &mut woken) {
+        match desk
+            .0
+            .open(desk.1)
+            .arrive(rt, alloc, Moment::zero(), offset(0), &mut woken)
+        {
             Ok(it) => return Some(it),
             Err(Refusal::LogFull) => make_room(rt, alloc, desk, sums),
             Err(_) => return None,
@@ -84,9 +93,19 @@ fn admit<N: DeskName, R: Wait>(
     unreachable!()
 }
 
-fn turn_round<N: DeskName, R: Wait>(rt: &R, alloc: Global, desk: &Desk<N>, sums: &mut Sums) {
+fn turn_round<N: DeskName, R: Wait>(
+    rt: &R,
+    alloc: Global,
+    desk: (&Desk<N>, &DeskKey<N>),
+    sums: &mut Sums,
+) {
     let mut woken = PlaceSet::new();
-    if desk.turn(rt, Moment::zero(), &mut woken).is_err() {
+    if desk
+        .0
+        .open(desk.1)
+        .turn(rt, Moment::zero(), &mut woken)
+        .is_err()
+    {
         make_room(rt, alloc, desk, sums);
     }
 }
@@ -95,7 +114,7 @@ fn turn_round<N: DeskName, R: Wait>(rt: &R, alloc: Global, desk: &Desk<N>, sums:
 fn come<N: DeskName, R: Wait>(
     rt: &R,
     alloc: Global,
-    desk: &Desk<N>,
+    desk: (&Desk<N>, &DeskKey<N>),
     relay: &mut RelaySeat,
     sums: &mut Sums,
 )
@@ -107,7 +126,7 @@ fn come<N: DeskName, R: Wait>(
         return;
     };
     for _ in rt.forever() {
-        if serve(desk.board(), relay, it).is_some() {
+        if serve(desk.0.board(), relay, it).is_some() {
             sums.served = sums.served.saturating_add(1);
             return;
         }
@@ -116,10 +135,10 @@ fn come<N: DeskName, R: Wait>(
 }
 
 // Changes the server's limit now and then.
-fn change<N: DeskName, R: Wait>(rt: &R, desk: &Desk<N>, number: u32) {
+fn change<N: DeskName, R: Wait>(rt: &R, desk: (&Desk<N>, &DeskKey<N>), number: u32) {
     if number % 64 == 63 {
         let mut woken = PlaceSet::new();
-        let _ = desk.limit(
+        let _ = desk.0.open(desk.1).limit(
             rt,
             Moment::zero(),
             0,
@@ -133,7 +152,7 @@ fn change<N: DeskName, R: Wait>(rt: &R, desk: &Desk<N>, number: u32) {
 fn come_and_go<N: DeskName, R: Wait>(
     rt: &R,
     alloc: Global,
-    desk: &Desk<N>,
+    desk: (&Desk<N>, &DeskKey<N>),
     relay: RelaySeat,
     requests: u32,
 ) -> (RelaySeat, Sums)
@@ -154,7 +173,7 @@ fn come_and_go<N: DeskName, R: Wait>(
 fn pair<N: DeskName + Send + Sync, R: Threads + Wait + Sync>(
     rt: &R,
     alloc: Global,
-    desk: &Desk<N>,
+    desk: (&Desk<N>, &DeskKey<N>),
     seats: (RelaySeat, RelaySeat),
     requests: u32,
 ) -> (RelaySeat, RelaySeat, Sums)
@@ -178,10 +197,15 @@ fn pair<N: DeskName + Send + Sync, R: Threads + Wait + Sync>(
 }
 
 // Makes the last turn, and adds the numbers of the last window.
-fn finish<N: DeskName, R: Abort + Wait>(rt: &R, alloc: Global, desk: &Desk<N>, sums: Sums) -> Sums {
+fn finish<N: DeskName, R: Abort + Wait>(
+    rt: &R,
+    alloc: Global,
+    desk: (&Desk<N>, &DeskKey<N>),
+    sums: Sums,
+) -> Sums {
     turn(rt, desk, 1);
     let mut sums = sums;
-    let lines = desk.servers(rt, alloc).expect(rt, "memory");
+    let lines = desk.0.servers(rt, alloc).expect(rt, "memory");
     sums.add_lines(lines.as_slice());
     sums.add_reports(&reports(rt, alloc, desk));
     sums
@@ -196,10 +220,10 @@ fn two_come<N: DeskName + Send + Sync, R: Abort + Threads + Wait + Sync>(
     requires terms { N.terms ≡ terms_for opened.core.setup }
     requires setup { N.setup ≡ opened.core.setup }
 {
-    let (desk, mut first) = start::<N>(opened);
+    let (desk, key, mut first) = start::<N>(opened);
     let second = first.split(desk.board());
-    let (mut first, second, sums) = pair(rt, alloc, &desk, (first, second), 100);
-    let sums = finish(rt, alloc, &desk, sums);
+    let (mut first, second, sums) = pair(rt, alloc, (&desk, &key), (first, second), 100);
+    let sums = finish(rt, alloc, (&desk, &key), sums);
     first.join(desk.board(), second);
     (sums, desk.close(first))
 }
@@ -225,7 +249,7 @@ struct Seats {
 fn crowd<N: DeskName + Send + Sync, R: Threads + Wait + Sync>(
     rt: &R,
     alloc: Global,
-    desk: &Desk<N>,
+    desk: (&Desk<N>, &DeskKey<N>),
     seats: Seats,
     requests: u32,
 ) -> (Seats, Sums)
@@ -264,7 +288,7 @@ fn four_come<N: DeskName + Send + Sync, R: Abort + Threads + Wait + Sync>(
     requires terms { N.terms ≡ terms_for opened.core.setup }
     requires setup { N.setup ≡ opened.core.setup }
 {
-    let (desk, mut first) = start::<N>(opened);
+    let (desk, key, mut first) = start::<N>(opened);
     let second = first.split(desk.board());
     let third = first.split(desk.board());
     let fourth = first.split(desk.board());
@@ -272,8 +296,8 @@ fn four_come<N: DeskName + Send + Sync, R: Abort + Threads + Wait + Sync>(
         some: (first, second),
         others: (third, fourth),
     };
-    let (seats, sums) = crowd(rt, alloc, &desk, seats, 5_000);
-    let sums = finish(rt, alloc, &desk, sums);
+    let (seats, sums) = crowd(rt, alloc, (&desk, &key), seats, 5_000);
+    let sums = finish(rt, alloc, (&desk, &key), sums);
     let first = gather(desk.board(), seats);
     (sums, desk.close(first))
 }

@@ -9,7 +9,7 @@ use crate::assertions::{holds, same};
 fn wait_over_a_roll<N: DeskName, R: Abort + Wait>(
     rt: &R,
     alloc: Global,
-    desk: &Desk<N>,
+    desk: (&Desk<N>, &DeskKey<N>),
     relay: &mut RelaySeat,
 ) -> Reports
     requires named { relay.old.board ≡ N.board }
@@ -21,12 +21,12 @@ fn wait_over_a_roll<N: DeskName, R: Abort + Wait>(
     let EndedWindow {
         reports: told,
         servers,
-    } = desk.roll(rt, alloc).expect(rt, "memory");
+    } = desk.0.open(desk.1).roll(rt, alloc).expect(rt, "memory");
     holds(rt, told.is_empty());
     same(rt, servers.len(), 1);
-    serve(desk.board(), relay, first);
+    serve(desk.0.board(), relay, first);
     turn(rt, desk, 10);
-    serve(desk.board(), relay, third);
+    serve(desk.0.board(), relay, third);
     turn(rt, desk, 20);
     reports(rt, alloc, desk)
 }
@@ -36,8 +36,8 @@ fn roll_once<N: DeskName, R: Abort + Wait>(rt: &R, alloc: Global, opened: Opened
     requires terms { N.terms ≡ terms_for opened.core.setup }
     requires setup { N.setup ≡ opened.core.setup }
 {
-    let (desk, mut relay) = start::<N>(opened);
-    let told = wait_over_a_roll(rt, alloc, &desk, &mut relay);
+    let (desk, key, mut relay) = start::<N>(opened);
+    let told = wait_over_a_roll(rt, alloc, (&desk, &key), &mut relay);
     drop(desk);
     told
 }
@@ -58,7 +58,7 @@ fn who_waits_joined_at_the_base(rt: HostRuntime) {
 fn make_room<N: DeskName, R: Abort + Wait>(
     rt: &R,
     alloc: Global,
-    desk: &Desk<N>,
+    desk: (&Desk<N>, &DeskKey<N>),
     relay: &mut RelaySeat,
 ) -> EndedWindow
     requires named { relay.old.board ≡ N.board }
@@ -66,9 +66,13 @@ fn make_room<N: DeskName, R: Abort + Wait>(
     ensures { IsSameSeat relay.old relay.new }
 {
     let it = arrive(rt, alloc, desk, 0, offset(0));
-    serve(desk.board(), relay, it);
+    serve(desk.0.board(), relay, it);
     same(rt, turned(rt, desk, 1), Err(Refusal::LogFull));
-    let made = desk.make_room(rt, alloc).expect(rt, "memory");
+    let made = desk
+        .0
+        .open(desk.1)
+        .make_room(rt, alloc)
+        .expect(rt, "memory");
     let window = made.expect(rt, "a window");
     turn(rt, desk, 1);
     window
@@ -83,15 +87,19 @@ fn fill<N: DeskName, R: Abort + Wait>(
     requires terms { N.terms ≡ terms_for opened.core.setup }
     requires setup { N.setup ≡ opened.core.setup }
 {
-    let (desk, mut relay) = start::<N>(opened);
-    let window = make_room(rt, alloc, &desk, &mut relay);
+    let (desk, key, mut relay) = start::<N>(opened);
+    let window = make_room(rt, alloc, (&desk, &key), &mut relay);
     (window, desk.close(relay))
 }
 
 // The answer of a turn.
-fn turned<N: DeskName, R: Wait>(rt: &R, desk: &Desk<N>, moment: u64) -> Result<(), Refusal> {
+fn turned<N: DeskName, R: Wait>(
+    rt: &R,
+    desk: (&Desk<N>, &DeskKey<N>),
+    moment: u64,
+) -> Result<(), Refusal> {
     let mut woken = PlaceSet::new();
-    desk.turn(rt, at(moment), &mut woken)
+    desk.0.open(desk.1).turn(rt, at(moment), &mut woken)
 }
 
 #[test]
@@ -114,7 +122,7 @@ fn a_full_log_makes_room(rt: HostRuntime) {
 fn leave<N: DeskName, R: Abort + Wait>(
     rt: &R,
     alloc: Global,
-    desk: &Desk<N>,
+    desk: (&Desk<N>, &DeskKey<N>),
     relay: &mut RelaySeat,
 ) -> Result<(), Refusal>
     requires named { relay.old.board ≡ N.board }
@@ -122,7 +130,7 @@ fn leave<N: DeskName, R: Abort + Wait>(
     ensures { IsSameSeat relay.old relay.new }
 {
     let it = arrive(rt, alloc, desk, 0, offset(0));
-    serve(desk.board(), relay, it);
+    serve(desk.0.board(), relay, it);
     turned(rt, desk, 1)
 }
 
@@ -135,8 +143,8 @@ fn leave_one<N: DeskName, R: Abort + Wait>(
     requires terms { N.terms ≡ terms_for opened.core.setup }
     requires setup { N.setup ≡ opened.core.setup }
 {
-    let (desk, mut relay) = start::<N>(opened);
-    let refused = leave(rt, alloc, &desk, &mut relay);
+    let (desk, key, mut relay) = start::<N>(opened);
+    let refused = leave(rt, alloc, (&desk, &key), &mut relay);
     (refused, desk.close(relay))
 }
 

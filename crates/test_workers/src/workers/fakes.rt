@@ -1,6 +1,4 @@
 // A gate whose clients and servers are texts.
-ghost use Rattle.std.specs.Prelude.{None};
-
 use super::*;
 
 /// What was seen of all peers.
@@ -125,8 +123,6 @@ impl<'a> Gate for Fake<'a> {
 
     type Server = Peer<'a>;
 
-    ghost counts = { λ gate. None };
-
     fn next(&mut self) -> Option<Peer<'a>> {
         if self.came == self.scene.clients {
             return None;
@@ -143,6 +139,10 @@ impl<'a> Gate for Fake<'a> {
         })
     }
 
+    fn release(&mut self, client: Peer<'a>) {
+        drop(client);
+    }
+
     fn connect<N: DeskName>(&mut self, _slot: &Slot<'_, N>) -> Option<Peer<'a>> {
         let before = self.seen.connects.fetch_add(1, Ordering::SeqCst);
         if before < self.scene.failing {
@@ -157,6 +157,12 @@ impl<'a> Gate for Fake<'a> {
             seen: self.seen,
         })
     }
+
+    fn disconnect(&mut self, server: Peer<'a>) {
+        drop(server);
+    }
+
+    fn posted(&mut self, _seat: &RelaySeat) {}
 
     fn probe(&mut self, _server: usize) -> Option<bool> {
         self.seen.probes.fetch_add(1, Ordering::SeqCst);

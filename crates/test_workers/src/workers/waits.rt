@@ -7,31 +7,31 @@ ghost use Rattle.shared_desk.specs.Seats.{IsSameSeat};
 use super::fakes::{Fake, Few, Scene, Seen};
 use super::scenes::plain;
 use super::*;
-use base_places::PlaceSet;
 use base_verdict::Ending;
 use dispatch_state::Ticketed;
-use due_key::{Class, Offset};
 use grant_board::Taking;
-use locked_book::Wanted;
+use relay_workers::arrive;
+use req_view::{Viewed, view};
 
 // A request that has a slot before any client comes.
-fn come_first<N: DeskName, R: Abort + Wait>(rt: &R, alloc: Global, desk: &Desk<N>) -> Ticketed
+fn come_first<N: DeskName, R: Abort + Wait>(
+    rt: &R,
+    proxy: &Proxy<N>,
+    gate: &mut Fake<'_>,
+) -> Ticketed
     ensures { result.place < N.terms.places }
 {
-    let wanted = Wanted {
-        class: Class::clamp(0),
-        offset: Offset::clamp(0),
-        pin: None,
+    let Viewed::Whole(head, _) = view(proxy.alloc, b"GET / HTTP/1.1\r\nHost: h\r\n\r\n") else {
+        panic!(rt; "no head");
     };
-    let mut woken = PlaceSet::new();
-    desk.arrive(rt, alloc, Moment::zero(), wanted, &mut woken)
-        .expect(rt, "a place")
+    arrive(rt, proxy, gate, &head).expect(rt, "a place")
 }
 
 // Ends its exchange. Says whether it had its slot, and its return was collected.
 fn go_last<N: DeskName, R: Wait>(
     rt: &R,
-    desk: &Desk<N>,
+    proxy: &Proxy<N>,
+    gate: &mut Fake<'_>,
     relay: &mut RelaySeat,
     it: Ticketed,
 ) -> bool
@@ -41,27 +41,29 @@ fn go_last<N: DeskName, R: Wait>(
     ensures idle { relay.new.view.passes ≡ [] }
     ensures same { IsSameSeat relay.old relay.new }
 {
-    match relay.try_take(desk.board(), it.place, it.ticket) {
+    match relay.try_take(proxy.desk.board(), it.place, it.ticket) {
         Taking::Taken(pass) => {
-            relay.post(desk.board(), pass, Ending::Done);
-            desk.turn(rt, Moment::zero(), &mut PlaceSet::new()).is_ok()
+            relay.post(proxy.desk.board(), pass, Ending::Done);
+            proxy.turn(rt, gate).is_ok()
         }
         Taking::NotYet => false,
     }
 }
 
-// Clients come while the only slot is taken.
+// Clients come while the only slot is taken, which another thread's gate knows of.
 fn come_behind<N: DeskName, R: Abort + Wait>(
     rt: &R,
     proxy: &Proxy<N>,
     idle: &mut Idle<N>,
     gate: Fake<'_>,
+    other: Fake<'_>,
 ) -> Result<Tally, Stopped>
     ensures { IsSameSeat idle.old.seat idle.new.seat }
 {
-    let first = come_first(rt, proxy.alloc, &proxy.desk);
+    let mut other = other;
+    let first = come_first(rt, proxy, &mut other);
     let tally = work_with(rt, proxy, idle, gate, Few::new(3));
-    assert!(rt; go_last(rt, &proxy.desk, &mut idle.seat, first));
+    assert!(rt; go_last(rt, proxy, &mut other, &mut idle.seat, first));
     tally
 }
 
@@ -78,7 +80,8 @@ fn work_behind<N: DeskName, R: Abort + Wait>(
 {
     let (proxy, mut idle) = start::<N>(alloc, opened);
     let seen = Seen::new();
-    let tally = come_behind(rt, &proxy, &mut idle, Fake::new(scene, &seen));
+    let gates = (Fake::new(scene, &seen), Fake::new(scene, &seen));
+    let tally = come_behind(rt, &proxy, &mut idle, gates.0, gates.1);
     let closing = close(proxy, idle);
     Found {
         tally,

@@ -25,21 +25,23 @@ returns-in-Ok-arrive-clause-read g c =
 -- the request that was read was turned away
 pub returns-in-Err-arrive-clause-told : goal.returns-in-Err-arrive-clause-told
 returns-in-Err-arrive-clause-told g c =
-    let read = c.in-Ok.ensures.ok in (
-      c.answer_refusal-in-Err-arrive.new.client,
-      record {
-        read = c.read_request.new.reader;
-        cause = inr (
-          c.answer_refusal-in-Err-arrive.ensures.closing ∙ c.in-Ok.ensures.unclosed ∙ c.requires.unclosed.closing,
-          c.answer_refusal-in-Err-arrive.ensures.same,
-          (
-            c.in-Ok.view,
-            c.read_request.new.self.pipe.inbox,
-            c.in-Err-arrive.field-0,
-            (read.0, read.1, read.2, read.3, from_nothing c.requires.held (read.4 None)),
-            c.in-Err-arrive.ensures.err,
-          ),
-        );
-        is_told = c.answer_refusal-in-Err-arrive.ensures.told;
-      },
-    )
+    let read = c.in-Ok.ensures.ok in
+    let told = c.turn_away-in-Err-arrive.ensures.told in record {
+      read = c.read_request.new.reader;
+      between = g.G.Gate.notes c.arrive.new.gate;
+      cause = inr (
+        c.turn_away-in-Err-arrive.ensures.closing ∙ c.in-Ok.ensures.unclosed ∙ c.requires.unclosed.closing,
+        c.turn_away-in-Err-arrive.ensures.same,
+        (
+          c.in-Ok.view,
+          c.read_request.new.self.pipe.inbox,
+          c.in-Err-arrive.field-0,
+          (read.0, read.1, read.2, read.3, from_nothing c.requires.held (read.4 None)),
+          c.in-Err-arrive.ensures.err,
+          c.in-Err-arrive.ensures.answered,
+        ),
+      );
+      client_then = told.0;
+      is_told = told.1;
+      released = told.2;
+    }

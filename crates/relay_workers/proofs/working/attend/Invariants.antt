@@ -1,9 +1,8 @@
-use Rattle.std.proofs.Common.{◌≡◌, ◌<◌, List, [], ◌++◌, false}
-use Rattle.grant_board.specs.Views.{Grant}
+use Rattle.std.proofs.Common.{◌≡◌, ◌<◌, [], false}
 use Rattle.relay_http.specs.declared.exchange.Stage.TheVariants.{Asked}
 use Rattle.relay_http.specs.States.{IsOpen}
-use Rattle.relay_workers.proofs.Counting.{Connects}
 use Rattle.relay_workers.specs.Carrying.{IsUntouched}
+use Rattle.relay_workers.specs.Serving.{HaveFailed}
 use Rattle.shared_desk.specs.Seats.{IsSameSeat}
 use Rattle.relay_workers.proofs.working.attend.Given as goal
 
@@ -18,6 +17,8 @@ invariant-loop g l =
     × (l.hand.runner.exchange.most ≡ l.initial.hand.runner.exchange.most)
     × (l.hand.runner.exchange ≡ l.initial.hand.runner.exchange)
     × (l.admitted.view ≡ l.initial.admitted.view)
+    × (l.admitted.at ≡ l.initial.admitted.at)
     × IsUntouched g.G.Client.Read.remaining g.G.Client.Write.contents l.initial.admitted.client l.admitted.client
-    × ((earlier : List Grant) × (l.seat.view.takes ≡ l.initial.seat.view.takes ++ earlier))
-    × Connects (g.G.Gate.counts l.initial.hand.runner.gate) (g.G.Gate.counts l.hand.runner.gate)
+    × HaveFailed g.N.BoardName.terms g.N.DeskName.setup l.initial.admitted.at
+    (record { notes = g.G.Gate.notes l.initial.hand.runner.gate; left = g.P.Pause.left l.initial.hand.pause; view = l.initial.seat.view })
+    (record { notes = g.G.Gate.notes l.hand.runner.gate; left = g.P.Pause.left l.hand.pause; view = l.seat.view })

@@ -23,7 +23,7 @@ asked_for Waits before = noted IsThere before
 asked_for patience before = before
 
 -- What is done after a try that found no pass: the request of a client that has left is given up; or
--- a pause is made, and then a turn; or no pause is left, the request is given up, and a turn is made.
+-- one pause less is left, and a turn is made; or none is left, the request is given up, and a turn is made.
 pub data Holds {C S : Type 0} (terms : Terms) (setup : Setup) (ticket : ℕ) (before after : Option (List (Notice C S))) (left left_then : ℕ)
     : Patience → Patience → Type 0 where
   leaves : GivesUp terms setup ticket (noted HasLeft before) after → left_then ≡ left → Holds terms setup ticket before after left left_then Waits GaveUp

@@ -14,7 +14,6 @@ ghost use Rattle.locked_book.specs.Books.{terms_for};
 ghost use Rattle.dispatch_reports.specs.Reporting.{IsNew};
 
 use anyhow::{Context, Result, bail};
-use base_places::PlaceSet;
 use base_verdict::Ending;
 use dispatch_core::Core;
 use dispatch_reports::EndedWindow;
@@ -24,7 +23,7 @@ use grant_board::{Board, KeeperSeat, RelaySeat, Taking};
 use late_cert::Running;
 use locked_book::{DeskName, Wanted};
 use log_entries::{Refusal, ServerSet, Servers, Setup};
-use shared_desk::{Desk, DeskKey, DeskQueue};
+use shared_desk::{Desk, DeskKeys, DeskQueue};
 use std::alloc::Global;
 use std::collections::VecDeque;
 use std::env;
@@ -138,7 +137,7 @@ fn setup_of(alloc: Global, places: usize, limit: u32) -> Result<Setup>
     })
 }
 
-fn start<N: DeskName>(opened: Opened) -> (Desk<N>, DeskKey<N>, RelaySeat)
+fn start<N: DeskName>(opened: Opened) -> (Desk<N>, DeskKeys<N>, RelaySeat)
     requires named { opened.board ≡ N.board }
     requires terms { N.terms ≡ terms_for opened.core.setup }
     requires setup { N.setup ≡ opened.core.setup }
@@ -152,8 +151,8 @@ fn start<N: DeskName>(opened: Opened) -> (Desk<N>, DeskKey<N>, RelaySeat)
         relay,
         running,
     } = opened;
-    let (desk, key) = Desk::new(core, board, seat, running);
-    (desk, key, relay)
+    let (desk, keys) = Desk::new(core, board, seat, running);
+    (desk, keys, relay)
 }
 
 // Serves the requests with one thread, and returns how many were served.
@@ -162,8 +161,8 @@ fn one<N: DeskName, R: Wait>(rt: &R, alloc: Global, opened: Opened, share: Share
     requires terms { N.terms ≡ terms_for opened.core.setup }
     requires setup { N.setup ≡ opened.core.setup }
 {
-    let (desk, key, relay) = start::<N>(opened);
-    serve(rt, alloc, (&desk, &key), relay, share)
+    let (desk, keys, relay) = start::<N>(opened);
+    serve(rt, alloc, (&desk, &keys), relay, share)
 }
 
 // Serves the requests with four threads, a quarter each.
@@ -177,13 +176,13 @@ fn four<N: DeskName + Send + Sync, R: Threads + Wait + Sync>(
     requires terms { N.terms ≡ terms_for opened.core.setup }
     requires setup { N.setup ≡ opened.core.setup }
 {
-    let (desk, key, first) = start::<N>(opened);
+    let (desk, keys, first) = start::<N>(opened);
     let seats = split(desk.board(), first);
     let share = Share {
         live: share.live / 4,
         requests: share.requests / 4,
     };
-    pairs(rt, alloc, (&desk, &key), seats, share)
+    pairs(rt, alloc, (&desk, &keys), seats, share)
 }
 
 // The seats of four threads, in two pairs.
@@ -205,7 +204,7 @@ fn split(board: &Board, first: RelaySeat) -> ((RelaySeat, RelaySeat), (RelaySeat
 fn pairs<N: DeskName + Send + Sync, R: Threads + Wait + Sync>(
     rt: &R,
     alloc: Global,
-    desk: (&Desk<N>, &DeskKey<N>),
+    desk: (&Desk<N>, &DeskKeys<N>),
     seats: ((RelaySeat, RelaySeat), (RelaySeat, RelaySeat)),
     share: Share,
 ) -> u64
@@ -230,7 +229,7 @@ fn pairs<N: DeskName + Send + Sync, R: Threads + Wait + Sync>(
 fn two<N: DeskName + Send + Sync, R: Threads + Wait + Sync>(
     rt: &R,
     alloc: Global,
-    desk: (&Desk<N>, &DeskKey<N>),
+    desk: (&Desk<N>, &DeskKeys<N>),
     seats: (RelaySeat, RelaySeat),
     share: Share,
 ) -> u64
@@ -254,7 +253,7 @@ fn two<N: DeskName + Send + Sync, R: Threads + Wait + Sync>(
 fn serve<N: DeskName, R: Wait>(
     rt: &R,
     alloc: Global,
-    desk: (&Desk<N>, &DeskKey<N>),
+    desk: (&Desk<N>, &DeskKeys<N>),
     relay: RelaySeat,
     share: Share,
 ) -> u64
@@ -304,7 +303,7 @@ struct Stands<N: DeskName> {
 fn arrive<N: DeskName, R: Wait>(
     rt: &R,
     alloc: Global,
-    desk: (&Desk<N>, &DeskKey<N>),
+    desk: (&Desk<N>, &DeskKeys<N>),
     moment: u64,
 ) -> Option<Stands<N>> {
     let moment = Moment::new(moment)?;
@@ -320,7 +319,7 @@ fn arrive<N: DeskName, R: Wait>(
 fn admit<N: DeskName, R: Wait>(
     rt: &R,
     alloc: Global,
-    desk: (&Desk<N>, &DeskKey<N>),
+    desk: (&Desk<N>, &DeskKeys<N>),
     moment: Moment,
 ) -> Result<Stands<N>, Refusal> {
     let wanted = Wanted {
@@ -328,20 +327,18 @@ fn admit<N: DeskName, R: Wait>(
         offset: Offset::clamp(0),
         pin: None,
     };
-    let mut woken = PlaceSet::new();
-    let it = desk
-        .0
-        .open(desk.1)
-        .arrive(rt, alloc, moment, wanted, &mut woken)?;
+    let (answer, changed) = desk.0.open(&desk.1.desk).arrive(rt, alloc, moment, wanted);
+    // What was changed can't be dropped.
+    changed.take(&desk.1.wake);
     Ok(Stands {
-        it,
+        it: answer?,
         of: PhantomData,
     })
 }
 
 // Takes and posts the request's pass where it is offered. Says whether it was.
 fn take<N: DeskName>(
-    desk: (&Desk<N>, &DeskKey<N>),
+    desk: (&Desk<N>, &DeskKeys<N>),
     relay: &mut RelaySeat,
     stands: &Stands<N>,
 ) -> bool
@@ -359,8 +356,10 @@ fn take<N: DeskName>(
 }
 
 // Begins the next window; what is told of the one that ended isn't used.
-fn begin_window<N: DeskName, R: Wait>(rt: &R, alloc: Global, desk: (&Desk<N>, &DeskKey<N>)) {
-    match desk.0.open(desk.1).roll(rt, alloc) {
+fn begin_window<N: DeskName, R: Wait>(rt: &R, alloc: Global, desk: (&Desk<N>, &DeskKeys<N>)) {
+    let (ended, changed) = desk.0.open(&desk.1.desk).roll(rt, alloc);
+    changed.take(&desk.1.wake);
+    match ended {
         Ok(
             EndedWindow {
                 reports: _,
@@ -371,11 +370,21 @@ fn begin_window<N: DeskName, R: Wait>(rt: &R, alloc: Global, desk: (&Desk<N>, &D
     }
 }
 
-fn turn<N: DeskName, R: Wait>(rt: &R, alloc: Global, desk: (&Desk<N>, &DeskKey<N>), moment: u64) {
-    let mut woken = PlaceSet::new();
+fn turn<N: DeskName, R: Wait>(rt: &R, alloc: Global, desk: (&Desk<N>, &DeskKeys<N>), moment: u64) {
     let moment = Moment::new(moment).unwrap_or(Moment::zero());
-    if desk.0.open(desk.1).turn(rt, moment, &mut woken).is_err() {
+    if turn_once(rt, desk, moment).is_err() {
         begin_window(rt, alloc, desk);
-        let _ = desk.0.open(desk.1).turn(rt, moment, &mut woken);
+        let _ = turn_once(rt, desk, moment);
     }
+}
+
+// The answer of a turn. The places with its offers aren't used: each thread looks at its own.
+fn turn_once<N: DeskName, R: Wait>(
+    rt: &R,
+    desk: (&Desk<N>, &DeskKeys<N>),
+    moment: Moment,
+) -> Result<(), Refusal> {
+    let (answer, changed) = desk.0.open(&desk.1.desk).turn(rt, moment);
+    changed.take(&desk.1.wake);
+    answer
 }

@@ -8,7 +8,7 @@ use log_lines::{
 };
 use log_reading::Batch;
 use log_texts::Names;
-use shared_desk::Desk;
+use shared_desk::{Desk, LogKey};
 use std::alloc::{AllocError, Global};
 use std::collections::VecDeque;
 use std::net::SocketAddr;
@@ -90,17 +90,18 @@ impl Scribe {
         })
     }
 
-    /// Writes the lines of a desk's log, until all loops have ended and all is written.
+    /// Writes the lines of a desk's log, which the key opens, until all loops have ended and all is
+    /// written.
     pub fn write_all<N: DeskName, R: Clock + Wait>(
         self,
         rt: &R,
         log: &RequestLog,
-        desk: &Desk<N>,
+        desk: (&Desk<N>, &LogKey<N>),
         site: LogSubject<'_>,
     ) {
         let LogSubject { names, address } = site;
         let mut scribe = self;
-        if desk.follow(rt, scribe.alloc, TAIL).is_err() {
+        if desk.0.follow(rt, desk.1, scribe.alloc, TAIL).is_err() {
             return;
         }
         scribe.say(rt, log, names, ProxyEvent::Started);
@@ -128,15 +129,15 @@ impl Scribe {
         &mut self,
         rt: &R,
         log: &RequestLog,
-        desk: &Desk<N>,
+        desk: (&Desk<N>, &LogKey<N>),
         names: &Names,
     ) -> bool {
         // The loops go on meanwhile: what they hand on from here is taken the next time, so that no
         // line stands before an earlier one.
         let has_more = self.gather(log.told());
         // The log has the entries of each exchange whose record was taken.
-        desk.read_new(rt, &mut self.batch);
-        self.take_in(rt, log, desk, names);
+        desk.0.read_new(rt, desk.1, &mut self.batch);
+        self.take_in(rt, log, desk.0, names);
         self.count_ends(rt, log);
         self.write_lines(rt, log, names);
         self.tell_changes(rt, log, names);

@@ -61,10 +61,10 @@ impl Tallies {
     /// desk does at the same time may be counted twice or not at all.
     pub(crate) fn set_anew<N: DeskName, R: Wait>(&mut self, rt: &R, desk: &Desk<N>) {
         for (server, served) in self.served.as_mut_slice().iter_mut().enumerate() {
-            *served = desk.served(rt, server);
+            *served = desk.look(rt).book().served(server);
         }
         for (number, length) in self.lengths.as_mut_slice().iter_mut().enumerate() {
-            length.waiting = desk.queued(rt, queue_of(number));
+            length.waiting = desk.look(rt).book().queued(queue_of(number));
         }
     }
 

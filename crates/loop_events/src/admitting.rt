@@ -70,7 +70,7 @@ impl<
         if place < MOST_PLACES {
             here.insert(place);
         }
-        self.gate.wake(&here);
+        self.gate.add_woken(&here);
     }
 
     // Tells a request that it gets no place.

@@ -181,7 +181,7 @@ impl<
     // Reads what other loops report of places.
     fn open_mail(&mut self) {
         let places = self.shared.take_mail(self.rt, self.home);
-        self.gate.wake(&places);
+        self.gate.add_woken(&places);
         if self.shared.is_stopping() {
             self.more = true;
             self.dismiss_silent();

@@ -192,7 +192,9 @@ impl<
     // Tells the requests that waited too long for a pass.
     fn look_at_queues(&mut self) {
         let now = self.gate.moment();
-        if self.shared.proxy.desk.expired(self.rt, now) {
+        let desk = &self.shared.proxy.desk;
+        let is_due = desk.look(self.rt).book().expired(now);
+        if is_due {
             let _ = self.shared.proxy.turn(self.rt, &mut self.gate);
             self.go_on();
         }

@@ -1,13 +1,13 @@
 //! The thread that checks the servers, and how threads that aren't loops report places.
 
 use crate::shared::Shared;
-use base_places::PlaceSet;
 use dispatch_reports::EndedWindow;
 use due_key::Moment;
 use grant_board::RelaySeat;
 use locked_book::DeskName;
 use relay_workers::{Gate, Slot, checker};
 use run_gate::{Pauses, SocketGate};
+use shared_desk::Changed;
 use std::net::{Net, TcpListener, TcpStream};
 use std::sync::Wait;
 use std::sync::atomic::AtomicBool;
@@ -69,12 +69,13 @@ impl<
         self.gate.moment()
     }
 
-    fn window(&mut self, window: EndedWindow) {
-        self.gate.window(window);
+    fn window<M: DeskName>(&mut self, window: EndedWindow, changed: Changed<M>) {
+        self.gate.window(window, changed);
     }
 
-    fn wake(&mut self, places: &PlaceSet) {
-        self.shared.send_places(self.rt, places);
+    fn wake<M: DeskName>(&mut self, changed: Changed<M>) {
+        let places = changed.take(self.shared.front.wakes);
+        self.shared.send_places(self.rt, &places);
     }
 }
 

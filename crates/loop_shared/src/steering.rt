@@ -34,16 +34,18 @@ impl<
     }
 
     fn standing(&self, server: usize) -> Standing {
-        let desk = &self.shared.proxy.desk;
+        let looking = self.shared.proxy.desk.look(self.rt);
+        let book = looking.book();
         Standing {
-            up: desk.up(self.rt, server),
-            served: desk.served(self.rt, server),
-            waiting: desk.queued(self.rt, Queue::Server(server)),
+            up: book.up(server),
+            served: book.served(server),
+            waiting: book.queued(Queue::Server(server)),
         }
     }
 
     fn waiting(&self) -> usize {
-        let inside = self.shared.proxy.desk.queued(self.rt, Queue::Backend);
+        let desk = &self.shared.proxy.desk;
+        let inside = desk.look(self.rt).book().queued(Queue::Backend);
         let outside = self.shared.outsiders() as usize;
         inside.saturating_add(outside)
     }
@@ -57,10 +59,8 @@ impl<
     }
 
     fn reports(&self) -> Result<Reports, AllocError> {
-        self.shared
-            .proxy
-            .desk
-            .report(self.rt, self.shared.proxy.alloc)
+        let proxy = self.shared.proxy;
+        proxy.desk.look(self.rt).book().report(proxy.alloc)
     }
 
     fn limit(&mut self, server: usize, intake: Intake) -> Result<(), Refusal> {

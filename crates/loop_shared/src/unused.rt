@@ -79,7 +79,7 @@ impl<N: DeskName + Ledger> Shared<'_, N> {
         }
         match self.front.config.servers.as_slice().get(server) {
             Some(config) if config.maxconn != 0 => {
-                let served = self.proxy.desk.served(rt, server) as u64;
+                let served = self.proxy.desk.look(rt).book().served(server) as u64;
                 u64::from(config.maxconn) < served.saturating_add(unused)
             }
             _ => false,

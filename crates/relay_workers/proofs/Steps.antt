@@ -1,11 +1,12 @@
 -- What a gate notes, one step after the other.
-use Rattle.std.proofs.Common.{◌≡◌, ◌∷◌, ◌++◌, [], ℕ, Bool, List, Option, Result, Ok, Err, IfOk, refl, subst, ◌<◌, zero, suc, length, slice_index_or, arith}
+use Rattle.std.proofs.Common.{◌≡◌, ◌∷◌, ◌++◌, [], ℕ, Bool, List, Option, Result, Ok, Err, IfOk, IfErr, refl, subst, ◌<◌, zero, suc, length, slice_index_or, arith}
 use Rattle.grant_board.specs.Views.{Terms}
 use Rattle.log_entries.specs.declared.refusal.Refusal.{Refusal}
 use Rattle.log_entries.specs.declared.setup.Setup.{Setup}
 use Rattle.relay_workers.specs.Gates.{Notice}
 use Rattle.relay_workers.specs.Tallies.{tally_noted, all_noted}
-use Rattle.relay_workers.specs.Turning.{AnswersAbort, AnswersCheck, AnswersTurn, IsAnswered, HasTurned, GivesUp, Reports}
+use Rattle.relay_workers.specs.Turning.{IsAnswered, HasTurned, GivesUp, Reports}
+use Rattle.shared_desk.specs.Answers.{AnswersAbort, AnswersCheck, AnswersTurn}
 use Rattle.relay_workers.specs.declared.outcome.Outcome.{Outcome}
 use Rattle.relay_workers.specs.declared.tally.Tally.{Tally}
 
@@ -13,6 +14,11 @@ use Rattle.relay_workers.specs.declared.tally.Tally.{Tally}
 pub known_both : {A E : Type 0} {P : Type 0} (Q : A → Type 0) (answer : Result A E) → P → IfOk answer Q → IfOk answer (λ it. P × Q it)
 known_both Q (Ok it) p q = (p, q)
 known_both Q (Err error) p q = tt
+
+-- the same of an Err
+pub known_both_err : {A E : Type 0} {P : Type 0} (Q : E → Type 0) (answer : Result A E) → P → IfErr answer Q → IfErr answer (λ it. P × Q it)
+known_both_err Q (Ok it) p q = tt
+known_both_err Q (Err error) p q = (p, q)
 
 -- what is read where there is something is the same, whatever else would be
 pub same_read : (xs : List ℕ) (i a b : ℕ) → i < length xs → slice_index_or xs i a ≡ slice_index_or xs i b

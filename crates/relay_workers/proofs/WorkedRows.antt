@@ -1,11 +1,14 @@
 -- Worked examples of what is said of a client, a gate, a checker and a crew; and wrong ones, which don't hold.
-use Rattle.std.proofs.Common.{◌≡◌, ℕ, List, [], ◌∷◌, Option, Some, None, Ok, Err, inl, refl, ap, arith, inr, length, replicate, ◌-◌, ◌^◌}
+use Rattle.std.proofs.Common.{◌≡◌, ℕ, List, [], ◌∷◌, Option, Some, None, Result, Ok, Err, inl, refl, ap, arith, inr, length, replicate, ◌-◌, ◌^◌}
 use Rattle.std.specs.List.{AllZip}
 use Rattle.dispatch_state.specs.declared.position.Ticketed.{Ticketed}
 use Rattle.grant_board.specs.Views.{Terms}
 use Rattle.http_texts.specs.declared.fault.Fault.TheVariants.{Head, Write}
 use Rattle.http_texts.specs.declared.refusals.Code.TheVariants.{BadRequest, BadGateway}
+use Rattle.log_entries.specs.declared.refusal.Refusal.{Refusal}
+use Rattle.log_entries.specs.declared.refusal.Refusal.TheVariants.{LogFull}
 use Rattle.log_entries.specs.declared.setup.Setup.{Setup}
+use Rattle.shared_desk.specs.Changes.{Change}
 use Rattle.proxy_config.specs.declared.parts.Checks.{Checks}
 use Rattle.proxy_config.specs.declared.parts.Config.{Config}
 use Rattle.proxy_config.specs.declared.parts.Server.{Server}
@@ -58,16 +61,26 @@ read_from untouched = omega (arith, ap many untouched.left_is)
 notes_nothing : noted {C = ℕ} {S = ℕ} HasLeft None ≡ None
 notes_nothing = refl
 
--- a gate was told of the places of a call
-was_told : (terms : Terms) (setup : Setup) → WasTold {C = ℕ} {S = ℕ} terms setup (λ places. ⊥) [] (Some []) (Some (Told [] ∷ []))
-was_told terms setup = inl refl
+-- a gate was told what a call changed
+was_told : (terms : Terms) (setup : Setup) (change : Change)
+    → WasTold {C = ℕ} {S = ℕ} (λ (it : Change). it) terms setup (λ (result : Result (Unit {0}) Refusal) it. result ≡ Ok tt) (Ok tt) (Some []) (Some (Told change ∷ []))
+was_told terms setup change = inl (change, refl, (λ is. cc), refl)
 
--- it wasn't told twice of a call that no state refuses
-told_twice : (terms : Terms) (setup : Setup)
-    → ¬ (WasTold {C = ℕ} {S = ℕ} terms setup (λ places. ⊥) [] (Some []) (Some (Told [] ∷ Told [] ∷ [])))
+-- it wasn't told twice of a call that isn't refused
+told_twice : (terms : Terms) (setup : Setup) (change : Change)
+    → ¬ (WasTold {C = ℕ} {S = ℕ} (λ (it : Change). it) terms setup (λ (result : Result (Unit {0}) Refusal) it. result ≡ Ok tt) (Ok tt) (Some []) (Some (Told change ∷ Told change ∷ [])))
 unfolding many
-told_twice terms setup (inl once) = omega (arith, ap many once)
-told_twice terms setup (inr again) = again.1
+told_twice terms setup change (inl once) = omega (arith, ap many once.3)
+told_twice terms setup change (inr again) = (let refused = again.1 in cc)
+
+-- a call that is refused since the log is full is made again, or finds no memory for room
+refused_at_once : (terms : Terms) (setup : Setup) (change : Change)
+    → ¬ (WasTold {C = ℕ} {S = ℕ} (λ (it : Change). it) terms setup (λ (result : Result (Unit {0}) Refusal) it. result ≡ Err LogFull) (Err LogFull) (Some []) (Some (Told change ∷ [])))
+unfolding many
+refused_at_once terms setup change (inl once) = once.2 refl
+refused_at_once terms setup change (inr (earlier, refused, room, inl (None, again, made, answers, is))) = omega (arith, ap many is)
+refused_at_once terms setup change (inr (earlier, refused, room, inl (Some window, again, made, answers, is))) = omega (arith, ap many is)
+refused_at_once terms setup change (inr (earlier, refused, room, inr (fault, made, same, is))) = omega (arith, ap many is)
 
 -- where there is no server none is due, and nothing else
 no_servers : IsDue [] 0 0 0 None

@@ -1,5 +1,5 @@
 -- Requests that have a place.
-use Rattle.std.specs.Prelude.{ℕ, ◌<◌, pos, ◌+ℤ◌, List, Option, Result, Ok, Err}
+use Rattle.std.specs.Prelude.{ℕ, ◌<◌, pos, ◌+ℤ◌, Option}
 use Rattle.queue_outside.specs.Admission.{due_at}
 use Rattle.log_entries.specs.declared.entry.Entry.{Entry}
 use Rattle.log_entries.specs.declared.entry.Entry.TheVariants.{Arrive}
@@ -15,7 +15,6 @@ use Rattle.prio_rules.specs.Wishes.{wish}
 use Rattle.prio_rules.specs.declared.wish.Wish.{Wish}
 use Rattle.proxy_config.specs.declared.parts.Config.{Config}
 use Rattle.relay_workers.specs.Boards.{IsBoardOf}
-use Rattle.relay_workers.specs.Turning.{AreNone, Offers}
 use Rattle.req_view.specs.Request.{Request}
 
 -- the event of its arrival with this wish: its class, its offset and its pin
@@ -74,10 +73,3 @@ IsRefusedFor terms setup pin refusal = SomeHeld terms setup (λ held. RefusedOrN
 -- the same with the pin of the rules, at a board of the configuration whose rules they are
 abbrev pub WishIsTurnedAway : Terms → Setup → Config → Request → Refusal → Type 0
 WishIsTurnedAway terms setup config request refusal = IsBoardOf config terms × IsRefusedFor terms setup (wish config request).pin refusal
-
--- What the desk answers to an arrival, and the places with the offers: it has a place of the board,
--- and the event was added at this moment; or it is refused with this pin, and there are none.
-abbrev pub AnswersArrival : Terms → Setup → (Ticketed → ℕ → Entry) → Option ℕ → ℕ → Result Ticketed Refusal → List ℕ → Type 0
-AnswersArrival terms setup event pin moment (Ok it) places =
-    (it.place < terms.places) × Offers terms setup (λ history. event it (effective history moment)) places
-AnswersArrival terms setup event pin moment (Err refusal) places = AreNone places × IsRefusedFor terms setup pin refusal

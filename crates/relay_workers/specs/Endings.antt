@@ -17,7 +17,8 @@ use Rattle.relay_http.specs.declared.exchange.Exchange.{Exchange}
 use Rattle.relay_http.specs.declared.exchange.Stage.TheVariants as stage
 use Rattle.relay_http.specs.Askings.{HasReadHead}
 use Rattle.relay_http.specs.Failures.{Misses}
-use Rattle.relay_workers.specs.Admissions.{arrival, AnswersArrival, WishIsTurnedAway}
+use Rattle.relay_workers.specs.Admissions.{arrival, WishIsTurnedAway}
+use Rattle.shared_desk.specs.Answers.{AnswersArrival}
 use Rattle.relay_workers.specs.Carrying.{IsTold}
 use Rattle.relay_workers.specs.Gates.{Notice, noted}
 use Rattle.relay_workers.specs.Gates.Notice.{Released}

@@ -10,7 +10,8 @@ use Rattle.proxy_config.specs.declared.parts.Config.{Config}
 use Rattle.relay_http.specs.Askings.{HasReadHead}
 use Rattle.relay_http.specs.States.{Serves}
 use Rattle.relay_http.specs.declared.exchange.Exchange.{Exchange}
-use Rattle.relay_workers.specs.Admissions.{arrival, AnswersArrival}
+use Rattle.relay_workers.specs.Admissions.{arrival}
+use Rattle.shared_desk.specs.Answers.{AnswersArrival}
 use Rattle.relay_workers.specs.Carrying.{IsUntouched, IsServed}
 use Rattle.relay_workers.specs.Endings.{EndsUnder, IsSent, IsTurnedAway}
 use Rattle.relay_workers.specs.Gates.{Notice, noted}

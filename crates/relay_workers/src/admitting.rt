@@ -4,7 +4,8 @@ ghost use Rattle.relay_http.specs.Askings.{HasReadHead};
 ghost use Rattle.relay_http.specs.States.{IsFresh, IsOpen};
 ghost use Rattle.relay_http.specs.declared.exchange.Stage.TheVariants as stage;
 ghost use Rattle.relay_http.specs.declared.exchange.Stage.TheVariants.{Asked};
-ghost use Rattle.relay_workers.specs.Admissions.{arrival, late_arrival, AnswersArrival, IsAdmitted, IsAdmittedAs, IsAdmittedLate, IsRequestAt, WishIsTurnedAway, IsRefusedFor};
+ghost use Rattle.relay_workers.specs.Admissions.{arrival, late_arrival, IsAdmitted, IsAdmittedAs, IsAdmittedLate, IsRequestAt, WishIsTurnedAway, IsRefusedFor};
+ghost use Rattle.shared_desk.specs.Answers.{AnswersArrival};
 ghost use Rattle.relay_workers.specs.declared.outcome.Outcome.TheVariants.{Answered, Refused};
 ghost use Rattle.prio_rules.specs.Wishes.{wish};
 ghost use Rattle.relay_workers.specs.Carrying.{IsTold};
@@ -13,16 +14,16 @@ ghost use Rattle.relay_workers.specs.Endings.{IsTurnedAway, IsSent};
 ghost use Rattle.relay_workers.specs.Gates.{noted};
 ghost use Rattle.relay_workers.specs.Gates.Notice.{Released};
 
-use crate::asking::Offered;
 use crate::gate::Gate;
 use crate::outcome::Outcome;
 use crate::proxy::{Proxy, Runner};
 use dispatch_state::Ticketed;
-use locked_book::{Deferred, DeskName};
+use locked_book::{Deferred, DeskName, Wanted};
 use log_entries::Refusal;
 use prio_rules::{Wish, decide};
 use relay_http::{Code, Exchange};
 use req_view::View;
+use shared_desk::Changed;
 use std::io::{Read, Write};
 use std::marker::PhantomData;
 use std::sync::Wait;
@@ -149,12 +150,15 @@ pub fn arrive_as<R: Wait, N: DeskName, G: Gate>(
     proxy.retry_in_new_window(
         rt,
         gate,
-        || -> (Result<Ticketed, Refusal>, Offered)
+        || -> (Result<Ticketed, Refusal>, Changed<N>)
             ensures { AnswersArrival N.terms N.setup (arrival wish.entry.now) wish.entry.now.pin moment result.0 result.1 }
         {
-            proxy
-                .asking
-                .arrive(rt, &proxy.desk, proxy.alloc, moment, wish)
+            let wanted = Wanted {
+                class: wish.class,
+                offset: wish.offset,
+                pin: wish.pin,
+            };
+            proxy.open().arrive(rt, proxy.alloc, moment, wanted)
         },
     )
 }
@@ -175,12 +179,10 @@ pub fn arrive_late<R: Wait, N: DeskName, G: Gate>(
     proxy.retry_in_new_window(
         rt,
         gate,
-        || -> (Result<Ticketed, Refusal>, Offered)
+        || -> (Result<Ticketed, Refusal>, Changed<N>)
             ensures { AnswersArrival N.terms N.setup (late_arrival deferred) deferred.pin moment result.0 result.1 }
         {
-            proxy
-                .asking
-                .arrive_due(rt, &proxy.desk, proxy.alloc, moment, deferred)
+            proxy.open().arrive_due(rt, proxy.alloc, moment, deferred)
         },
     )
 }

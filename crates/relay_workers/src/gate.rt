@@ -6,11 +6,11 @@ ghost use Rattle.relay_workers.specs.Gates.Notice.{Came, NoMore, IsThere, HasLef
 ghost use Rattle.relay_workers.specs.Windows.{WindowHasEnded};
 
 use crate::slot::Slot;
-use base_places::PlaceSet;
 use dispatch_reports::EndedWindow;
 use due_key::Moment;
 use grant_board::RelaySeat;
 use locked_book::DeskName;
+use shared_desk::Changed;
 use std::io::{Read, Write};
 
 /// The source of a thread's clients, connections and moments. Each thread has its own.
@@ -67,13 +67,14 @@ pub trait Gate {
     /// Takes what is told of a window that ended, because the log was full or its time was over.
     /// Each window goes to the gate of one thread, and they may come to the gates in another order
     /// than they ended.
-    fn window(&mut self, window: EndedWindow)
+    fn window<N: DeskName>(&mut self, window: EndedWindow, changed: Changed<N>)
         requires { WindowHasEnded window }
-        ensures { notes self.new ≡ noted (Ended window) (notes self.old) };
+        ensures { notes self.new ≡ noted (Ended window changed) (notes self.old) };
 
-    /// Is told after a call of the dispatcher at which places it offered verdicts. The lock is free then.
-    fn wake(&mut self, places: &PlaceSet)
-        ensures { notes self.new ≡ noted (Told places.now) (notes self.old) };
+    /// Is told after a call of the desk what it changed, and at which places it offered verdicts.
+    /// The lock is free then.
+    fn wake<N: DeskName>(&mut self, changed: Changed<N>)
+        ensures { notes self.new ≡ noted (Told changed) (notes self.old) };
 }
 
 /// A bound on the pauses of a thread.

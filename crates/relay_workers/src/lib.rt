@@ -8,7 +8,6 @@
 #![tactic(auto)]
 
 mod admitting;
-mod asking;
 mod checking;
 mod crew;
 mod finished;
@@ -20,6 +19,7 @@ mod proxy;
 mod slot;
 mod stopping;
 mod tally;
+mod telling;
 mod waiting;
 mod working;
 
@@ -30,7 +30,7 @@ pub use finishing::finish;
 pub use gate::{Gate, Pause};
 pub use lending::{join_all, split_off};
 pub use outcome::Outcome;
-pub use proxy::{Proxy, Runner, Worker};
+pub use proxy::{Proxy, ProxyKeys, Runner, Worker};
 pub use slot::Slot;
 pub use stopping::{StopFlag, Stopped, TURNS};
 pub use tally::Tally;

@@ -1,4 +1,4 @@
-ghost use Rattle.std.specs.Prelude.{◌≡◌, ◌<◌, ℕ, List, [], length, IfOk, OnOk, OnErr, Err};
+ghost use Rattle.std.specs.Prelude.{◌≡◌, ◌<◌, ℕ, List, [], length, IfOk, IfErr, OnOk, Ok, Err, Option};
 ghost use Rattle.config_setup.specs.Setups.{SetupIsAsked};
 ghost use Rattle.dispatch_reports.specs.Reporting.{IsNew};
 ghost use Rattle.grant_board.specs.KeeperCalls.{new_keeper};
@@ -9,13 +9,17 @@ ghost use Rattle.proxy_config.specs.Sound.{IsSoundConfig};
 ghost use Rattle.relay_http.specs.States.{IsFresh};
 ghost use Rattle.relay_workers.specs.Boards.{IsBoardOf};
 ghost use Rattle.relay_workers.specs.Gates.{noted};
-ghost use Rattle.relay_workers.specs.Gates.Notice.{Ended};
-ghost use Rattle.relay_workers.specs.Turning.{AnswersAbort, AnswersCheck, AnswersCollect, AnswersLimit, AnswersTurn, EndsWindow, IsAnswered, WasTold};
+ghost use Rattle.relay_workers.specs.Gates.Notice.{Ended, Told};
+ghost use Rattle.shared_desk.specs.Changes.{Change};
+ghost use Rattle.std.specs.Bool.{OnTrue, OnFalse};
+ghost use Rattle.std.specs.declared.alloc.AllocError.{AllocError};
+ghost use Rattle.relay_workers.specs.Turning.{IsAnswered, WasTold, with_room};
+ghost use Rattle.shared_desk.specs.Answers.{AnswersAbort, AnswersCheck, AnswersCollect, AnswersLimit, AnswersRoll, AnswersTurn, MakesRoom};
 ghost use Rattle.dispatch_reports.specs.declared.reporting.EndedWindow.{EndedWindow};
 
-use crate::asking::{Asking, Offered};
 use crate::gate::{Gate, Pause};
 use crate::stopping::TURNS;
+use crate::telling::Tells;
 use dispatch_core::Core;
 use grant_board::{Board, KeeperSeat, Return};
 use late_cert::Running;
@@ -23,7 +27,7 @@ use locked_book::DeskName;
 use log_entries::{Intake, Refusal};
 use proxy_config::Config;
 use relay_http::Exchange;
-use shared_desk::{Desk, DeskQueue};
+use shared_desk::{Changed, Desk, DeskKey, DeskKeys, DeskQueue, LogKey, OpenDesk, WakeKey};
 use std::alloc::{AllocError, Global};
 use std::marker::PhantomData;
 use std::sync::Wait;
@@ -35,12 +39,20 @@ use std::sync::Wait;
 pub struct Proxy<N: DeskName> {
     pub alloc: Global,
     pub desk: Desk<N>,
-    pub(crate) asking: Asking<N>,
+    key: DeskKey<N>,
     pub config: Config,
     of: PhantomData<N>,
     pub ghost its_board: { IsBoardOf config N.terms },
     pub ghost its_setup: { SetupIsAsked config N.setup },
     pub ghost sound: { ∥ IsSoundConfig config ∥₁ },
+}
+
+/// The keys that aren't a proxy's own: its gates have the one for offers, and the thread that reads
+/// its log has the other.
+#[derive(Drop)]
+pub struct ProxyKeys<N: DeskName> {
+    pub log: LogKey<N>,
+    pub wake: WakeKey,
 }
 
 /// The means to hand messages on: a gate, and one exchange for all its clients, one after the other.
@@ -73,14 +85,14 @@ impl<G: Gate + Drop, P: Pause + Drop> Worker<G, P> {
 
 impl<N: DeskName> Proxy<N> {
     /// Makes a proxy of an accepted configuration, over a fresh dispatcher with the configuration's
-    /// setup, and a board that was opened for it.
+    /// setup, and a board that was opened for it. Returns the keys that aren't its own, too.
     pub fn new(
         alloc: Global,
         config: Config,
         core: Core<DeskQueue>,
         running: Running,
         opened: (Board, KeeperSeat),
-    ) -> Proxy<N>
+    ) -> (Proxy<N>, ProxyKeys<N>)
         requires sound { IsSoundConfig config }
         requires asked { SetupIsAsked config core.setup }
         requires first { core ≡ first_window core.setup [] }
@@ -89,17 +101,28 @@ impl<N: DeskName> Proxy<N> {
         requires terms { N.terms ≡ terms_for core.setup }
         requires setup { N.setup ≡ core.setup }
         requires seat { opened.1.view ≡ new_keeper N.terms }
-        ensures config { result.config ≡ config }
+        ensures config { result.0.config ≡ config }
     {
         let (board, seat) = opened;
-        let (desk, key) = Desk::new(core, board, seat, running);
-        Proxy {
+        let (desk, keys) = Desk::new(core, board, seat, running);
+        let DeskKeys {
+            desk: key,
+            log,
+            wake,
+        } = keys;
+        let proxy = Proxy {
             alloc,
             desk,
-            asking: Asking::new(key),
+            key,
             config,
             of: PhantomData,
-        }
+        };
+        (proxy, ProxyKeys { log, wake })
+    }
+
+    // Opens the desk for calls that change what its lock holds.
+    pub(crate) fn open(&self) -> OpenDesk<'_, N> {
+        self.desk.open(&self.key)
     }
 
     /// Makes a turn of the desk, which looks at each place that is out. Refused as the desk's `turn`
@@ -112,9 +135,9 @@ impl<N: DeskName> Proxy<N> {
         self.retry_in_new_window(
             rt,
             gate,
-            || -> (Result<(), Refusal>, Offered)
+            || -> (Result<(), Refusal>, Changed<N>)
                 ensures { AnswersTurn N.terms N.setup moment result.0 result.1 }
-            { self.asking.turn(rt, &self.desk, moment) },
+            { self.open().turn(rt, moment) },
         )
     }
 
@@ -133,10 +156,10 @@ impl<N: DeskName> Proxy<N> {
         self.retry_in_new_window(
             rt,
             gate,
-            || -> (Result<Option<Return>, Refusal>, Offered)
+            || -> (Result<Option<Return>, Refusal>, Changed<N>)
                 requires { place < N.terms.places }
                 ensures { AnswersCollect N.terms N.setup place moment result.0 result.1 }
-            { self.asking.collect_at(rt, &self.desk, moment, place) },
+            { self.open().collect_at(rt, moment, place) },
         )
     }
 
@@ -154,9 +177,9 @@ impl<N: DeskName> Proxy<N> {
         self.retry_in_new_window(
             rt,
             gate,
-            || -> (Result<(), Refusal>, Offered)
+            || -> (Result<(), Refusal>, Changed<N>)
                 ensures { AnswersCheck N.terms N.setup server ok moment result.0 result.1 }
-            { self.asking.check(rt, &self.desk, moment, server, ok) },
+            { self.open().check(rt, moment, server, ok) },
         )
     }
 
@@ -174,9 +197,9 @@ impl<N: DeskName> Proxy<N> {
         self.retry_in_new_window(
             rt,
             gate,
-            || -> (Result<(), Refusal>, Offered)
+            || -> (Result<(), Refusal>, Changed<N>)
                 ensures { AnswersAbort N.terms N.setup ticket moment result.0 result.1 }
-            { self.asking.abort(rt, &self.desk, moment, ticket) },
+            { self.open().abort(rt, moment, ticket) },
         )
     }
 
@@ -194,49 +217,78 @@ impl<N: DeskName> Proxy<N> {
         self.retry_in_new_window(
             rt,
             gate,
-            || -> (Result<(), Refusal>, Offered)
+            || -> (Result<(), Refusal>, Changed<N>)
                 ensures { AnswersLimit N.terms N.setup server intake moment result.0 result.1 }
-            { self.asking.limit(rt, &self.desk, moment, server, intake) },
+            { self.open().limit(rt, moment, server, intake) },
         )
     }
 
     /// Ends the present window, which the gate takes. Where there is no memory for that, the window goes on.
     pub fn end_window<R: Wait, G: Gate>(&self, rt: &R, gate: &mut G) -> Result<(), AllocError>
-        ensures ok { OnOk result ((window : EndedWindow) × EndsWindow N.terms N.setup window × (G.notes gate.new ≡ noted (Ended window) (G.notes gate.old))) }
-        ensures err { OnErr result (G.notes gate.new ≡ G.notes gate.old) }
+        ensures ok { OnOk result ((window : EndedWindow) × (change : Change) × AnswersRoll N.terms N.setup (Ok window) change × (G.notes gate.new ≡ noted (Ended window change) (G.notes gate.old))) }
+        ensures err { IfErr result (λ fault. (change : Change) × AnswersRoll N.terms N.setup (Err fault) change × (G.notes gate.new ≡ noted (Told change) (G.notes gate.old))) }
     {
-        let window = self.asking.roll(rt, &self.desk, self.alloc)?;
-        window.hand_over(gate);
-        Ok(())
+        let (ended, changed) = self.open().roll(rt, self.alloc);
+        match ended {
+            Ok(window) => {
+                gate.window(window, changed);
+                Ok(())
+            }
+            Err(fault) => {
+                gate.wake(changed);
+                Err(fault)
+            }
+        }
     }
 
-    // Makes a call of the desk, and tells the gate at which places it offered verdicts. Where the
-    // log is full the next window begins, the gate takes the one that ended, and the call is made
-    // once more; where there is no memory for that, it stays refused. An answer that isn't a refusal
-    // can't be dropped here, since `T` has no `Drop`.
+    // Makes a call of the desk, and tells the gate what it changed. Where the log is full the next
+    // window begins, the gate takes the one that ended, and the call is made once more; where there
+    // is no memory for that, it stays refused. An answer that isn't a refusal can't be dropped here,
+    // since `T` has no `Drop`.
     pub(crate) fn retry_in_new_window<
         R: Wait,
         G: Gate,
         T,
-        F: Fn() -> (Result<T, Refusal>, Offered),
+        C: Tells,
+        F: Fn() -> (Result<T, Refusal>, C),
     >(&self, rt: &R, gate: &mut G, call: F) -> Result<T, Refusal>
         requires { F.IsAlwaysCallable call }
-        ensures { (places : List ℕ) × F.post call (result, places)
-            × WasTold N.terms N.setup (λ earlier. F.post call (Err LogFull, earlier)) places (G.notes gate.old) (G.notes gate.new) }
+        ensures { WasTold C.change N.terms N.setup (λ answer told. F.post call (answer, told)) result (G.notes gate.old) (G.notes gate.new) }
     {
-        let (answer, offered) = call();
-        offered.tell(gate);
+        let (answer, changed) = call();
+        changed.tell(gate);
         match answer {
             Err(Refusal::LogFull) => {}
             answer => return answer,
         }
-        match self.asking.make_room(rt, &self.desk, self.alloc) {
-            Ok(Some(window)) => window.hand_over(gate),
-            Ok(None) => {}
-            Err(_) => return Err(Refusal::LogFull),
+        if !self.find_room(rt, gate) {
+            return Err(Refusal::LogFull);
         }
-        let (answer, offered) = call();
-        offered.tell(gate);
+        let (answer, changed) = call();
+        changed.tell(gate);
         answer
+    }
+
+    // Begins the next window where the log has no room for an event; the gate takes the one that
+    // ended. Says whether there is room then.
+    fn find_room<R: Wait, G: Gate>(&self, rt: &R, gate: &mut G) -> bool
+        ensures there { OnTrue result ((found : Option EndedWindow) × (room : Change) × MakesRoom N.terms N.setup (Ok found) room × (G.notes gate.new ≡ with_room found room (G.notes gate.old))) }
+        ensures none { OnFalse result ((fault : AllocError) × (room : Change) × MakesRoom N.terms N.setup (Err fault) room × (G.notes gate.new ≡ noted (Told room) (G.notes gate.old))) }
+    {
+        let (made, room) = self.open().make_room(rt, self.alloc);
+        match made {
+            Ok(Some(window)) => {
+                gate.window(window, room);
+                true
+            }
+            Ok(None) => {
+                gate.wake(room);
+                true
+            }
+            Err(_) => {
+                gate.wake(room);
+                false
+            }
+        }
     }
 }

@@ -1,5 +1,6 @@
 ghost use Rattle.std.specs.Prelude.{◌≡◌, ℕ, [], Err, IfSome, IfNone};
 ghost use Rattle.relay_http.specs.States.{IsFresh};
+ghost use Rattle.relay_http.specs.declared.exchange.Stage.TheVariants.{Asked};
 ghost use Rattle.relay_workers.specs.Gates.{noted};
 ghost use Rattle.relay_workers.specs.Gates.Notice.{NoMore};
 ghost use Rattle.relay_workers.specs.Serving.{with_client, HasEnded, HasSpentPauses, HasWorked};
@@ -104,6 +105,7 @@ fn attend<R: Wait, N: DeskName, G: Gate + Drop, P: Pause + Drop>(
     ensures ended { IfSome result (λ outcome. HasEnded G.Client.remaining G.Client.contents G.Server.remaining G.Server.contents N.terms N.setup proxy.now.config hand.new.runner.exchange outcome client
         (record { notes = G.notes hand.old.runner.gate; left = P.left hand.old.pause; view = seat.old.view })
         (record { notes = G.notes hand.new.runner.gate; left = P.left hand.new.pause; view = seat.new.view })) }
+    ensures asked { IfNone result (hand.new.runner.exchange.stage ≡ Asked) }
     ensures given_up { IfNone result (HasSpentPauses G.Client.remaining G.Client.contents N.terms N.setup proxy.now.config client
         (record { notes = G.notes hand.old.runner.gate; left = P.left hand.old.pause; view = seat.old.view })
         (record { notes = G.notes hand.new.runner.gate; left = P.left hand.new.pause; view = seat.new.view })) }

@@ -6,6 +6,7 @@ use proxy_config::Config;
 use run_admin::Admin;
 use run_control::Controls;
 use run_windows::WindowPrinter;
+use shared_desk::WakeKey;
 use std::alloc::Global;
 use std::net::{TcpListener, TcpStream};
 use std::thread;
@@ -34,6 +35,8 @@ pub struct GateShared<'a> {
     pub forwarded_for: bool,
     /// The length of a window in milliseconds. `None`: a window ends once the log is full.
     pub window: Option<u64>,
+    /// The key to what calls of the desk change.
+    pub wakes: &'a WakeKey,
     /// The printer of windows that ended.
     pub windows: &'a WindowPrinter,
     /// The controls, where it is steered while it serves.

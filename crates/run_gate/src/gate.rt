@@ -14,6 +14,7 @@ use grant_board::RelaySeat;
 use locked_book::DeskName;
 use log_requests::CheckFailure;
 use relay_workers::{Gate, Slot};
+use shared_desk::Changed;
 use std::alloc::{AllocError, Global};
 use std::net::{Net, SocketAddr, TcpListener, TcpStream};
 use std::os::fd::AsRawFd;
@@ -72,6 +73,20 @@ impl<'a, R: Net<Listener = TcpListener, Stream = TcpStream> + Clock> SocketGate<
         ensures none { (place : ℕ) → Has self.new.woken place → ⊥ }
     {
         mem::replace(&mut self.woken, PlaceSet::new())
+    }
+
+    /// Adds places to those that `take_woken` takes.
+    pub fn add_woken(&mut self, places: &PlaceSet) {
+        let mut from = 0;
+        for _ in 0..MOST_PLACES {
+            let Some(place) = places.next(from) else {
+                return;
+            };
+            if place < MOST_PLACES {
+                self.woken.insert(place);
+            }
+            from = place.saturating_add(1);
+        }
     }
 
     /// Notes a failed connect of another thread: some time passes before the same request tries the
@@ -216,21 +231,14 @@ impl<'a, R: Net<Listener = TcpListener, Stream = TcpStream> + Clock + Wait> Gate
         self.now()
     }
 
-    fn window(&mut self, window: EndedWindow) {
+    fn window<N: DeskName>(&mut self, window: EndedWindow, changed: Changed<N>) {
+        let _ = changed.take(self.front.wakes);
         let ended = self.now();
         self.front.windows.hand_over(self.rt, window, ended);
     }
 
-    fn wake(&mut self, places: &PlaceSet) {
-        let mut from = 0;
-        for _ in 0..MOST_PLACES {
-            let Some(place) = places.next(from) else {
-                return;
-            };
-            if place < MOST_PLACES {
-                self.woken.insert(place);
-            }
-            from = place.saturating_add(1);
-        }
+    fn wake<N: DeskName>(&mut self, changed: Changed<N>) {
+        let places = changed.take(self.front.wakes);
+        self.add_woken(&places);
     }
 }

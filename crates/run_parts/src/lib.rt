@@ -31,4 +31,6 @@ pub use writing::{Writing, close_logs, end_writing, start_writing};
 
 // The options of a run contain these.
 pub use log_requests::Logs;
+pub use relay_workers::ProxyKeys;
 pub use run_gate::{GateShared, Site};
+pub use shared_desk::LogKey;

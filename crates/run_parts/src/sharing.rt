@@ -14,6 +14,7 @@ use run_admin::Admin;
 use run_control::Controls;
 use run_gate::{Addresses, Clients, GateShared};
 use run_windows::WindowPrinter;
+use shared_desk::WakeKey;
 use std::alloc::{AllocError, Global};
 use std::net::TcpListener;
 use std::sync::Arc;
@@ -22,6 +23,8 @@ use std::time::{Clock, Instant};
 /// The parts beside serving; no loop waits for them.
 #[derive(Drop)]
 pub struct ServiceParts {
+    /// The key to what calls of the desk change.
+    pub wakes: WakeKey,
     pub windows: WindowPrinter,
     pub addresses: Addresses,
     pub controls: Option<Controls>,
@@ -35,12 +38,14 @@ pub struct ServiceParts {
     pub start: Instant,
 }
 
-/// Makes them for a configuration, with this number of loops and places.
+/// Makes them for a configuration, with this number of loops and places, and the key to what calls
+/// of the desk change.
 pub fn service_parts_of<R: Clock + AllocGlobal>(
     rt: &R,
     config: &Config,
     options: RunOptions,
     threads: LoopSizes,
+    wakes: WakeKey,
 ) -> Result<ServiceParts, ServeFault> {
     let alloc = rt.alloc();
     let Ok(start) = Instant::now(rt) else {
@@ -72,6 +77,7 @@ pub fn service_parts_of<R: Clock + AllocGlobal>(
         base,
     };
     Ok(ServiceParts {
+        wakes,
         windows,
         addresses: Addresses::new(alloc, config)?,
         controls,
@@ -123,6 +129,7 @@ pub fn front_of<'a>(
         clients: Clients::new(requests),
         start: beside.start,
         addresses: &beside.addresses,
+        wakes: &beside.wakes,
         windows: &beside.windows,
         controls: beside.controls.as_ref(),
         log: beside.log.as_ref(),

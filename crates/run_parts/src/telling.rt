@@ -15,8 +15,8 @@ pub fn tell_all<R: Print + Wait, N: DeskName + Ledger>(
     windows: WindowPrinter,
 ) -> Result<(), ServeFault> {
     let (names, told, sink) = windows.into_told();
-    let lines = proxy.desk.servers(rt, proxy.alloc)?;
-    let reports = proxy.desk.report(rt, proxy.alloc)?;
+    let lines = proxy.desk.look(rt).book().servers(proxy.alloc)?;
+    let reports = proxy.desk.look(rt).book().report(proxy.alloc)?;
     let mut told = told;
     told.sums.add(lines.as_slice());
     let text = end_text(proxy.alloc, &names, &told.sums, reports.as_slice())?;

@@ -4,6 +4,7 @@ use crate::lending::Lends;
 use locked_book::DeskName;
 use log_requests::RequestLog;
 use run_gate::GateShared;
+use shared_desk::LogKey;
 use std::sync::Wait;
 use std::sync::ledger::Ledger;
 use std::thread::{JoinHandle, Scope, Threads};
@@ -25,14 +26,21 @@ impl Writing {
     }
 }
 
-/// Starts a thread of the scope that writes the logs, where they are wanted.
+/// Starts a thread of the scope that writes the logs, where they are wanted, with the key to the
+/// desk's log.
 pub fn start_writing<
     's,
     E,
     R: Clock + Threads + Wait + Sync,
     N: DeskName + Ledger + Send + Sync + 's,
     S: Lends<N> + Sync + 's,
->(scope: &Scope<'s, E>, rt: &'s R, shared: &'s S, front: &'s GateShared<'_>) -> Writing {
+>(
+    scope: &Scope<'s, E>,
+    rt: &'s R,
+    shared: &'s S,
+    front: &'s GateShared<'_>,
+    key: LogKey<N>,
+) -> Writing {
     let Some(log) = front.log else {
         return Writing::Nothing;
     };
@@ -44,7 +52,10 @@ pub fn start_writing<
         address: front.listener.local_addr().ok(),
     };
     let started = scope
-        .spawn(move || scribe.write_all(rt, log, &shared.proxy().desk, site))
+        .spawn(move || {
+            let desk = (&shared.proxy().desk, &key);
+            scribe.write_all(rt, log, desk, site);
+        })
         .ok();
     match started {
         Some(handle) => Writing::Runs(handle),

@@ -14,8 +14,8 @@ use locked_book::DeskName;
 use loop_events::Proxy;
 use proxy_config::Config;
 use run_parts::{
-    Crew, GateShared, Lends, LogCopy, Logs, LoopSizes, Parts, RunLimits, RunOptions, ServeFault,
-    Site, crew_of, front_of, parts_of, service_parts_of,
+    Crew, GateShared, Lends, LogCopy, LogKey, Logs, LoopSizes, Parts, ProxyKeys, RunLimits,
+    RunOptions, ServeFault, Site, crew_of, front_of, parts_of, service_parts_of,
 };
 use std::marker::Brand;
 use std::net::{Net, TcpListener, TcpStream};
@@ -118,7 +118,7 @@ fn serve_on<
     requires parts { (setup : Setup) × AreNew setup parts × SetupIsAsked config setup × (N.terms ≡ terms_for setup) × (N.setup ≡ setup) × (setup.places ≡ watched.crew.threads.places) }
 {
     let alloc = rt.alloc();
-    let (proxy, source) = proxy_of::<N>(alloc, config, parts);
+    let (proxy, keys, source) = proxy_of::<N>(alloc, config, parts);
     let options = RunOptions {
         keeping: None,
         reusing: None,
@@ -133,15 +133,17 @@ fn serve_on<
         admin: None,
     };
     let threads = watched.crew.threads;
-    let beside = service_parts_of(rt, &proxy.config, options, threads)?;
+    let ProxyKeys { log: key, wake } = keys;
+    let beside = service_parts_of(rt, &proxy.config, options, threads, wake)?;
     let requests = watched.crew.requests;
     let front = front_of(alloc, &proxy.config, listener, requests, &beside);
     let site = Site {
         proxy: &proxy,
         front: &front,
     };
-    serve_watched(rt, &site, &front, source, watched)?;
-    Ok(proxy.desk.report(rt, alloc)?)
+    serve_watched(rt, &site, (&front, key), source, watched)?;
+    let reports = proxy.desk.look(rt).book().report(alloc)?;
+    Ok(reports)
 }
 
 // Serves until no more clients come. The last entries are copied when all threads have ended.
@@ -161,7 +163,7 @@ fn serve_watched<
 >(
     rt: &R,
     shared: &S,
-    front: &GateShared<'_>,
+    front: (&GateShared<'_>, LogKey<N>),
     source: SeatSource,
     watched: Watched<'_>,
 ) -> Result<(), ServeFault>
@@ -210,7 +212,7 @@ fn serve_lent<
 >(
     rt: &R,
     shared: &S,
-    front: &GateShared<'_>,
+    front: (&GateShared<'_>, LogKey<N>),
     source: SeatSource,
     threads: LoopSizes,
 ) -> Result<(), ServeFault>
@@ -241,7 +243,12 @@ fn copy_all<N: DeskName + Ledger, R: Clock + Wait>(rt: &R, proxy: &Proxy<N>, cop
     let mut copied = 0;
     for _ in rt.forever() {
         let is_last = copy.is_closed();
-        if let Ok(later) = proxy.desk.entries_after(rt, proxy.alloc, copied) {
+        let read = proxy
+            .desk
+            .look(rt)
+            .book()
+            .entries_after(proxy.alloc, copied);
+        if let Ok(later) = read {
             copied = copy.add(rt, later.as_slice()).saturating_add(copied);
         }
         if is_last {

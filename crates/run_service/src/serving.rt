@@ -12,9 +12,10 @@ use locked_book::DeskName;
 use loop_events::Proxy;
 use proxy_config::Config;
 use run_parts::{
-    Crew, Doors, GateShared, Lends, LoopSizes, Parts, RunLimits, RunOptions, ServeFault,
-    ServiceParts, Site, announce, announce_admin, close_logs, crew_of, end_watching, end_writing,
-    front_of, open, parts_of, service_parts_of, start_watching, start_writing, tell_all,
+    Crew, Doors, GateShared, Lends, LogKey, LoopSizes, Parts, ProxyKeys, RunLimits, RunOptions,
+    ServeFault, ServiceParts, Site, announce, announce_admin, close_logs, crew_of, end_watching,
+    end_writing, front_of, open, parts_of, service_parts_of, start_watching, start_writing,
+    tell_all,
 };
 use std::alloc::Global;
 use std::marker::Brand;
@@ -90,16 +91,17 @@ fn serve_on<
     requires parts { (setup : Setup) × AreNew setup parts × SetupIsAsked config setup × (N.terms ≡ terms_for setup) × (N.setup ≡ setup) × (setup.places ≡ crew.threads.places) }
 {
     let alloc = rt.alloc();
-    let (proxy, source) = proxy_of::<N>(alloc, config, parts);
+    let (proxy, keys, source) = proxy_of::<N>(alloc, config, parts);
     let Doors { listener, options } = doors;
-    let beside = service_parts_of(rt, &proxy.config, options, crew.threads)?;
+    let ProxyKeys { log: key, wake } = keys;
+    let beside = service_parts_of(rt, &proxy.config, options, crew.threads, wake)?;
     let front = front_of(alloc, &proxy.config, listener, crew.requests, &beside);
     announce_admin(rt, &front);
     let site = Site {
         proxy: &proxy,
         front: &front,
     };
-    let ended = serve_clients(rt, &site, &front, source, crew.threads);
+    let ended = serve_clients(rt, &site, (&front, key), source, crew.threads);
     drop(front);
     let ServiceParts { windows, log, .. } = beside;
     let told = tell_all(rt, &proxy, windows);
@@ -114,14 +116,14 @@ pub(crate) fn proxy_of<N: DeskName + Ledger>(
     alloc: Global,
     config: Config,
     parts: Parts,
-) -> (Proxy<N>, SeatSource)
+) -> (Proxy<N>, ProxyKeys<N>, SeatSource)
     requires named { parts.board ≡ N.board }
     requires sound { IsSoundConfig config }
     requires parts { (setup : Setup) × AreNew setup parts × SetupIsAsked config setup × (N.terms ≡ terms_for setup) × (N.setup ≡ setup) }
-    ensures named { (result.1.first.board ≡ N.board) × (result.1.first.view.terms ≡ N.terms) }
-    ensures first { result.1.first.view.first ≡ true }
-    ensures idle { result.1.first.view.passes ≡ [] }
-    ensures ledger { result.1.ledger ≡ parts.ledger }
+    ensures named { (result.2.first.board ≡ N.board) × (result.2.first.view.terms ≡ N.terms) }
+    ensures first { result.2.first.view.first ≡ true }
+    ensures idle { result.2.first.view.passes ≡ [] }
+    ensures ledger { result.2.ledger ≡ parts.ledger }
 {
     let Parts {
         core,
@@ -131,12 +133,12 @@ pub(crate) fn proxy_of<N: DeskName + Ledger>(
         relay,
         ledger,
     } = parts;
-    let proxy = Proxy::new(alloc, config, core, running, (board, keeper));
+    let (proxy, keys) = Proxy::new(alloc, config, core, running, (board, keeper));
     let source = SeatSource {
         first: relay,
         ledger,
     };
-    (proxy, source)
+    (proxy, keys, source)
 }
 
 /// Serves until no more clients come. Threads beside the loops look names up and print windows; all
@@ -157,7 +159,7 @@ pub(crate) fn serve_clients<
 >(
     rt: &R,
     shared: &S,
-    front: &GateShared<'_>,
+    front: (&GateShared<'_>, LogKey<N>),
     source: SeatSource,
     threads: LoopSizes,
 ) -> Result<(), ServeFault>
@@ -168,9 +170,10 @@ pub(crate) fn serve_clients<
     requires room { 2 ^ 64 ≤ source.ledger.parts + 1 }
     requires places { threads.places ≡ N.terms.places }
 {
-    front.addresses.start(rt)?;
+    let addresses = front.0.addresses;
+    addresses.start(rt)?;
     let served = serve_printing(rt, shared, front, source, threads);
-    front.addresses.close(rt);
+    addresses.close(rt);
     served
 }
 
@@ -188,7 +191,7 @@ fn serve_printing<
 >(
     rt: &R,
     shared: &S,
-    front: &GateShared<'_>,
+    front: (&GateShared<'_>, LogKey<N>),
     source: SeatSource,
     threads: LoopSizes,
 ) -> Result<(), ServeFault>
@@ -199,6 +202,7 @@ fn serve_printing<
     requires room { 2 ^ 64 ≤ source.ledger.parts + 1 }
     requires places { threads.places ≡ N.terms.places }
 {
+    let (front, key) = front;
     let windows = front.windows;
     thread::scope(
         thread::scope_env(),
@@ -214,7 +218,7 @@ fn serve_printing<
             let Some(printing) = scope.spawn(move || windows.print_all(rt)).ok() else {
                 return Err(ServeFault::NoMemory);
             };
-            let writing = start_writing(scope, rt, shared, front);
+            let writing = start_writing(scope, rt, shared, front, key);
             let watching = start_watching(scope, rt, front);
             let (_, served) = if writing.has_failed() || watching.has_failed() {
                 unserved(source)

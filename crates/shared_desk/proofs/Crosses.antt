@@ -28,8 +28,10 @@ module _ (K V : RattleType) (k : IsSend K) (v : IsSend V) where
 
 locked_sync : (N : RattleType) (d : desk_name.Ghosts N.Denot) (g : board_name.Ghosts N.Denot) → IsSync (locked.the_field N d g).row
 locked_sync N d g =
-    struct_sync (shape (locked.the_type N d g))
-    (search (queue_send, single_send, key.the_send, book.the_send, mutex.the_sync, crosses, sendable) depth 60 fits 20000, tt)
+    struct_sync (shape (locked.the_type N d g)) (
+      search (queue_send, single_send, key.the_send, book.the_send, mutex.the_sync, crosses, sendable) depth 60 fits 20000,
+      (search (crosses, sendable) depth 60 fits 20000, tt),
+    )
 
 pub desk_sync : (N : RattleType) (d : desk_name.Ghosts N.Denot) (g : board_name.Ghosts N.Denot) → IsSync (desk.the_row N d g)
 desk_sync N d g =

@@ -1,3 +1,5 @@
+pub mod Answers
+pub mod Changes
 pub mod Replies
 pub mod Seats
 pub mod Tails

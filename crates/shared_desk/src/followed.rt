@@ -4,12 +4,13 @@ ghost use Rattle.dispatch_state.specs.Histories.{HasEntryRoom};
 ghost use Rattle.late_cert.specs.Certificates.{IsCertified};
 ghost use Rattle.log_entries.specs.Histories.{next_window};
 ghost use Rattle.log_reading.specs.Tails.{Waiting};
-ghost use Rattle.shared_desk.specs.Replies.{SomeHeld, SomeStep};
+ghost use Rattle.shared_desk.specs.Answers.{AnswersRoll, MakesRoom};
 ghost use Rattle.shared_desk.specs.Tails.{HasCaughtUp, HasNotedEnd, HasKept, WhereFollowed, IsTakenFrom};
 
 use crate::desk::DeskQueue;
-use crate::locked::Locked;
-use crate::opened::DeskKey;
+use crate::keys::DeskKey;
+use crate::locked::{Changed, Locked};
+use base_places::PlaceSet;
 use dispatch_reports::EndedWindow;
 use locked_book::{Book, DeskName};
 use log_entries::Entry;
@@ -68,12 +69,13 @@ impl Followed {
         book: &Locked<N>,
         key: &DeskKey<N>,
         alloc: Global,
-    ) -> Result<EndedWindow, AllocError>
-        ensures { IfOk result (λ window. SomeStep N.terms N.setup (λ old new. IsCertified old.history window.reports × AreLines old.history window.servers.items × (new ≡ record old { history = next_window old.history }))) }
+    ) -> (Result<EndedWindow, AllocError>, Changed<N>)
+        ensures { AnswersRoll N.terms N.setup result.0 result.1 }
     {
         let mut tail = self.tail.lock(rt);
         let mut book = book.change(rt, key);
-        end_window(&mut tail, &mut book, alloc)
+        let ended = end_window(&mut tail, &mut book.guard, alloc);
+        (ended, book.end(PlaceSet::new()))
     }
 
     /// Makes the call `OpenDesk::make_room`.
@@ -83,13 +85,13 @@ impl Followed {
         book: &Locked<N>,
         key: &DeskKey<N>,
         alloc: Global,
-    ) -> Result<Option<EndedWindow>, AllocError>
-        ensures none { IfOk result (λ found. IfNone found (SomeHeld N.terms N.setup (λ held. HasEntryRoom held.history))) }
-        ensures some { IfOk result (λ found. IfSome found (λ window. SomeStep N.terms N.setup (λ old new. (HasEntryRoom old.history → ⊥) × IsCertified old.history window.reports × AreLines old.history window.servers.items × (new ≡ record old { history = next_window old.history })))) }
+    ) -> (Result<Option<EndedWindow>, AllocError>, Changed<N>)
+        ensures { MakesRoom N.terms N.setup result.0 result.1 }
     {
         let mut tail = self.tail.lock(rt);
         let mut book = book.change(rt, key);
-        make_room(&mut tail, &mut book, alloc)
+        let made = make_room(&mut tail, &mut book.guard, alloc);
+        (made, book.end(PlaceSet::new()))
     }
 }
 

@@ -1,13 +1,16 @@
 //! The dispatcher behind a lock, with its board beside it: the state that threads share. A call of
 //! a `Desk` waits for the lock and makes the book's call of the same name; passes are taken and
 //! posted at the board, which no lock guards. A `DeskKey` opens it for calls that change what it
-//! holds.
+//! holds, and each of them returns what it `Changed`.
 #![tactic(auto)]
 
 mod desk;
 mod followed;
+mod keys;
 mod locked;
 mod opened;
 
 pub use desk::{Desk, DeskQueue};
-pub use opened::{DeskKey, OpenDesk};
+pub use keys::{DeskKey, DeskKeys, LogKey, WakeKey};
+pub use locked::{Changed, Held, Looking};
+pub use opened::OpenDesk;

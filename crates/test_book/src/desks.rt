@@ -6,7 +6,6 @@ ghost use Rattle.shared_desk.specs.Seats.{IsSameSeat};
 ghost use Rattle.locked_book.specs.Books.{terms_for};
 ghost use Rattle.dispatch_reports.specs.Reporting.{IsNew};
 
-use base_places::PlaceSet;
 use base_verdict::{Cause, Ending, Verdict};
 use dispatch_core::Core;
 use dispatch_reports::{EndedWindow, ServerLine};
@@ -16,7 +15,7 @@ use grant_board::{Board, Closing, KeeperSeat, RelaySeat, Taking};
 use late_cert::{Report, Reports, Running, Stay};
 use locked_book::{DeskName, Wanted};
 use log_entries::{Intake, Queue, Refusal, ServerSet, Servers, Setup};
-use shared_desk::{Desk, DeskKey, DeskQueue};
+use shared_desk::{Desk, DeskKeys, DeskQueue};
 use std::alloc::{AllocError, Global};
 use std::marker::Brand;
 use std::process::Abort;
@@ -116,7 +115,7 @@ fn setup_of_one(alloc: Global, places: usize, log: usize, limit: u32) -> Result<
 }
 
 // Makes a desk of what was opened, and the first of the seats that take passes.
-fn start<N: DeskName>(opened: Opened) -> (Desk<N>, DeskKey<N>, RelaySeat)
+fn start<N: DeskName>(opened: Opened) -> (Desk<N>, DeskKeys<N>, RelaySeat)
     requires named { opened.board ≡ N.board }
     requires terms { N.terms ≡ terms_for opened.core.setup }
     requires setup { N.setup ≡ opened.core.setup }
@@ -130,8 +129,8 @@ fn start<N: DeskName>(opened: Opened) -> (Desk<N>, DeskKey<N>, RelaySeat)
         relay,
         running,
     } = opened;
-    let (desk, key) = Desk::new(core, board, seat, running);
-    (desk, key, relay)
+    let (desk, keys) = Desk::new(core, board, seat, running);
+    (desk, keys, relay)
 }
 
 // The wish of a request of class 0 with this offset and without a pin.
@@ -148,49 +147,57 @@ fn at(millis: u64) -> Moment {
     Moment::new(millis).unwrap_or(Moment::zero())
 }
 
-// Lets a request arrive that isn't refused.
+// Lets a request arrive that isn't refused. No test looks at the places that an arrival wakes; they
+// are taken since what was changed can't be dropped.
 fn arrive<N: DeskName, R: Abort + Wait>(
     rt: &R,
     alloc: Global,
-    desk: (&Desk<N>, &DeskKey<N>),
+    desk: (&Desk<N>, &DeskKeys<N>),
     moment: u64,
     wanted: Wanted,
 ) -> Ticketed
     ensures { result.place < N.terms.places }
 {
-    let mut woken = PlaceSet::new();
-    let answer = desk
+    let (answer, changed) = desk
         .0
-        .open(desk.1)
-        .arrive(rt, alloc, at(moment), wanted, &mut woken);
+        .open(&desk.1.desk)
+        .arrive(rt, alloc, at(moment), wanted);
+    changed.take(&desk.1.wake);
     answer.expect(rt, "an arrival")
 }
 
 // Makes a turn that isn't refused, and returns the first place that it woke.
 fn turn<N: DeskName, R: Abort + Wait>(
     rt: &R,
-    desk: (&Desk<N>, &DeskKey<N>),
+    desk: (&Desk<N>, &DeskKeys<N>),
     moment: u64,
 ) -> Option<usize> {
-    let mut woken = PlaceSet::new();
-    let answer = desk.0.open(desk.1).turn(rt, at(moment), &mut woken);
+    let (answer, changed) = desk.0.open(&desk.1.desk).turn(rt, at(moment));
     answer.expect(rt, "a turn");
-    woken.next(0)
+    changed.take(&desk.1.wake).next(0)
 }
 
 fn check<N: DeskName, R: Abort + Wait>(
     rt: &R,
-    desk: (&Desk<N>, &DeskKey<N>),
+    desk: (&Desk<N>, &DeskKeys<N>),
     moment: u64,
     server: usize,
     ok: bool,
 ) {
-    let mut woken = PlaceSet::new();
-    let answer = desk
-        .0
-        .open(desk.1)
-        .check(rt, at(moment), server, ok, &mut woken);
+    let (answer, changed) = desk.0.open(&desk.1.desk).check(rt, at(moment), server, ok);
+    changed.take(&desk.1.wake);
     answer.expect(rt, "a check");
+}
+
+// Asks for room for an event, and returns the answer.
+fn ask_room<N: DeskName, R: Wait>(
+    rt: &R,
+    alloc: Global,
+    desk: (&Desk<N>, &DeskKeys<N>),
+) -> Result<Option<EndedWindow>, AllocError> {
+    let (made, changed) = desk.0.open(&desk.1.desk).make_room(rt, alloc);
+    changed.take(&desk.1.wake);
+    made
 }
 
 // Takes the request's verdict where it is offered, and posts that the exchange is over.
@@ -210,16 +217,22 @@ fn serve(board: &Board, relay: &mut RelaySeat, it: Ticketed) -> Option<Verdict>
 }
 
 // Returns the greatest lateness of a class in the backend's queue.
-fn worst<N: DeskName, R: Wait>(rt: &R, desk: (&Desk<N>, &DeskKey<N>), class: i64) -> Option<i64> {
-    desk.0.worst(rt, Queue::Backend, Class::clamp(class))
+fn worst<N: DeskName, R: Wait>(rt: &R, desk: (&Desk<N>, &DeskKeys<N>), class: i64) -> Option<i64> {
+    let found = desk
+        .0
+        .look(rt)
+        .book()
+        .worst(Queue::Backend, Class::clamp(class));
+    found
 }
 
 fn reports<N: DeskName, R: Abort + Wait>(
     rt: &R,
     alloc: Global,
-    desk: (&Desk<N>, &DeskKey<N>),
+    desk: (&Desk<N>, &DeskKeys<N>),
 ) -> Reports {
-    desk.0.report(rt, alloc).expect(rt, "memory")
+    let told = desk.0.look(rt).book().report(alloc);
+    told.expect(rt, "memory")
 }
 
 fn stay(ticket: u64, joined: usize, slot: usize, moment: u64, offset: i64) -> Stay {

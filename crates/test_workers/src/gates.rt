@@ -1,16 +1,18 @@
-ghost use Rattle.std.specs.Prelude.{◌≡◌, [], ◌∷◌};
+ghost use Rattle.std.specs.Prelude.{◌≡◌, [], ◌∷◌, true};
+ghost use Rattle.grant_board.specs.RelayCalls.{new_relay};
 ghost use Rattle.locked_book.specs.Books.{terms_for};
 ghost use Rattle.proxy_config.specs.Sound.{IsSoundConfig};
 ghost use Rattle.relay_workers.specs.Admissions.{IsRequestAt};
 
 use crate::workers::{Opened, open, start};
 use base_verdict::{Ending, Verdict};
+use board_seats::Idle;
 use dispatch_state::Ticketed;
 use grant_board::{Board, Pass, RelaySeat, Taking};
 use locked_book::DeskName;
 use log_texts::Names;
 use proxy_config::{Config, read};
-use relay_workers::{Gate, Slot, arrive};
+use relay_workers::{Gate, Proxy, Slot, arrive};
 use req_view::{View, Viewed, view};
 use run_gate::{Addresses, Clients, GateShared, SocketGate, has_left};
 use run_windows::WindowPrinter;
@@ -104,21 +106,20 @@ fn give_back(board: &Board, relay: &mut RelaySeat, pass: Pass)
 }
 
 // A request arrives and gets its slot, and the gate connects to the slot's server.
-fn connects<
-    N: DeskName,
-    R: Abort + Wait + Net<Listener = TcpListener, Stream = TcpStream>,
-    G: Gate,
->(rt: &R, alloc: Global, gate: &mut G, far: &TcpListener, opened: Opened)
-    requires named { opened.board ≡ N.board }
-    requires terms { N.terms ≡ terms_for opened.core.setup }
-    requires setup { N.setup ≡ opened.core.setup }
-    requires sound { IsSoundConfig opened.config }
+fn connects<N: DeskName, R: Abort + Wait, G: Gate>(
+    rt: &R,
+    proxy: &Proxy<N>,
+    idle: Idle<N>,
+    gate: &mut G,
+    far: &TcpListener,
+)
+    requires fresh { idle.seat.view ≡ new_relay N.terms true }
 {
-    let Viewed::Whole(head, _) = view(alloc, b"GET / HTTP/1.1\r\nHost: h\r\n\r\n") else {
+    let text = b"GET / HTTP/1.1\r\nHost: h\r\n\r\n";
+    let Viewed::Whole(head, _) = view(proxy.alloc, text) else {
         panic!(rt; "no head");
     };
-    let (proxy, idle) = start::<N>(alloc, opened);
-    let at = arrive(rt, &proxy, gate, &head).expect(rt, "a place");
+    let at = arrive(rt, proxy, gate, &head).expect(rt, "a place");
     let mut relay = idle.seat();
     let taken = relay.try_take(proxy.desk.board(), at.place, at.ticket);
     let server = match taken {
@@ -138,30 +139,56 @@ fn connects<
     gate.disconnect(server);
 }
 
-// The parts that a gate needs.
-#[derive(Drop)]
-struct Parts {
-    config: Config,
-    windows: WindowPrinter,
-    addresses: Addresses,
-}
-
-fn asks<'a, R: Abort + Net<Listener = TcpListener, Stream = TcpStream> + Clock + Print + Wait>(
-    rt: &'a R,
-    front: &'a GateShared<'a>,
-    far: TcpListener,
-    opened: Opened,
-)
-    requires sound { IsSoundConfig opened.config }
+// A gate takes a client, connects to a server, and checks it until it is gone.
+fn asks<
+    'a,
+    N: DeskName,
+    R: Abort + Net<Listener = TcpListener, Stream = TcpStream> + Clock + Print + Wait,
+>(rt: &'a R, front: &'a GateShared<'a>, proxy: &Proxy<N>, idle: Idle<N>, far: TcpListener)
+    requires fresh { idle.seat.view ≡ new_relay N.terms true }
 {
     let mut gate = SocketGate::new(front.alloc, rt, front).expect(rt, "a gate");
     let mut accepted = gate.next().expect(rt, "a client");
     assert!(rt; gate.next().is_none());
     assert!(rt; !gate.gone(&mut accepted));
-    connects::<Brand, _, _>(rt, front.alloc, &mut gate, &far, opened);
+    connects(rt, proxy, idle, &mut gate, &far);
     assert_eq!(rt; checked(rt, &mut gate), Some(true));
     drop(far);
     assert_eq!(rt; checked(rt, &mut gate), Some(false));
+}
+
+// The same with the gate of a fresh proxy, whose clients come to `near` and whose server is `far`.
+fn asks_anew<
+    N: DeskName,
+    R: Abort + Net<Listener = TcpListener, Stream = TcpStream> + Clock + Print + Wait,
+>(rt: &R, alloc: Global, opened: Opened, near: TcpListener, far: TcpListener)
+    requires named { opened.board ≡ N.board }
+    requires terms { N.terms ≡ terms_for opened.core.setup }
+    requires setup { N.setup ≡ opened.core.setup }
+    requires sound { IsSoundConfig opened.config }
+{
+    let (proxy, keys, idle) = start::<N>(alloc, opened);
+    let names = Names::new(Vec::new(alloc));
+    let windows = WindowPrinter::new(alloc, names, 1).expect(rt, "memory");
+    let addresses = Addresses::new(alloc, &proxy.config).expect(rt, "memory");
+    let front = GateShared {
+        alloc,
+        config: &proxy.config,
+        listener: near,
+        clients: Clients::new(1),
+        start: Instant::now(rt).expect(rt, "the time"),
+        addresses: &addresses,
+        wakes: &keys.wake,
+        windows: &windows,
+        controls: None,
+        log: None,
+        admin: None,
+        keeping: None,
+        reusing: None,
+        window: None,
+        forwarded_for: false,
+    };
+    asks(rt, &front, &proxy, idle, far);
 }
 
 #[test]
@@ -171,32 +198,7 @@ fn a_gate_takes_clients_and_checks_servers(rt: HostRuntime) {
     let near = listening(&rt);
     let client = TcpStream::connect(&rt, address(&rt, &near)).expect(&rt, "a connection");
     let config = config_of(&rt, alloc, address(&rt, &far).port());
-    let names = Names::new(Vec::new(alloc));
-    let windows = WindowPrinter::new(alloc, names, 1).expect(&rt, "memory");
-    let addresses = Addresses::new(alloc, &config).expect(&rt, "memory");
-    let parts = Parts {
-        config,
-        windows,
-        addresses,
-    };
-    let front = GateShared {
-        alloc,
-        config: &parts.config,
-        listener: near,
-        clients: Clients::new(1),
-        start: Instant::now(&rt).expect(&rt, "the time"),
-        addresses: &parts.addresses,
-        windows: &parts.windows,
-        controls: None,
-        log: None,
-        admin: None,
-        keeping: None,
-        reusing: None,
-        window: None,
-        forwarded_for: false,
-    };
-    let config = config_of(&rt, alloc, address(&rt, &far).port());
     let opened = open(&rt, alloc, config, 4096);
-    asks(&rt, &front, far, opened);
+    asks_anew::<Brand, _>(&rt, alloc, opened, near, far);
     drop(client);
 }

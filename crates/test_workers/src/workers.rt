@@ -8,7 +8,6 @@ ghost use Rattle.proxy_config.specs.Sound.{IsSoundConfig};
 ghost use Rattle.dispatch_reports.specs.Reporting.{IsNew};
 ghost use Rattle.shared_desk.specs.Seats.{IsSameSeat};
 
-use base_places::PlaceSet;
 use board_seats::Idle;
 use config_setup::{limits_of, setup_of};
 use dispatch_core::Core;
@@ -18,8 +17,8 @@ use grant_board::{Board, Closing, KeeperSeat, RelaySeat};
 use late_cert::Running;
 use locked_book::DeskName;
 use proxy_config::{Config, read};
-use relay_workers::{Gate, Pause, Proxy, Slot, Stopped, Tally, Worker, checker, worker};
-use shared_desk::{Desk, DeskQueue};
+use relay_workers::{Gate, Pause, Proxy, ProxyKeys, Slot, Stopped, Tally, Worker, checker, worker};
+use shared_desk::{Changed, DeskQueue, WakeKey};
 use std::alloc::Global;
 use std::io::{self, Read, Write};
 use std::marker::Brand;
@@ -97,13 +96,14 @@ fn open_text(rt: &impl Abort, alloc: Global, text: &[u8], log: usize) -> Opened
     open(rt, alloc, config, log)
 }
 
-/// Makes a proxy of what was opened, and the first of the seats that take passes.
-pub(crate) fn start<N: DeskName>(alloc: Global, opened: Opened) -> (Proxy<N>, Idle<N>)
+/// Makes a proxy of what was opened, with the keys that aren't its own, and the first of the seats
+/// that take passes.
+pub(crate) fn start<N: DeskName>(alloc: Global, opened: Opened) -> (Proxy<N>, ProxyKeys<N>, Idle<N>)
     requires named { opened.board ≡ N.board }
     requires terms { N.terms ≡ terms_for opened.core.setup }
     requires setup { N.setup ≡ opened.core.setup }
     requires sound { IsSoundConfig opened.config }
-    ensures { result.1.seat.view ≡ new_relay N.terms true }
+    ensures { result.2.seat.view ≡ new_relay N.terms true }
 {
     let Opened {
         config,
@@ -113,8 +113,8 @@ pub(crate) fn start<N: DeskName>(alloc: Global, opened: Opened) -> (Proxy<N>, Id
         relay,
         running,
     } = opened;
-    let proxy = Proxy::new(alloc, config, core, running, (board, seat));
-    (proxy, Idle::new(relay))
+    let (proxy, keys) = Proxy::new(alloc, config, core, running, (board, seat));
+    (proxy, keys, Idle::new(relay))
 }
 
 // Serves all clients of a gate, with these pauses.
@@ -139,5 +139,6 @@ pub(crate) fn close<N: DeskName>(proxy: Proxy<N>, idle: Idle<N>) -> Closing
     requires settled { idle.seat.view.split ≡ idle.seat.view.joined }
 {
     let Proxy { desk, .. } = proxy;
-    desk.close(idle.seat())
+    let (closing, _) = desk.close(idle.seat());
+    closing
 }

@@ -8,17 +8,16 @@ use crate::assertions::{holds, same};
 // Sets the server's limit, and returns the first place that was woken.
 fn limit<N: DeskName, R: Abort + Wait>(
     rt: &R,
-    desk: (&Desk<N>, &DeskKey<N>),
+    desk: (&Desk<N>, &DeskKeys<N>),
     moment: u64,
     limit: u32,
 ) -> Option<usize> {
-    let mut woken = PlaceSet::new();
-    let answer = desk
+    let (answer, changed) = desk
         .0
-        .open(desk.1)
-        .limit(rt, at(moment), 0, Intake::Open(limit), &mut woken);
+        .open(&desk.1.desk)
+        .limit(rt, at(moment), 0, Intake::Open(limit));
     answer.expect(rt, "a limit");
-    woken.next(0)
+    changed.take(&desk.1.wake).next(0)
 }
 
 // Of four requests two are served. The limit falls to one, so that the end of the first one frees
@@ -26,7 +25,7 @@ fn limit<N: DeskName, R: Abort + Wait>(
 fn lower_and_lift<N: DeskName, R: Abort + Wait>(
     rt: &R,
     alloc: Global,
-    desk: (&Desk<N>, &DeskKey<N>),
+    desk: (&Desk<N>, &DeskKeys<N>),
     relay: &mut RelaySeat,
 ) -> Reports
     requires named { relay.old.board ≡ N.board }
@@ -61,9 +60,10 @@ fn change_limits<N: DeskName, R: Abort + Wait>(
     requires terms { N.terms ≡ terms_for opened.core.setup }
     requires setup { N.setup ≡ opened.core.setup }
 {
-    let (desk, key, mut relay) = start::<N>(opened);
-    let told = lower_and_lift(rt, alloc, (&desk, &key), &mut relay);
-    (told, desk.close(relay))
+    let (desk, keys, mut relay) = start::<N>(opened);
+    let told = lower_and_lift(rt, alloc, (&desk, &keys), &mut relay);
+    let (closing, _) = desk.close(relay);
+    (told, closing)
 }
 
 #[test]

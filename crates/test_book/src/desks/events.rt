@@ -18,7 +18,7 @@ struct Four {
 fn come<N: DeskName, R: Abort + Wait>(
     rt: &R,
     alloc: Global,
-    desk: (&Desk<N>, &DeskKey<N>),
+    desk: (&Desk<N>, &DeskKeys<N>),
     relay: &mut RelaySeat,
 ) -> Four
     requires named { relay.old.board ≡ N.board }
@@ -45,15 +45,12 @@ fn come<N: DeskName, R: Abort + Wait>(
 
 fn abort<N: DeskName, R: Abort + Wait>(
     rt: &R,
-    desk: (&Desk<N>, &DeskKey<N>),
+    desk: (&Desk<N>, &DeskKeys<N>),
     moment: u64,
     ticket: u64,
 ) {
-    let mut woken = PlaceSet::new();
-    let answer = desk
-        .0
-        .open(desk.1)
-        .abort(rt, at(moment), ticket, &mut woken);
+    let (answer, changed) = desk.0.open(&desk.1.desk).abort(rt, at(moment), ticket);
+    changed.take(&desk.1.wake);
     answer.expect(rt, "an abort");
 }
 
@@ -61,7 +58,7 @@ fn abort<N: DeskName, R: Abort + Wait>(
 fn tell_each<N: DeskName, R: Abort + Wait>(
     rt: &R,
     alloc: Global,
-    desk: (&Desk<N>, &DeskKey<N>),
+    desk: (&Desk<N>, &DeskKeys<N>),
     relay: &mut RelaySeat,
 ) -> [Option<Verdict>; 4]
     requires named { relay.old.board ≡ N.board }
@@ -88,9 +85,10 @@ fn each_event<N: DeskName, R: Abort + Wait>(
     requires terms { N.terms ≡ terms_for opened.core.setup }
     requires setup { N.setup ≡ opened.core.setup }
 {
-    let (desk, key, mut relay) = start::<N>(opened);
-    let told = tell_each(rt, alloc, (&desk, &key), &mut relay);
-    (told, desk.close(relay))
+    let (desk, keys, mut relay) = start::<N>(opened);
+    let told = tell_each(rt, alloc, (&desk, &keys), &mut relay);
+    let (closing, _) = desk.close(relay);
+    (told, closing)
 }
 
 #[test]
@@ -111,7 +109,7 @@ fn each_is_told(rt: HostRuntime) {
 // Returns the number of passes that the seat has between its take and its post, and after it.
 fn vouch<N: DeskName, R: Abort + Wait>(
     rt: &R,
-    desk: (&Desk<N>, &DeskKey<N>),
+    desk: (&Desk<N>, &DeskKeys<N>),
     relay: RelaySeat,
     it: Ticketed,
 ) -> (u64, u64)
@@ -123,26 +121,25 @@ fn vouch<N: DeskName, R: Abort + Wait>(
         Taking::Taken(pass) => pass,
         Taking::NotYet => panic!(rt; "not offered"),
     };
-    let (mut relay, taken) = desk.0.open(desk.1).vouch(rt, relay);
+    let ((mut relay, taken), changed) = desk.0.open(&desk.1.desk).vouch(rt, relay);
+    changed.take(&desk.1.wake);
     relay.post(desk.0.board(), pass, Ending::Done);
-    let (_, posted) = desk.0.open(desk.1).vouch(rt, relay);
+    let ((_, posted), changed) = desk.0.open(&desk.1.desk).vouch(rt, relay);
+    changed.take(&desk.1.wake);
     (taken, posted)
 }
 
 // Returns the ticket that comes back from a place.
 fn collect<N: DeskName, R: Abort + Wait>(
     rt: &R,
-    desk: (&Desk<N>, &DeskKey<N>),
+    desk: (&Desk<N>, &DeskKeys<N>),
     moment: u64,
     place: usize,
 ) -> Option<u64>
     requires { place < N.terms.places }
 {
-    let mut woken = PlaceSet::new();
-    let answer = desk
-        .0
-        .open(desk.1)
-        .collect_at(rt, at(moment), place, &mut woken);
+    let (answer, changed) = desk.0.open(&desk.1.desk).collect_at(rt, at(moment), place);
+    changed.take(&desk.1.wake);
     let found = answer.expect(rt, "a collection");
     found.map(|back| back.ticket)
 }
@@ -150,21 +147,22 @@ fn collect<N: DeskName, R: Abort + Wait>(
 // Says whether a tick at this moment would tell a timeout, before the tick and after it.
 fn tick<N: DeskName, R: Abort + Wait>(
     rt: &R,
-    desk: (&Desk<N>, &DeskKey<N>),
+    desk: (&Desk<N>, &DeskKeys<N>),
     moment: u64,
 ) -> (bool, bool) {
-    let before = desk.0.expired(rt, at(moment));
-    let mut woken = PlaceSet::new();
-    let answer = desk.0.open(desk.1).tick(rt, at(moment), &mut woken);
+    let before = desk.0.look(rt).book().expired(at(moment));
+    let (answer, changed) = desk.0.open(&desk.1.desk).tick(rt, at(moment));
+    changed.take(&desk.1.wake);
     answer.expect(rt, "a tick");
-    (before, desk.0.expired(rt, at(moment)))
+    let after = desk.0.look(rt).book().expired(at(moment));
+    (before, after)
 }
 
 // Of three requests for one slot, one is over and one has waited too long.
 fn ask_on<N: DeskName, R: Abort + Wait>(
     rt: &R,
     alloc: Global,
-    desk: (&Desk<N>, &DeskKey<N>),
+    desk: (&Desk<N>, &DeskKeys<N>),
     relay: RelaySeat,
 )
     requires named { relay.board ≡ N.board }
@@ -184,8 +182,8 @@ fn ask<N: DeskName, R: Abort + Wait>(rt: &R, alloc: Global, opened: Opened)
     requires terms { N.terms ≡ terms_for opened.core.setup }
     requires setup { N.setup ≡ opened.core.setup }
 {
-    let (desk, key, relay) = start::<N>(opened);
-    ask_on(rt, alloc, (&desk, &key), relay);
+    let (desk, keys, relay) = start::<N>(opened);
+    ask_on(rt, alloc, (&desk, &keys), relay);
     drop(desk);
 }
 

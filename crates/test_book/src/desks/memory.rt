@@ -27,33 +27,44 @@ fn open_in_the_end(alloc: Global) -> Result<Opened, Fail> {
 fn come<N: DeskName, R: Wait>(
     rt: &R,
     alloc: Global,
-    desk: (&Desk<N>, &DeskKey<N>),
-    woken: &mut PlaceSet,
+    desk: (&Desk<N>, &DeskKeys<N>),
 ) -> Result<Ticketed, Refusal>
     ensures { IfOk result (λ it. it.place < N.terms.places) }
 {
-    match desk
-        .0
-        .open(desk.1)
-        .arrive(rt, alloc, Moment::zero(), offset(0), woken)
-    {
-        Err(Refusal::NoMemory) => desk
-            .0
-            .open(desk.1)
-            .arrive(rt, alloc, Moment::zero(), offset(0), woken),
+    match come_once(rt, alloc, desk) {
+        Err(Refusal::NoMemory) => come_once(rt, alloc, desk),
         answer => answer,
     }
+}
+
+fn come_once<N: DeskName, R: Wait>(
+    rt: &R,
+    alloc: Global,
+    desk: (&Desk<N>, &DeskKeys<N>),
+) -> Result<Ticketed, Refusal>
+    ensures { IfOk result (λ it. it.place < N.terms.places) }
+{
+    let (answer, changed) = desk
+        .0
+        .open(&desk.1.desk)
+        .arrive(rt, alloc, Moment::zero(), offset(0));
+    changed.take(&desk.1.wake);
+    answer
 }
 
 // Returns the number of reports.
 fn report<N: DeskName, R: Wait>(
     rt: &R,
     alloc: Global,
-    desk: (&Desk<N>, &DeskKey<N>),
+    desk: (&Desk<N>, &DeskKeys<N>),
 ) -> Result<usize, AllocError> {
-    match desk.0.report(rt, alloc) {
+    let told = desk.0.look(rt).book().report(alloc);
+    match told {
         Ok(reports) => Ok(reports.len()),
-        Err(_) => Ok(desk.0.report(rt, alloc)?.len()),
+        Err(_) => {
+            let told = desk.0.look(rt).book().report(alloc);
+            Ok(told?.len())
+        }
     }
 }
 
@@ -61,11 +72,15 @@ fn report<N: DeskName, R: Wait>(
 fn lines<N: DeskName, R: Wait>(
     rt: &R,
     alloc: Global,
-    desk: (&Desk<N>, &DeskKey<N>),
+    desk: (&Desk<N>, &DeskKeys<N>),
 ) -> Result<usize, AllocError> {
-    match desk.0.servers(rt, alloc) {
+    let told = desk.0.look(rt).book().servers(alloc);
+    match told {
         Ok(lines) => Ok(lines.len()),
-        Err(_) => Ok(desk.0.servers(rt, alloc)?.len()),
+        Err(_) => {
+            let told = desk.0.look(rt).book().servers(alloc);
+            Ok(told?.len())
+        }
     }
 }
 
@@ -73,18 +88,18 @@ fn lines<N: DeskName, R: Wait>(
 fn room<N: DeskName, R: Wait>(
     rt: &R,
     alloc: Global,
-    desk: (&Desk<N>, &DeskKey<N>),
+    desk: (&Desk<N>, &DeskKeys<N>),
 ) -> Result<bool, AllocError> {
-    match desk.0.open(desk.1).make_room(rt, alloc) {
+    match ask_room(rt, alloc, desk) {
         Ok(made) => Ok(has_ended(made)),
-        Err(_) => Ok(has_ended(desk.0.open(desk.1).make_room(rt, alloc)?)),
+        Err(_) => Ok(has_ended(ask_room(rt, alloc, desk)?)),
     }
 }
 
 fn tell<N: DeskName, R: Wait>(
     rt: &R,
     alloc: Global,
-    desk: (&Desk<N>, &DeskKey<N>),
+    desk: (&Desk<N>, &DeskKeys<N>),
 ) -> Result<(usize, usize, bool), AllocError> {
     Ok((
         report(rt, alloc, desk)?,
@@ -97,15 +112,14 @@ fn tell<N: DeskName, R: Wait>(
 fn use_up<N: DeskName, R: Wait>(
     rt: &R,
     alloc: Global,
-    desk: (&Desk<N>, &DeskKey<N>),
+    desk: (&Desk<N>, &DeskKeys<N>),
     relay: &mut RelaySeat,
 ) -> Result<(usize, usize, bool), Fail>
     requires named { relay.old.board ≡ N.board }
     requires terms { relay.old.view.terms ≡ N.terms }
     ensures { IsSameSeat relay.old relay.new }
 {
-    let mut woken = PlaceSet::new();
-    let Ok(it) = come(rt, alloc, desk, &mut woken) else {
+    let Ok(it) = come(rt, alloc, desk) else {
         return Err(Fail::from("refused"));
     };
     serve(desk.0.board(), relay, it);
@@ -121,9 +135,10 @@ fn use_up_one<N: DeskName, R: Wait>(
     requires terms { N.terms ≡ terms_for opened.core.setup }
     requires setup { N.setup ≡ opened.core.setup }
 {
-    let (desk, key, mut relay) = start::<N>(opened);
-    let told = use_up(rt, alloc, (&desk, &key), &mut relay);
-    (told, desk.close(relay))
+    let (desk, keys, mut relay) = start::<N>(opened);
+    let told = use_up(rt, alloc, (&desk, &keys), &mut relay);
+    let (closing, _) = desk.close(relay);
+    (told, closing)
 }
 
 #[test]

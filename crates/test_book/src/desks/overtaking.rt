@@ -9,7 +9,7 @@ use crate::assertions::{holds, same};
 fn overtake<N: DeskName, R: Abort + Wait>(
     rt: &R,
     alloc: Global,
-    desk: (&Desk<N>, &DeskKey<N>),
+    desk: (&Desk<N>, &DeskKeys<N>),
     relay: &mut RelaySeat,
 )
     requires named { relay.old.board ≡ N.board }
@@ -50,25 +50,21 @@ struct Told {
 fn tell<N: DeskName, R: Abort + Wait>(
     rt: &R,
     alloc: Global,
-    desk: (&Desk<N>, &DeskKey<N>),
+    desk: (&Desk<N>, &DeskKeys<N>),
 ) -> Told {
+    let servers = desk.0.look(rt).book().servers(alloc);
     Told {
         reports: reports(rt, alloc, desk),
-        servers: desk.0.servers(rt, alloc).expect(rt, "memory"),
+        servers: servers.expect(rt, "memory"),
         worst: (worst(rt, desk, 0), worst(rt, desk, 1)),
-        is_full: has_ended(
-            desk.0
-                .open(desk.1)
-                .make_room(rt, alloc)
-                .expect(rt, "memory"),
-        ),
+        is_full: has_ended(ask_room(rt, alloc, desk).expect(rt, "memory")),
     }
 }
 
 fn overtake_and_tell<N: DeskName, R: Abort + Wait>(
     rt: &R,
     alloc: Global,
-    desk: (&Desk<N>, &DeskKey<N>),
+    desk: (&Desk<N>, &DeskKeys<N>),
     relay: &mut RelaySeat,
 ) -> Told
     requires named { relay.old.board ≡ N.board }
@@ -90,9 +86,10 @@ fn overtake_once<N: DeskName, R: Abort + Wait>(
     requires terms { N.terms ≡ terms_for opened.core.setup }
     requires setup { N.setup ≡ opened.core.setup }
 {
-    let (desk, key, mut relay) = start::<N>(opened);
-    let told = overtake_and_tell(rt, alloc, (&desk, &key), &mut relay);
-    (told, desk.close(relay))
+    let (desk, keys, mut relay) = start::<N>(opened);
+    let told = overtake_and_tell(rt, alloc, (&desk, &keys), &mut relay);
+    let (closing, _) = desk.close(relay);
+    (told, closing)
 }
 
 #[test]

@@ -36,7 +36,7 @@ fn pinned(millis: i64) -> Wanted {
 fn take_down<N: DeskName, R: Abort + Wait>(
     rt: &R,
     alloc: Global,
-    desk: (&Desk<N>, &DeskKey<N>),
+    desk: (&Desk<N>, &DeskKeys<N>),
 ) -> (Option<i64>, Reports) {
     arrive(rt, alloc, desk, 0, pinned(0));
     arrive(rt, alloc, desk, 1, pinned(0));
@@ -57,8 +57,8 @@ fn fall_once<N: DeskName, R: Abort + Wait>(
     requires terms { N.terms ≡ terms_for opened.core.setup }
     requires setup { N.setup ≡ opened.core.setup }
 {
-    let (desk, key, _) = start::<N>(opened);
-    let told = take_down(rt, alloc, (&desk, &key));
+    let (desk, keys, _) = start::<N>(opened);
+    let told = take_down(rt, alloc, (&desk, &keys));
     drop(desk);
     told
 }

@@ -56,10 +56,10 @@ impl Sums {
 fn make_room<N: DeskName, R: Wait>(
     rt: &R,
     alloc: Global,
-    desk: (&Desk<N>, &DeskKey<N>),
+    desk: (&Desk<N>, &DeskKeys<N>),
     sums: &mut Sums,
 ) {
-    match desk.0.open(desk.1).make_room(rt, alloc) {
+    match ask_room(rt, alloc, desk) {
         Ok(Some(window)) => {
             let EndedWindow { reports, servers } = window;
             sums.add_lines(servers.as_slice());
@@ -73,18 +73,18 @@ fn make_room<N: DeskName, R: Wait>(
 fn admit<N: DeskName, R: Wait>(
     rt: &R,
     alloc: Global,
-    desk: (&Desk<N>, &DeskKey<N>),
+    desk: (&Desk<N>, &DeskKeys<N>),
     sums: &mut Sums,
 ) -> Option<Ticketed>
     ensures { IfSome result (λ it. it.place < N.terms.places) }
 {
     for _ in rt.forever() {
-        let mut woken = PlaceSet::new();
-        match desk
+        let (answer, changed) = desk
             .0
-            .open(desk.1)
-            .arrive(rt, alloc, Moment::zero(), offset(0), &mut woken)
-        {
+            .open(&desk.1.desk)
+            .arrive(rt, alloc, Moment::zero(), offset(0));
+        changed.take(&desk.1.wake);
+        match answer {
             Ok(it) => return Some(it),
             Err(Refusal::LogFull) => make_room(rt, alloc, desk, sums),
             Err(_) => return None,
@@ -96,16 +96,12 @@ fn admit<N: DeskName, R: Wait>(
 fn turn_round<N: DeskName, R: Wait>(
     rt: &R,
     alloc: Global,
-    desk: (&Desk<N>, &DeskKey<N>),
+    desk: (&Desk<N>, &DeskKeys<N>),
     sums: &mut Sums,
 ) {
-    let mut woken = PlaceSet::new();
-    if desk
-        .0
-        .open(desk.1)
-        .turn(rt, Moment::zero(), &mut woken)
-        .is_err()
-    {
+    let (answer, changed) = desk.0.open(&desk.1.desk).turn(rt, Moment::zero());
+    changed.take(&desk.1.wake);
+    if answer.is_err() {
         make_room(rt, alloc, desk, sums);
     }
 }
@@ -114,7 +110,7 @@ fn turn_round<N: DeskName, R: Wait>(
 fn come<N: DeskName, R: Wait>(
     rt: &R,
     alloc: Global,
-    desk: (&Desk<N>, &DeskKey<N>),
+    desk: (&Desk<N>, &DeskKeys<N>),
     relay: &mut RelaySeat,
     sums: &mut Sums,
 )
@@ -135,16 +131,14 @@ fn come<N: DeskName, R: Wait>(
 }
 
 // Changes the server's limit now and then.
-fn change<N: DeskName, R: Wait>(rt: &R, desk: (&Desk<N>, &DeskKey<N>), number: u32) {
+fn change<N: DeskName, R: Wait>(rt: &R, desk: (&Desk<N>, &DeskKeys<N>), number: u32) {
     if number % 64 == 63 {
-        let mut woken = PlaceSet::new();
-        let _ = desk.0.open(desk.1).limit(
-            rt,
-            Moment::zero(),
-            0,
-            Intake::Open(1 + number / 64 % 4),
-            &mut woken,
-        );
+        let intake = Intake::Open(1 + number / 64 % 4);
+        let (_, changed) = desk
+            .0
+            .open(&desk.1.desk)
+            .limit(rt, Moment::zero(), 0, intake);
+        changed.take(&desk.1.wake);
     }
 }
 
@@ -152,7 +146,7 @@ fn change<N: DeskName, R: Wait>(rt: &R, desk: (&Desk<N>, &DeskKey<N>), number: u
 fn come_and_go<N: DeskName, R: Wait>(
     rt: &R,
     alloc: Global,
-    desk: (&Desk<N>, &DeskKey<N>),
+    desk: (&Desk<N>, &DeskKeys<N>),
     relay: RelaySeat,
     requests: u32,
 ) -> (RelaySeat, Sums)
@@ -173,7 +167,7 @@ fn come_and_go<N: DeskName, R: Wait>(
 fn pair<N: DeskName + Send + Sync, R: Threads + Wait + Sync>(
     rt: &R,
     alloc: Global,
-    desk: (&Desk<N>, &DeskKey<N>),
+    desk: (&Desk<N>, &DeskKeys<N>),
     seats: (RelaySeat, RelaySeat),
     requests: u32,
 ) -> (RelaySeat, RelaySeat, Sums)
@@ -200,13 +194,13 @@ fn pair<N: DeskName + Send + Sync, R: Threads + Wait + Sync>(
 fn finish<N: DeskName, R: Abort + Wait>(
     rt: &R,
     alloc: Global,
-    desk: (&Desk<N>, &DeskKey<N>),
+    desk: (&Desk<N>, &DeskKeys<N>),
     sums: Sums,
 ) -> Sums {
     turn(rt, desk, 1);
     let mut sums = sums;
-    let lines = desk.0.servers(rt, alloc).expect(rt, "memory");
-    sums.add_lines(lines.as_slice());
+    let lines = desk.0.look(rt).book().servers(alloc);
+    sums.add_lines(lines.expect(rt, "memory").as_slice());
     sums.add_reports(&reports(rt, alloc, desk));
     sums
 }
@@ -220,12 +214,13 @@ fn two_come<N: DeskName + Send + Sync, R: Abort + Threads + Wait + Sync>(
     requires terms { N.terms ≡ terms_for opened.core.setup }
     requires setup { N.setup ≡ opened.core.setup }
 {
-    let (desk, key, mut first) = start::<N>(opened);
+    let (desk, keys, mut first) = start::<N>(opened);
     let second = first.split(desk.board());
-    let (mut first, second, sums) = pair(rt, alloc, (&desk, &key), (first, second), 100);
-    let sums = finish(rt, alloc, (&desk, &key), sums);
+    let (mut first, second, sums) = pair(rt, alloc, (&desk, &keys), (first, second), 100);
+    let sums = finish(rt, alloc, (&desk, &keys), sums);
     first.join(desk.board(), second);
-    (sums, desk.close(first))
+    let (closing, _) = desk.close(first);
+    (sums, closing)
 }
 
 #[test]
@@ -249,7 +244,7 @@ struct Seats {
 fn crowd<N: DeskName + Send + Sync, R: Threads + Wait + Sync>(
     rt: &R,
     alloc: Global,
-    desk: (&Desk<N>, &DeskKey<N>),
+    desk: (&Desk<N>, &DeskKeys<N>),
     seats: Seats,
     requests: u32,
 ) -> (Seats, Sums)
@@ -288,7 +283,7 @@ fn four_come<N: DeskName + Send + Sync, R: Abort + Threads + Wait + Sync>(
     requires terms { N.terms ≡ terms_for opened.core.setup }
     requires setup { N.setup ≡ opened.core.setup }
 {
-    let (desk, key, mut first) = start::<N>(opened);
+    let (desk, keys, mut first) = start::<N>(opened);
     let second = first.split(desk.board());
     let third = first.split(desk.board());
     let fourth = first.split(desk.board());
@@ -296,10 +291,11 @@ fn four_come<N: DeskName + Send + Sync, R: Abort + Threads + Wait + Sync>(
         some: (first, second),
         others: (third, fourth),
     };
-    let (seats, sums) = crowd(rt, alloc, (&desk, &key), seats, 5_000);
-    let sums = finish(rt, alloc, (&desk, &key), sums);
+    let (seats, sums) = crowd(rt, alloc, (&desk, &keys), seats, 5_000);
+    let sums = finish(rt, alloc, (&desk, &keys), sums);
     let first = gather(desk.board(), seats);
-    (sums, desk.close(first))
+    let (closing, _) = desk.close(first);
+    (sums, closing)
 }
 
 // Returns the first seat, once the others are joined into it.

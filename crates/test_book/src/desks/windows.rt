@@ -9,7 +9,7 @@ use crate::assertions::{holds, same};
 fn wait_over_a_roll<N: DeskName, R: Abort + Wait>(
     rt: &R,
     alloc: Global,
-    desk: (&Desk<N>, &DeskKey<N>),
+    desk: (&Desk<N>, &DeskKeys<N>),
     relay: &mut RelaySeat,
 ) -> Reports
     requires named { relay.old.board ≡ N.board }
@@ -18,10 +18,12 @@ fn wait_over_a_roll<N: DeskName, R: Abort + Wait>(
     let first = arrive(rt, alloc, desk, 0, offset(0));
     arrive(rt, alloc, desk, 1, offset(0));
     let third = arrive(rt, alloc, desk, 2, offset(-5));
+    let (ended, changed) = desk.0.open(&desk.1.desk).roll(rt, alloc);
+    changed.take(&desk.1.wake);
     let EndedWindow {
         reports: told,
         servers,
-    } = desk.0.open(desk.1).roll(rt, alloc).expect(rt, "memory");
+    } = ended.expect(rt, "memory");
     holds(rt, told.is_empty());
     same(rt, servers.len(), 1);
     serve(desk.0.board(), relay, first);
@@ -36,8 +38,8 @@ fn roll_once<N: DeskName, R: Abort + Wait>(rt: &R, alloc: Global, opened: Opened
     requires terms { N.terms ≡ terms_for opened.core.setup }
     requires setup { N.setup ≡ opened.core.setup }
 {
-    let (desk, key, mut relay) = start::<N>(opened);
-    let told = wait_over_a_roll(rt, alloc, (&desk, &key), &mut relay);
+    let (desk, keys, mut relay) = start::<N>(opened);
+    let told = wait_over_a_roll(rt, alloc, (&desk, &keys), &mut relay);
     drop(desk);
     told
 }
@@ -58,7 +60,7 @@ fn who_waits_joined_at_the_base(rt: HostRuntime) {
 fn make_room<N: DeskName, R: Abort + Wait>(
     rt: &R,
     alloc: Global,
-    desk: (&Desk<N>, &DeskKey<N>),
+    desk: (&Desk<N>, &DeskKeys<N>),
     relay: &mut RelaySeat,
 ) -> EndedWindow
     requires named { relay.old.board ≡ N.board }
@@ -68,11 +70,7 @@ fn make_room<N: DeskName, R: Abort + Wait>(
     let it = arrive(rt, alloc, desk, 0, offset(0));
     serve(desk.0.board(), relay, it);
     same(rt, turned(rt, desk, 1), Err(Refusal::LogFull));
-    let made = desk
-        .0
-        .open(desk.1)
-        .make_room(rt, alloc)
-        .expect(rt, "memory");
+    let made = ask_room(rt, alloc, desk).expect(rt, "memory");
     let window = made.expect(rt, "a window");
     turn(rt, desk, 1);
     window
@@ -87,19 +85,21 @@ fn fill<N: DeskName, R: Abort + Wait>(
     requires terms { N.terms ≡ terms_for opened.core.setup }
     requires setup { N.setup ≡ opened.core.setup }
 {
-    let (desk, key, mut relay) = start::<N>(opened);
-    let window = make_room(rt, alloc, (&desk, &key), &mut relay);
-    (window, desk.close(relay))
+    let (desk, keys, mut relay) = start::<N>(opened);
+    let window = make_room(rt, alloc, (&desk, &keys), &mut relay);
+    let (closing, _) = desk.close(relay);
+    (window, closing)
 }
 
 // The answer of a turn.
 fn turned<N: DeskName, R: Wait>(
     rt: &R,
-    desk: (&Desk<N>, &DeskKey<N>),
+    desk: (&Desk<N>, &DeskKeys<N>),
     moment: u64,
 ) -> Result<(), Refusal> {
-    let mut woken = PlaceSet::new();
-    desk.0.open(desk.1).turn(rt, at(moment), &mut woken)
+    let (answer, changed) = desk.0.open(&desk.1.desk).turn(rt, at(moment));
+    changed.take(&desk.1.wake);
+    answer
 }
 
 #[test]
@@ -122,7 +122,7 @@ fn a_full_log_makes_room(rt: HostRuntime) {
 fn leave<N: DeskName, R: Abort + Wait>(
     rt: &R,
     alloc: Global,
-    desk: (&Desk<N>, &DeskKey<N>),
+    desk: (&Desk<N>, &DeskKeys<N>),
     relay: &mut RelaySeat,
 ) -> Result<(), Refusal>
     requires named { relay.old.board ≡ N.board }
@@ -143,9 +143,10 @@ fn leave_one<N: DeskName, R: Abort + Wait>(
     requires terms { N.terms ≡ terms_for opened.core.setup }
     requires setup { N.setup ≡ opened.core.setup }
 {
-    let (desk, key, mut relay) = start::<N>(opened);
-    let refused = leave(rt, alloc, (&desk, &key), &mut relay);
-    (refused, desk.close(relay))
+    let (desk, keys, mut relay) = start::<N>(opened);
+    let refused = leave(rt, alloc, (&desk, &keys), &mut relay);
+    let (closing, _) = desk.close(relay);
+    (refused, closing)
 }
 
 #[test]

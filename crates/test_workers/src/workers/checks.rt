@@ -15,16 +15,19 @@ type Checked = (u64, bool);
 fn check_thrice<N: DeskName, R: Abort + Wait>(
     rt: &R,
     proxy: &Proxy<N>,
+    seen: &Seen,
     up: bool,
     stopped: bool,
 ) -> Checked {
-    let seen = Seen::new();
-    let mut gate = Fake::new(Scene { up, ..plain() }, &seen);
+    let before = seen.probes.load(Ordering::SeqCst);
+    let mut gate = Fake::new(Scene { up, ..plain() }, seen);
     let stop = AtomicBool::new(stopped);
     checker(rt, proxy, &mut gate, &mut Few::new(3), &stop);
-    let lines = proxy.desk.servers(rt, proxy.alloc).expect(rt, "memory");
+    let read = proxy.desk.look(rt).book().servers(proxy.alloc);
+    let lines = read.expect(rt, "memory");
     let is_up = lines.iter().all(|line| line.up);
-    (seen.probes.load(Ordering::SeqCst), is_up)
+    let probes = seen.probes.load(Ordering::SeqCst).saturating_sub(before);
+    (probes, is_up)
 }
 
 // A server fails its checks, isn't checked by a checker that was told to stop, and then passes.
@@ -34,11 +37,12 @@ fn down_and_up<N: DeskName, R: Abort + Wait>(rt: &R, alloc: Global, opened: Open
     requires setup { N.setup ≡ opened.core.setup }
     requires sound { IsSoundConfig opened.config }
 {
-    let (proxy, idle) = start::<N>(alloc, opened);
+    let (proxy, keys, idle) = start::<N>(alloc, opened);
+    let seen = Seen::new(keys.wake);
     let found = [
-        check_thrice(rt, &proxy, false, false),
-        check_thrice(rt, &proxy, true, true),
-        check_thrice(rt, &proxy, true, false),
+        check_thrice(rt, &proxy, &seen, false, false),
+        check_thrice(rt, &proxy, &seen, true, true),
+        check_thrice(rt, &proxy, &seen, true, false),
     ];
     close(proxy, idle);
     found

@@ -20,8 +20,8 @@ fn serve_two<N: DeskName + Send + Sync, R: Abort + Threads + Wait + Sync>(
     requires setup { N.setup ≡ opened.core.setup }
     requires sound { IsSoundConfig opened.config }
 {
-    let (proxy, idle) = start::<N>(alloc, opened);
-    let seen = Seen::new();
+    let (proxy, keys, idle) = start::<N>(alloc, opened);
+    let seen = Seen::new(keys.wake);
     let one = Scene {
         clients: 1,
         ..plain()

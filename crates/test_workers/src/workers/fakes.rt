@@ -15,10 +15,12 @@ pub(crate) struct Seen {
     pub(crate) windows: AtomicU64,
     /// The number of looks at checks of servers.
     pub(crate) probes: AtomicU64,
+    // The key to what calls of the desk change.
+    wakes: WakeKey,
 }
 
 impl Seen {
-    pub(crate) fn new() -> Seen {
+    pub(crate) fn new(wakes: WakeKey) -> Seen {
         Seen {
             right: AtomicU64::new(0),
             wrong: AtomicU64::new(0),
@@ -26,6 +28,7 @@ impl Seen {
             answers: AtomicU64::new(0),
             windows: AtomicU64::new(0),
             probes: AtomicU64::new(0),
+            wakes,
         }
     }
 }
@@ -179,7 +182,8 @@ impl<'a> Gate for Fake<'a> {
         Moment::new(self.now).unwrap_or(Moment::zero())
     }
 
-    fn window(&mut self, window: EndedWindow) {
+    fn window<N: DeskName>(&mut self, window: EndedWindow, changed: Changed<N>) {
+        let _ = changed.take(&self.seen.wakes);
         let EndedWindow {
             reports: _,
             servers: _,
@@ -187,7 +191,9 @@ impl<'a> Gate for Fake<'a> {
         self.seen.windows.fetch_add(1, Ordering::SeqCst);
     }
 
-    fn wake(&mut self, _places: &PlaceSet) {}
+    fn wake<N: DeskName>(&mut self, changed: Changed<N>) {
+        let _ = changed.take(&self.seen.wakes);
+    }
 }
 
 impl<'a> Fake<'a> {

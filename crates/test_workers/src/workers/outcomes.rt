@@ -15,8 +15,8 @@ fn work<N: DeskName, R: Wait>(rt: &R, alloc: Global, opened: Opened, scene: Scen
     requires setup { N.setup ≡ opened.core.setup }
     requires sound { IsSoundConfig opened.config }
 {
-    let (proxy, mut idle) = start::<N>(alloc, opened);
-    let seen = Seen::new();
+    let (proxy, keys, mut idle) = start::<N>(alloc, opened);
+    let seen = Seen::new(keys.wake);
     let gate = Fake::new(scene, &seen);
     let tally = work_with(rt, &proxy, &mut idle, gate, Few::new(100));
     Found {

@@ -78,8 +78,8 @@ fn work_behind<N: DeskName, R: Abort + Wait>(
     requires setup { N.setup ≡ opened.core.setup }
     requires sound { IsSoundConfig opened.config }
 {
-    let (proxy, mut idle) = start::<N>(alloc, opened);
-    let seen = Seen::new();
+    let (proxy, keys, mut idle) = start::<N>(alloc, opened);
+    let seen = Seen::new(keys.wake);
     let gates = (Fake::new(scene, &seen), Fake::new(scene, &seen));
     let tally = come_behind(rt, &proxy, &mut idle, gates.0, gates.1);
     let closing = close(proxy, idle);

@@ -181,9 +181,7 @@ pub fn arrive_late<R: Wait, N: DeskName, G: Gate>(
         gate,
         || -> (Result<Ticketed, Refusal>, Changed<N>)
             ensures { AnswersArrival N.terms N.setup (late_arrival deferred) deferred.pin moment result.0 result.1 }
-        {
-            proxy.open().arrive_due(rt, proxy.alloc, moment, deferred)
-        },
+        { proxy.open().arrive_due(rt, proxy.alloc, moment, deferred) },
     )
 }
 

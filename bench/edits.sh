@@ -1,7 +1,7 @@
 #!/usr/bin/env bash
 # bench/edits.sh [NAME..]: tries the edits bench/edits/NAME/*.edit, each of which the prover must refuse as it refuses those of
 # crates/NAME/must-fail; without names all. `rt ci` leaves these out: their crates' proofs take so long that each would cost it
-# more than a minute. Prints a line for each; the status is 1 where one wasn't refused. Takes about two hours on one
+# more than a minute, or (relay_http) their crate has twenty there. Prints a line for each; the status is 1 where one wasn't refused. Takes about two hours on one
 # processor, and the libraries below are built first where they aren't there.
 set -u
 cd "$(dirname "$0")/.." || exit 2

@@ -1,5 +1,5 @@
-ghost use Rattle.std.specs.Prelude.{◌≡◌, ◌⊎◌, ◌+◌, ◌^◌, ◌<◌, ◌≤◌, ◌++◌, ℕ, List, [], length, drop, true, false, IfOk, OnOk, IfErr};
-ghost use Rattle.std.specs.Io.KnownBytes.{IsAtEnd};
+ghost use Rattle.std.specs.Prelude.{◌≡◌, ◌⊎◌, ◌+◌, ◌^◌, ◌<◌, ◌≤◌, ◌++◌, ℕ, List, [], length, drop, true, false, IfOk, OnOk, IfErr, OnErr};
+ghost use Rattle.std.specs.Io.KnownBytes.{IsAtEnd, Keeps};
 ghost use Rattle.http_bodies.specs.Readings.{Feeds};
 ghost use Rattle.http_bodies.specs.Stops.{is_done, is_bad};
 ghost use Rattle.base_streams.specs.Streams.{Stream};
@@ -143,6 +143,7 @@ impl Pipe {
         ensures none { IfOk result (λ count. count ≡ 0 → self.new.inbox ≡ self.old.inbox) }
         ensures spent { OnOk result (self.new.turns < self.old.turns) }
         ensures waiting { self.new.outbox ≡ self.old.outbox }
+        ensures kept { OnErr result ((self.new.inbox ≡ self.old.inbox) × Keeps (S.stream source.old).bytes (S.stream source.new).bytes) }
         ensures err { (w : Stream) → IfErr result (Breaks (ends self.old (S.stream source.old) w) (ends self.new (S.stream source.new) w) [] [] LacksNothing) }
     {
         if self.turns == 0 {

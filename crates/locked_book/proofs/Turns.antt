@@ -1,11 +1,9 @@
 -- Places that are visited one after the other.
-use Rattle.std.proofs.Common.{◌≡◌, ◌≢◌, inl, inr, ℕ, ◌+◌, ◌<◌, ◌≤◌, nat_lt, Bool, true}
+use Rattle.std.proofs.Common.{◌≡◌, ◌≢◌, inl, inr, ℕ, zero, suc, ◌+◌, ◌*◌, ◌<◌, ◌≤◌, nat_lt, Bool, true}
 use Rattle.std.proofs.Common.{false, List, [], ◌∷◌, ◌++◌, Contains, refl, ap, sym, ◌∙◌, subst, arith}
-use mathlib.Core.Logic.{dite}
-use native.Mathlib.Decide.{ℕ_discrete}
 use Rattle.std.proofs.lemmas.Bool.Decides.{nat_tests}
 use Rattle.std.proofs.lemmas.List.Elements.{Contains-append_left, Contains-append_right, Contains-append_cases}
-use Rattle.base_lists.proofs.Members.{Contains-nil, Contains-head, Contains-tail, Contains-cases}
+use Rattle.base_lists.proofs.Members.{Contains-nil, Contains-head, Contains-tail}
 use Rattle.base_lists.proofs.Totals.{total-append}
 use Rattle.grant_board.specs.Views.{KeeperView, grant, at_place, count_at}
 use Rattle.grant_board.proofs.Grants.{at_place-no}
@@ -14,7 +12,26 @@ use Rattle.grant_board.specs.declared.returned.Return.{Return}
 use Rattle.grant_board.specs.KeeperCalls.{FindsUnposted}
 use Rattle.log_entries.specs.Histories.{effective}
 use Rattle.locked_book.specs.Calls.{Booked, TakesBack, grants_in, added}
-use Rattle.locked_book.specs.Turns.{Visits, VisitsFrom, StopsBelow, Walks}
+use Rattle.locked_book.specs.Turns.{Visits, VisitsFrom, WalksBlock, WalksBlocks, WalksAll, Stops}
+
+-- the part of a walk over the places from one number up to another: each of them that was out at
+-- first was visited
+pub record Walks (moment low high : ℕ) (old : Booked) (woken : List ℕ) (new : Booked) (woken_then : List ℕ) : Type 0 where
+  pub places : List ℕ
+  pub visits : VisitsFrom moment low places old woken new woken_then
+  pub below : (place : ℕ) → Contains places place → place < high
+  pub all : (place : ℕ) → low ≤ place → place < high → 0 < count_at place old.view.out → Contains places place
+
+-- the places that were out at first were visited, from a number up to a place that is out and was
+-- next
+pub record StopsBelow (moment first : ℕ) (old : Booked) (woken : List ℕ) (new : Booked) (woken_then : List ℕ) : Type 0 where
+  pub places : List ℕ
+  pub visits : VisitsFrom moment first places old woken new woken_then
+  pub next : ℕ
+  pub from : first ≤ next
+  pub above : (place : ℕ) → Contains places place → place < next
+  pub all : (place : ℕ) → first ≤ place → place < next → 0 < count_at place old.view.out → Contains places place
+  pub out : 0 < count_at next new.view.out
 
 -- a visit leaves the other places out
 pub visit_keeps : (m p q : ℕ) (old : Booked) (woken : List ℕ) (new : Booked) (woken_then : List ℕ) → q ≢ p → Visits m p old woken new woken_then
@@ -60,52 +77,6 @@ visits_keep m (p ∷ places) first mid q a woken_a b woken_b below high some out
     (visit_keeps m p q a woken_a some.1.0 some.1.1 (λ same. let less = below p (Contains-head p places) in absurd (omega (arith, same, less, high)))
     some.1.2 out)
 
-pub walks_none : (m low high : ℕ) (a : Booked) (woken_a : List ℕ) → ((q : ℕ) → low ≤ q → q < high → 0 < count_at q a.view.out → ⊥)
-    → Walks m low high a woken_a a woken_a
-walks_none m low high a woken_a none = record {
-  places = [];
-  visits = (refl, refl);
-  below = λ q there. absurd (Contains-nil q there);
-  all = λ q from to out. absurd (none q from to out);
-}
-
--- a walk has all that was out as far as no other place was
-all_further : (m low mid high : ℕ) (a : Booked) (woken_a : List ℕ) (b : Booked) (woken_b : List ℕ)
-    → ((q : ℕ) → mid ≤ q → q < high → 0 < count_at q a.view.out → ⊥) → (is : Walks m low mid a woken_a b woken_b)
-    → (q : ℕ) → low ≤ q → q < high → 0 < count_at q a.view.out → Contains is.places q
-all_further m low mid high a woken_a b woken_b none is q from to out = by_place (nat_lt q mid) refl
-  where
-    by_place : (b : Bool) → nat_lt q mid ≡ b → Contains is.places q
-    by_place true e = is.all q from (grind (arith, nat_tests)) out
-    by_place false e = absurd (none q (grind (arith, nat_tests)) to out)
-
-pub walks_further : (m low mid high : ℕ) (a : Booked) (woken_a : List ℕ) (b : Booked) (woken_b : List ℕ) → mid ≤ high
-    → ((q : ℕ) → mid ≤ q → q < high → 0 < count_at q a.view.out → ⊥)
-    → Walks m low mid a woken_a b woken_b → Walks m low high a woken_a b woken_b
-walks_further m low mid high a woken_a b woken_b up none is = record {
-  places = is.places;
-  visits = is.visits;
-  below = λ q there. let less = is.below q there in omega (arith, less, up);
-  all = all_further m low mid high a woken_a b woken_b none is;
-}
-
--- one place more, and none that was out is between
-pub walks_on : (m low mid p : ℕ) (a : Booked) (woken_a : List ℕ) (b : Booked) (woken_b : List ℕ) (c : Booked) (woken_c : List ℕ) → low ≤ mid → mid ≤ p
-    → ((q : ℕ) → mid ≤ q → q < p → 0 < count_at q a.view.out → ⊥)
-    → Walks m low mid a woken_a b woken_b → Visits m p b woken_b c woken_c → Walks m low (p + 1) a woken_a c woken_c
-walks_on m low mid p a woken_a b woken_b c woken_c from up none is one = record {
-  places = is.places ++ p ∷ [];
-  visits = visits_after m is.places (p ∷ []) low mid a woken_a b woken_b c woken_c from is.below is.visits (up, (c, woken_c, one, (refl, refl)));
-  below = λ q there. elim (Contains-append_cases is.places (p ∷ []) q there) [
-    | inl old ↦ let less = is.below q old in omega (arith, less, up)
-    | inr new ↦ elim (Contains-cases p [] q new) [ inl same ↦ omega (arith, same) | inr nil ↦ absurd (Contains-nil q nil) ]
-  ];
-  all = λ q after less out. dite (ℕ_discrete q p)
-      (λ same. Contains-append_right is.places (p ∷ []) q (subst (Contains (p ∷ [])) (sym same) (Contains-head p [])))
-      (λ apart. Contains-append_left is.places (p ∷ []) q
-      (all_further m low mid p a woken_a b woken_b none is q after (omega (arith, less, apart)) out));
-}
-
 -- one walk after the other
 pub walks_after : (m low mid high : ℕ) (a : Booked) (woken_a : List ℕ) (b : Booked) (woken_b : List ℕ) (c : Booked) (woken_c : List ℕ)
     → low ≤ mid → mid ≤ high → Walks m low mid a woken_a b woken_b → Walks m mid high b woken_b c woken_c → Walks m low high a woken_a c woken_c
@@ -125,11 +96,6 @@ walks_after m low mid high a woken_a b woken_b c woken_c from up is more = recor
         let high_enough : mid ≤ q = grind (arith, nat_tests) in
         Contains-append_right is.places more.places q
         (more.all q high_enough less (visits_keep m is.places low mid q a woken_a b woken_b is.below high_enough is.visits out))
-
--- what was out when a part of a walk was done is out after it, from its end on
-pub walks_keep : (m low high q : ℕ) (a : Booked) (woken_a : List ℕ) (b : Booked) (woken_b : List ℕ) → high ≤ q → Walks m low high a woken_a b woken_b
-    → 0 < count_at q a.view.out → 0 < count_at q b.view.out
-walks_keep m low high q a woken_a b woken_b after is out = visits_keep m is.places low high q a woken_a b woken_b is.below after is.visits out
 
 -- a look that found something, or nothing
 pub visit_of : (m p : ℕ) (old : Booked) (woken : List ℕ) (new : Booked) (woken_then : List ℕ) (found : Option Return) → 0 < count_at p old.view.out
@@ -162,3 +128,51 @@ stopped m low a woken_a b woken_b c woken_c mid from is more = record {
         let high_enough : mid ≤ q = grind (arith, nat_tests) in
         Contains-append_right is.places more.places q
         (more.all q high_enough less (visits_keep m is.places low mid q a woken_a b woken_b is.below high_enough is.visits out))
+
+-- a block's walk visits each of the block's places that was out at first
+pub block_walks : (m n : ℕ) (a : Booked) (woken_a : List ℕ) (b : Booked) (woken_b : List ℕ)
+    → WalksBlock m n a woken_a b woken_b → Walks m (64 * n) (64 * n + 64) a woken_a b woken_b
+block_walks m n a woken_a b woken_b is = record {
+  places = is.places;
+  visits = is.visits;
+  below = λ q there. let at = ((is.exact q).0 there).0 in omega (arith, at);
+  all = λ q from to out. (is.exact q).1 (omega (arith, from, to), out);
+}
+
+-- and so do the walks over blocks one after the other, though a later one begins with what the
+-- earlier ones left
+pub blocks_walk : (m n : ℕ) (a : Booked) (woken_a : List ℕ) (b : Booked) (woken_b : List ℕ)
+    → WalksBlocks m n a woken_a b woken_b → Walks m 0 (64 * n) a woken_a b woken_b
+blocks_walk m zero a woken_a b woken_b is = record {
+  places = [];
+  visits = is;
+  below = λ q there. absurd (Contains-nil q there);
+  all = λ q from to out. absurd (omega (arith, to));
+}
+blocks_walk m (suc n) a woken_a b woken_b is =
+    let next : 64 * n + 64 ≡ 64 * suc n = omega arith in
+    subst (λ high. Walks m 0 high a woken_a b woken_b) next
+    (walks_after m 0 (64 * n) (64 * n + 64) a woken_a is.0 is.1 b woken_b (omega arith) (omega arith)
+    (blocks_walk m n a woken_a is.0 is.1 is.2) (block_walks m n is.0 is.1 b woken_b is.3))
+
+-- in a whole walk each place that was out at first is visited
+pub all_visited : (m : ℕ) (a : Booked) (woken_a : List ℕ) (b : Booked) (woken_b : List ℕ) → WalksAll m a woken_a b woken_b
+    → (places : List ℕ) × VisitsFrom m 0 places a woken_a b woken_b × ((q : ℕ) → 0 < count_at q a.view.out → Contains places q)
+all_visited m a woken_a b woken_b is =
+    let walks = blocks_walk m is.blocks a woken_a b woken_b is.walks in
+    (walks.places, walks.visits, λ q out. walks.all q (omega arith) (is.all q out) out)
+
+-- in one that stopped, each that was out at first below the place that was next
+pub stops_below : (m : ℕ) (a : Booked) (woken_a : List ℕ) (b : Booked) (woken_b : List ℕ) → Stops m a woken_a b woken_b
+    → StopsBelow m 0 a woken_a b woken_b
+stops_below m a woken_a b woken_b is =
+    stopped m 0 a woken_a is.between is.woken_between b woken_b (64 * is.number) (omega arith)
+    (blocks_walk m is.number a woken_a is.between is.woken_between is.walks) (record {
+      places = is.stops.places;
+      visits = is.stops.visits;
+      next = is.stops.next;
+      from = let at = is.stops.in_block in omega (arith, at);
+      above = λ q there. ((is.stops.exact q).0 there).1;
+      all = λ q from less out. let at = is.stops.in_block in (is.stops.exact q).1 (omega (arith, at, from, less), less, out);
+      out = is.stops.out;
+    })

@@ -6,7 +6,7 @@ ghost use Rattle.log_entries.specs.Rows.{served, queued};
 ghost use Rattle.log_entries.specs.Scenes.{is_up};
 ghost use Rattle.base_lists.specs.Weights.{AreIn};
 ghost use Rattle.locked_book.specs.Outstanding.{outstanding};
-ghost use Rattle.locked_book.specs.Turns.{StopsBelow, Halts, Walks, Turns};
+ghost use Rattle.locked_book.specs.Turns.{StopsInBlock, Halts, WalksBlock, Turns};
 ghost use Rattle.dispatch_core.specs.Occurrences.{refuses, entry_of};
 ghost use Rattle.locked_book.specs.Ends.{neither_ends_nor_limits, IsAcceptable};
 ghost use Rattle.log_entries.specs.Histories.{first_window, next_window, state_of, effective, refuses_arrival, refuses_abort, refuses_tick, refuses_check, refuses_limit, SomeExpires, RefusedOrNoMemory};
@@ -360,10 +360,11 @@ impl<Q: PendQueue<Key, usize>, N: DeskName> Book<Q, N> {
         self.keeping.vouch(board, relay)
     }
 
-    /// Looks at each place that is out, by rising number, and collects what was posted there; then
-    /// makes a tick, where a request has waited too long. Refused where the log is full, even if no
-    /// place is out: the returns that were collected before are kept. `O(1)` for each place that is
-    /// out, beside the events.
+    /// Walks the blocks of 64 places by rising number: looks at each place that is out when the
+    /// walk comes to its block, and collects what was posted there; then makes a tick, where a
+    /// request has waited too long. Refused where the log is full, even if no place is out: the
+    /// returns that were collected before are kept. `O(1)` for each place that is out, beside the
+    /// events.
     pub fn turn(
         &mut self,
         board: &Board,
@@ -398,9 +399,9 @@ impl<Q: PendQueue<Key, usize>, N: DeskName> Book<Q, N> {
     ) -> Result<(), Refusal>
         requires board { board.now ≡ N.board }
         requires in_range { number < 64 }
-        ensures ok { OnOk result (Walks moment (64 * number) (64 * number + 64) self.old woken.old self.new woken.new) }
+        ensures ok { OnOk result (WalksBlock moment number self.old woken.old self.new woken.new) }
         ensures err { IfErr result (λ refusal. (refusal ≡ LogFull) × (refuses_tick self.new.history ≡ Some LogFull)) }
-        ensures stopped { OnErr result (StopsBelow moment (64 * number) self.old woken.old self.new woken.new) }
+        ensures stopped { OnErr result (StopsInBlock moment number self.old woken.old self.new woken.new) }
     {
         let mut ahead = self.keeping.block(number);
         let mut room = self.core.has_room();

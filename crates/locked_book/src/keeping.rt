@@ -46,6 +46,7 @@ impl Keeping {
     /// Returns the number of blocks of 64 places.
     pub fn blocks(&self) -> usize
         ensures all { (place : ℕ) → 0 < count_at place self.now.view.out → place < 64 * result }
+        ensures in_blocks { self.now.view.terms.places ≤ 64 * result }
         ensures few { result ≤ 64 }
     {
         self.blocks

@@ -101,8 +101,9 @@ impl Scribe {
     ) {
         let LogSubject { names, address } = site;
         let mut scribe = self;
-        if desk.0.follow(rt, desk.1, scribe.alloc, TAIL).is_err() {
-            return;
+        match desk.0.follow(rt, scribe.alloc, TAIL) {
+            Ok(begun) => begun.forget(desk.1),
+            Err(_) => return,
         }
         scribe.say(rt, log, names, ProxyEvent::Started);
         if let Some(address) = address {
@@ -136,7 +137,7 @@ impl Scribe {
         // line stands before an earlier one.
         let has_more = self.gather(log.told());
         // The log has the entries of each exchange whose record was taken.
-        desk.0.read_new(rt, desk.1, &mut self.batch);
+        desk.0.read_new(rt, &mut self.batch).forget(desk.1);
         self.take_in(rt, log, desk.0, names);
         self.count_ends(rt, log);
         self.write_lines(rt, log, names);

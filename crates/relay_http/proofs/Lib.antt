@@ -1,4 +1,5 @@
 pub mod Failing
+pub mod Keeping
 pub mod Marking
 pub mod Seeing
 pub mod Telling

@@ -1,4 +1,4 @@
-ghost use Rattle.std.specs.Prelude.{◌≡◌, ℕ, List, ◌+◌, ◌^◌, ◌<◌, [], IfOk, OnOk, IfErr, IsSome};
+ghost use Rattle.std.specs.Prelude.{◌≡◌, ℕ, List, ◌+◌, ◌^◌, ◌<◌, [], IfOk, OnOk, IfErr, OnErr, IsSome, Option};
 ghost use Rattle.req_view.specs.Heads.{HasHead};
 ghost use Rattle.base_streams.specs.Streams.{Stream};
 ghost use Rattle.httparse.specs.Grammar.{RequestHead, print_request};
@@ -6,7 +6,7 @@ ghost use Rattle.http_bodies.specs.Steps.{ends, Moves};
 ghost use Rattle.http_texts.specs.Framings as framings;
 ghost use Rattle.http_texts.specs.Heads.{IsRequest, LacksRequest};
 ghost use Rattle.relay_http.specs.Askings.{HasAsked, AskingIsTold};
-ghost use Rattle.relay_http.specs.Failures.{Fails};
+ghost use Rattle.relay_http.specs.Failures.{Conveys, Fails};
 ghost use Rattle.req_view.specs.Request.{request_of};
 
 use base_streams::Source;
@@ -34,6 +34,8 @@ pub(crate) fn read_request<S: Source>(
     ensures ok { IfOk result (λ view. (h : RequestHead) × IsRequest h × (view ≡ request_of h) × IsSome (framings.request_framing view)
         × ((w : Stream) → Moves (ends pipe.old (S.stream source.old) w) (ends pipe.new (S.stream source.new) w) (print_request h) [])) }
     ensures err { (w : Stream) → IfErr result (Fails (ends pipe.old (S.stream source.old) w) (ends pipe.new (S.stream source.new) w) [] [] LacksRequest) }
+    ensures kept { (w : Option (List ℕ))
+        → OnErr result (Conveys pipe.old.inbox pipe.new.inbox (S.stream source.old).bytes (S.stream source.new).bytes w w [] []) }
     ensures waiting { pipe.new.outbox ≡ pipe.old.outbox }
 
     // Nothing is read where a head stands in the held bytes.

@@ -1,4 +1,4 @@
-ghost use Rattle.std.specs.Prelude.{◌≡◌, ◌≢◌, ◌≤◌, ℕ, List, [], Err, IfOk, OnOk, IfErr, OnErr, IsSome, Some, IsTrue, IsFalse, false, true, Option, ◌<◌, length};
+ghost use Rattle.std.specs.Prelude.{◌≡◌, ◌≢◌, ◌≤◌, ℕ, List, [], None, Err, IfOk, OnOk, IfErr, OnErr, IsSome, Some, IsTrue, IsFalse, false, true, Option, ◌<◌, length};
 ghost use Rattle.std.specs.Io.KnownBytes.{Appends, Keeps};
 ghost use Rattle.httparse.specs.Grammar.{RequestHead, print_request};
 ghost use Rattle.relay_http.specs.Calls.{Forwards, FailsToForward, Answers, FailsToAnswer};
@@ -26,7 +26,8 @@ impl Exchange {
     ///
     /// Faults: `Head` once the bytes can't become a head, `Framing` where the head's framing is
     /// unsound, `Read` where a read fails or the input ends before the head does, `Turns`, and
-    /// `NoMemory` where memory for the head is refused.
+    /// `NoMemory` where memory for the head is refused. After a fault all bytes that were held and
+    /// read are held.
     pub fn read_request<R: Read>(&mut self, alloc: Global, reader: &mut R) -> Result<View, Fault>
         requires { IsAtOrFailed Stage.New self.old }
         ensures ok { IfOk result (λ view. (h : RequestHead) × IsRequest h × (view ≡ request_of h) × IsSome (framings.request_framing view)
@@ -37,6 +38,8 @@ impl Exchange {
         ensures untouched { self.old.stage ≡ Stage.Failed → (self.new ≡ self.old) × (R.remaining reader.new ≡ R.remaining reader.old) }
         ensures err { self.old.stage ≢ Stage.Failed → (w : Option (List ℕ))
             → IfErr result (Misses self.old.pipe.inbox (R.remaining reader.old) (R.remaining reader.new) w w [] [] LacksRequest) }
+        ensures kept { (w : Option (List ℕ))
+            → OnErr result (Conveys self.old.pipe.inbox self.new.pipe.inbox (R.remaining reader.old) (R.remaining reader.new) w w [] []) }
         ensures failed { OnErr result (self.new.stage ≡ Stage.Failed) }
         ensures turns { self.new.pipe.turns ≤ self.old.pipe.turns }
         ensures spent { result ≡ Err Fault.Turns → self.new.pipe.turns ≡ 0 }
@@ -55,7 +58,8 @@ impl Exchange {
     /// Hands the request on to the server: its head, the held bytes, and the rest of its body (RFC
     /// 9112, sections 6 and 7). The pass must be for a slot at a server.
     ///
-    /// Faults: `Framing` once the bytes can't be such a body, `Read`, `Write` and `Turns`. It allocates nothing.
+    /// Faults: `Framing` once the bytes can't be such a body, `Read`, `Write` and `Turns`. After a
+    /// fault no bytes are held. It allocates nothing.
     pub fn forward<R: Read, W: Write>(
         &mut self,
         pass: &Pass,
@@ -74,6 +78,7 @@ impl Exchange {
         ensures err { self.old.stage ≢ Stage.Failed
             → IfErr result (FailsToForward view.now self.old.pipe.inbox (R.remaining reader.old) (R.remaining reader.new) (W.contents writer.old)
             (W.contents writer.new)) }
+        ensures held { self.old.stage ≢ Stage.Failed → OnErr result (self.new.pipe.inbox ≡ []) }
         ensures failed { OnErr result (self.new.stage ≡ Stage.Failed) }
         ensures turns { self.new.pipe.turns ≤ self.old.pipe.turns }
         ensures spent { result ≡ Err Fault.Turns → self.new.pipe.turns ≡ 0 }
@@ -102,6 +107,7 @@ impl Exchange {
         ensures untouched { self.old.stage ≡ Stage.Failed → (self.new ≡ self.old) × (W.contents writer.new ≡ W.contents writer.old) }
         ensures err { self.old.stage ≢ Stage.Failed → (r : Option (List ℕ))
             → IfErr result (Misses self.old.pipe.inbox r r (W.contents writer.old) (W.contents writer.new) [] (leave_text view.now) NoCause) }
+        ensures held { self.new.pipe.inbox ≡ self.old.pipe.inbox }
         ensures failed { OnErr result (self.new.stage ≡ Stage.Failed) }
         ensures turns { self.new.pipe.turns ≤ self.old.pipe.turns }
         ensures spent { result ≡ Err Fault.Turns → self.new.pipe.turns ≡ 0 }
@@ -122,7 +128,8 @@ impl Exchange {
     ///
     /// Faults: `Head` once the bytes can't become a head, `Framing` where a head's framing is
     /// unsound or it is the ninth interim head, or once the bytes after it can't be its body,
-    /// `Read`, `Write`, `Turns`, and `NoMemory` where memory for a whole head is refused.
+    /// `Read`, `Write`, `Turns`, and `NoMemory` where memory for a whole head is refused. After a
+    /// fault no bytes are held.
     pub fn answer<R: Read, W: Write>(
         &mut self,
         alloc: Global,
@@ -141,6 +148,7 @@ impl Exchange {
             → (self.new ≡ self.old) × (R.remaining reader.new ≡ R.remaining reader.old) × (W.contents writer.new ≡ W.contents writer.old) }
         ensures err { self.old.stage ≢ Stage.Failed
             → IfErr result (FailsToAnswer view.now (R.remaining reader.old) (R.remaining reader.new) (W.contents writer.old) (W.contents writer.new)) }
+        ensures held { self.old.stage ≢ Stage.Failed → OnErr result (self.new.pipe.inbox ≡ []) }
         ensures failed { OnErr result (self.new.stage ≡ Stage.Failed) }
         ensures turns { self.new.pipe.turns ≤ self.old.pipe.turns }
         ensures spent { result ≡ Err Fault.Turns → self.new.pipe.turns ≡ 0 }
@@ -161,19 +169,27 @@ impl Exchange {
     }
 
     /// Tells the client why there is no answer, by at most as many writes as the text has bytes.
-    /// The exchange is over then.
+    /// The exchange is over then, and holds no bytes.
+    ///
+    /// Faults: `Write`, and `Closed` where it was asked for a refusal before: nothing is written
+    /// then, and nothing changes.
     pub fn refuse<W: Write>(&mut self, code: Code, writer: &mut W) -> Result<(), Fault>
         requires { self.old.begun ≡ false }
         ensures ok { OnOk result (Appends (W.contents writer.old) (W.contents writer.new) (refusal_text code)) }
-        ensures err { IfErr result (λ fault. (fault ≡ Fault.Write) × WrotePrefix (W.contents writer.old) (W.contents writer.new) (refusal_text code)) }
+        ensures closed { IsSome self.old.refused → result ≡ Err Fault.Closed }
+        ensures untouched { IsSome self.old.refused → (self.new ≡ self.old) × (W.contents writer.new ≡ W.contents writer.old) }
+        ensures err { self.old.refused ≡ None
+            → IfErr result (λ fault. (fault ≡ Fault.Write) × WrotePrefix (W.contents writer.old) (W.contents writer.new) (refusal_text code)) }
+        ensures held { self.old.refused ≡ None → self.new.pipe.inbox ≡ [] }
         ensures stage { self.new.stage ≡ Stage.Failed }
-        ensures turns { self.new.pipe.turns ≤ length (refusal_text code) }
+        ensures turns { self.old.refused ≡ None → self.new.pipe.turns ≤ length (refusal_text code) }
         ensures most { self.new.most ≡ self.old.most }
         ensures silent { IsFalse self.new.begun → Keeps (W.contents writer.old) (W.contents writer.new) }
+        ensures rose { IsTrue self.new.begun → (front : List ℕ) × (0 < length front) × Appends (W.contents writer.old) (W.contents writer.new) front }
         ensures closing { self.new.closing ≡ self.old.closing }
-        ensures refused { self.new.refused ≡ Some code }
+        ensures refused { self.old.refused ≡ None → self.new.refused ≡ Some code }
         ensures reached { OnOk result (self.new.reached ≡ true) }
-        ensures unreached { OnErr result (self.new.reached ≡ false) }
+        ensures unreached { self.old.refused ≡ None → OnErr result (self.new.reached ≡ false) }
     {
         let mut sink = Counted::new(writer);
         self.refuse_to(code, &mut sink)

@@ -26,7 +26,7 @@ pub enum Stage {
 /// Its calls are `read_request`, `go_on` or not, `forward` and `answer`, in this order and each at
 /// most once. The last two require a pass for a slot, with the same ticket and verdict; while one
 /// of them runs, its pass is borrowed and can't be posted. After a fault they answer `Closed`, and
-/// `refuse` works as long as no byte of an answer was written.
+/// `refuse` works once, as long as no byte of an answer was written.
 #[derive(Drop)]
 pub struct Exchange {
     pub(crate) pipe: Pipe,
@@ -126,7 +126,7 @@ impl Exchange {
         self.closing
     }
 
-    /// Says whether a fault or a refusal closed it. Until it is renewed, every call except `refuse` answers `Closed` then.
+    /// Says whether a fault or a refusal closed it. Until it is renewed, every call except a first `refuse` answers `Closed` then.
     pub fn is_closed(&self) -> bool
         ensures { IsTrue result ↔ (self.now.stage ≡ Stage.Failed) }
     {

@@ -19,6 +19,7 @@ pub(crate) fn give_leave<K: Sink>(pipe: &mut Pipe, view: &View, sink: &mut K) ->
     ensures empty { OnOk result (pipe.new.outbox ≡ []) }
     ensures err { (s : Stream)
         → IfErr result (Fails (ends pipe.old s (K.stream sink.old)) (ends pipe.new s (K.stream sink.new)) [] (replies.leave_text view.now) NoCause) }
+    ensures held { pipe.new.inbox ≡ pipe.old.inbox }
 {
     send_text(pipe, sink, given_leave(view))?;
     Ok(())

@@ -1,4 +1,4 @@
-ghost use Rattle.std.specs.Prelude.{◌≡◌, ◌≤◌, ◌<◌, ◌+◌, ◌^◌, length, false, true, Some, OnOk, IfErr, OnErr, IsTrue, ◌↔◌};
+ghost use Rattle.std.specs.Prelude.{◌≡◌, ◌≤◌, ◌<◌, ◌+◌, ◌^◌, length, [], false, true, None, Some, Err, OnOk, IfErr, OnErr, IsSome, IsTrue, ◌↔◌};
 ghost use Rattle.http_bodies.specs.Texts.{Wrote, WritesFront};
 ghost use Rattle.http_texts.specs.Replies.{refusal_text};
 ghost use Rattle.relay_http.specs.States.{Marks};
@@ -16,19 +16,25 @@ impl Exchange {
         requires unbegun { self.old.begun ≡ false }
         requires countable { (K.stream sink.old).calls + length (refusal_text code) < 2 ^ 64 }
         ensures ok { OnOk result (Wrote (K.stream sink.old) (K.stream sink.new) (refusal_text code)) }
-        ensures err { IfErr result (λ fault. (fault ≡ Fault.Write) × ((K.stream sink.new).failures ≡ (K.stream sink.old).failures + 1)
+        ensures closed { IsSome self.old.refused → result ≡ Err Fault.Closed }
+        ensures untouched { IsSome self.old.refused → (self.new ≡ self.old) × (K.stream sink.new ≡ K.stream sink.old) }
+        ensures err { self.old.refused ≡ None → IfErr result (λ fault. (fault ≡ Fault.Write) × ((K.stream sink.new).failures ≡ (K.stream sink.old).failures + 1)
             × WritesFront (K.stream sink.old) (K.stream sink.new) (refusal_text code)) }
         ensures few { (K.stream sink.new).calls ≤ (K.stream sink.old).calls + length (refusal_text code) }
+        ensures held { self.old.refused ≡ None → self.new.pipe.inbox ≡ [] }
         ensures stage { self.new.stage ≡ Stage.Failed }
-        ensures turns { self.new.pipe.turns ≤ length (refusal_text code) }
+        ensures turns { self.old.refused ≡ None → self.new.pipe.turns ≤ length (refusal_text code) }
         ensures same_sink { (K.stream sink.new).name ≡ (K.stream sink.old).name }
         ensures most { self.new.most ≡ self.old.most }
         ensures marks { Marks (K.stream sink.old) (K.stream sink.new) self.old.begun self.new.begun }
         ensures closing { self.new.closing ≡ self.old.closing }
-        ensures refused { self.new.refused ≡ Some code }
+        ensures refused { self.old.refused ≡ None → self.new.refused ≡ Some code }
         ensures reached { OnOk result (self.new.reached ≡ true) }
-        ensures unreached { OnErr result (self.new.reached ≡ false) }
+        ensures unreached { self.old.refused ≡ None → OnErr result (self.new.reached ≡ false) }
     {
+        if self.refused.is_some() {
+            return Err(Fault::Closed);
+        }
         let text = code.text();
         // As many turns as bytes, of which each write takes one or more: when the turns end, the text is written.
         self.pipe.renew(text.len() as u64);

@@ -1,9 +1,9 @@
-ghost use Rattle.std.specs.Prelude.{◌≡◌, ◌≢◌, ◌+◌, ◌^◌, ◌<◌, ◌≤◌, ℕ, Bool, ◌||◌, nat_lt, List, [], Err, IfOk, OnOk, IfErr, OnErr, IsSome, Some, IsTrue};
+ghost use Rattle.std.specs.Prelude.{◌≡◌, ◌≢◌, ◌+◌, ◌^◌, ◌<◌, ◌≤◌, ℕ, Bool, ◌||◌, nat_lt, List, [], Err, IfOk, OnOk, IfErr, OnErr, IsSome, Some, IsTrue, Option};
 ghost use Rattle.std.specs.Io.KnownBytes.{IsAtEnd};
 ghost use Rattle.base_streams.specs.Streams.{Stream};
 ghost use Rattle.httparse.specs.Grammar.{RequestHead, print_request};
 ghost use Rattle.http_bodies.specs.Steps.{ends, Countable, Moves};
-ghost use Rattle.relay_http.specs.Failures.{Fails, NoCause};
+ghost use Rattle.relay_http.specs.Failures.{Conveys, Fails, NoCause};
 ghost use Rattle.http_texts.specs.Framings as framings;
 ghost use Rattle.http_texts.specs.Heads.{IsRequest, LacksRequest};
 ghost use Rattle.http_texts.specs.Messages as messages;
@@ -41,6 +41,8 @@ impl Exchange {
         ensures untouched { self.old.stage ≡ Stage.Failed → (self.new ≡ self.old) × (S.stream source.new ≡ S.stream source.old) }
         ensures err { self.old.stage ≢ Stage.Failed → (w : Stream)
             → IfErr result (Fails (ends self.old.pipe (S.stream source.old) w) (ends self.new.pipe (S.stream source.new) w) [] [] LacksRequest) }
+        ensures kept { (w : Option (List ℕ))
+            → OnErr result (Conveys self.old.pipe.inbox self.new.pipe.inbox (S.stream source.old).bytes (S.stream source.new).bytes w w [] []) }
         ensures failed { OnErr result (self.new.stage ≡ Stage.Failed) }
         ensures turns { self.new.pipe.turns ≤ self.old.pipe.turns }
         ensures spent { result ≡ Err Fault.Turns → self.new.pipe.turns ≡ 0 }
@@ -80,6 +82,7 @@ impl Exchange {
         ensures untouched { self.old.stage ≡ Stage.Failed → (self.new ≡ self.old) × (K.stream sink.new ≡ K.stream sink.old) }
         ensures err { self.old.stage ≢ Stage.Failed → (s : Stream)
             → IfErr result (Fails (ends self.old.pipe s (K.stream sink.old)) (ends self.new.pipe s (K.stream sink.new)) [] (leave_text view.now) NoCause) }
+        ensures held { self.new.pipe.inbox ≡ self.old.pipe.inbox }
         ensures failed { OnErr result (self.new.stage ≡ Stage.Failed) }
         ensures turns { self.new.pipe.turns ≤ self.old.pipe.turns }
         ensures spent { result ≡ Err Fault.Turns → self.new.pipe.turns ≡ 0 }
@@ -125,6 +128,7 @@ impl Exchange {
             → IfErr result (λ fault. (used : List ℕ) × (text : List ℕ) × messages.PartOfForwarded (unnamed Persistence.Close) view.now used text
             × Fails (ends self.old.pipe (S.stream source.old) (K.stream sink.old)) (ends self.new.pipe (S.stream source.new) (K.stream sink.new)) used text
             (messages.LacksForwarded view.now) fault) }
+        ensures held { self.old.stage ≢ Stage.Failed → OnErr result (self.new.pipe.inbox ≡ []) }
         ensures failed { OnErr result (self.new.stage ≡ Stage.Failed) }
         ensures turns { self.new.pipe.turns ≤ self.old.pipe.turns }
         ensures spent { result ≡ Err Fault.Turns → self.new.pipe.turns ≡ 0 }
@@ -146,6 +150,7 @@ impl Exchange {
             }
             Err(fault) => {
                 self.pipe.forget_waiting();
+                self.pipe.hold(b"");
                 self.stage = Stage::Failed;
                 self.closing = Some(Closing::Forwarding(fault));
                 Err(fault)
@@ -179,6 +184,7 @@ impl Exchange {
             × messages.PartOfAnswered Persistence.Close view.now.method (framed_for view.now.version) used text
             × Fails (ends (emptied self.old.pipe) (S.stream source.old) (K.stream sink.old)) (ends self.new.pipe (S.stream source.new)
             (K.stream sink.new)) used text (messages.LacksAnswer view.now.method) fault) }
+        ensures held { self.old.stage ≢ Stage.Failed → OnErr result (self.new.pipe.inbox ≡ []) }
         ensures failed { OnErr result (self.new.stage ≡ Stage.Failed) }
         ensures turns { self.new.pipe.turns ≤ self.old.pipe.turns }
         ensures spent { result ≡ Err Fault.Turns → self.new.pipe.turns ≡ 0 }
@@ -206,6 +212,7 @@ impl Exchange {
             }
             Err(fault) => {
                 self.pipe.forget_waiting();
+                self.pipe.hold(b"");
                 self.stage = Stage::Failed;
                 self.closing = Some(closed_answer(self.begun, fault));
                 Err(fault)

@@ -1,5 +1,5 @@
 -- What the desk's answer to an arrival says of a request.
-use Rattle.std.proofs.Common.{◌≡◌, ℕ, Option, Result, Ok, Err, IfOk, IfErr}
+use Rattle.std.proofs.Common.{ℕ, Option, Result, Ok, Err, IfOk, IfErr}
 use Rattle.dispatch_state.specs.declared.position.Ticketed.{Ticketed}
 use Rattle.grant_board.specs.Views.{Terms}
 use Rattle.locked_book.specs.declared.book.Deferred.{Deferred}

@@ -1,8 +1,12 @@
--- The results of a crew's threads, member after member.
-use Rattle.std.proofs.Common.{◌≡◌, List, [], ◌∷◌, Option, Some, Result, Ok, Err, IfOk, ap, sym, subst, ◌∙◌}
+-- The results of a crew's threads, member after member, and its checks.
+use Rattle.std.proofs.Common.{◌≡◌, ℕ, List, [], ◌∷◌, Option, Some, Result, Ok, Err, IfOk, ap, inl, refl, replicate, sym, subst, ◌∙◌}
 use Rattle.std.specs.List.{AllZip}
 use Rattle.std.specs.Result.{result_ok}
-use Rattle.relay_workers.specs.Crews.{EndsAs, IsOfAll}
+use Rattle.grant_board.specs.Views.{Terms}
+use Rattle.log_entries.specs.declared.setup.Setup.{Setup}
+use Rattle.proxy_config.specs.declared.parts.Server.{Server}
+use Rattle.relay_workers.specs.Checks.HasChecked.{began}
+use Rattle.relay_workers.specs.Crews.{CrewHasChecked, EndsAs, IsOfAll}
 use Rattle.relay_workers.specs.Gates.{Notice}
 use Rattle.relay_workers.specs.declared.finished.Finished.{Finished}
 use Rattle.relay_workers.specs.Tallies.{no_clients, of_both}
@@ -28,3 +32,8 @@ module _ {C S G P : Type 0} (Worked : Result Tally Stopped → Option (List (Not
 pub of_ok : {A E : Type 0} (Known : A → Type 0) (result : Result A E) (it : A) → Some it ≡ result_ok result → IfOk result Known → Known it
 of_ok Known (Ok other) it is known = let same : it ≡ other = cc in subst Known (sym same) known
 of_ok Known (Err error) it is known = cc
+
+-- checks that were told to stop before their first round
+pub not_begun : {C S : Type 0} (terms : Terms) (setup : Setup) (servers : List Server) (first : Option (List (Notice C S))) (most : ℕ)
+    (last : Option (List (Notice C S))) → last ≡ first → CrewHasChecked terms setup servers first most last
+not_begun terms setup servers first most last same = (most, (first, replicate 64 0, most, began, inl (tt, same, refl)))

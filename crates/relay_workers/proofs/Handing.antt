@@ -110,23 +110,24 @@ module _ {C S : Type 0} (left told : C → Option (List ℕ)) (left_there told_t
       (subst (λ (it : List ℕ). IsServed left told left_there told_there verdict pass exchange outcome seen it client client_then before after) holds is)
 
   -- one more client's end, after the others
-  pub ended_more : (terms : Terms) (setup : Setup) (config : Config) (outcomes : List Outcome) (first between now : Stand C S) (exchange : Exchange)
-      (outcome : Outcome) (client : C) (pauses : ℕ) → HaveEnded left told left_there told_there terms setup config outcomes first between
-      → HasEnded left told left_there told_there terms setup config exchange outcome client (with_client client pauses between) now
-      → HaveEnded left told left_there told_there terms setup config (outcomes ++ outcome ∷ []) first now
-  ended_more terms setup config [] first between now exchange outcome client pauses same ended = (
+  pub ended_more : (terms : Terms) (setup : Setup) (config : Config) (outcomes : List Outcome) (first between now : Stand C S)
+      (exchange exchange_then ended : Exchange) (outcome : Outcome) (client : C) (pauses : ℕ)
+      → HaveEnded left told left_there told_there terms setup config outcomes exchange exchange_then first between
+      → HasEnded left told left_there told_there terms setup config ended outcome client (with_client client pauses between) now
+      → HaveEnded left told left_there told_there terms setup config (outcomes ++ outcome ∷ []) exchange ended first now
+  ended_more terms setup config [] first between now exchange exchange_then ended outcome client pauses same is = (
     now,
-    exchange,
+    ended,
     client,
     pauses,
-    subst (λ (it : Stand C S). HasEnded left told left_there told_there terms setup config exchange outcome client (with_client client pauses it) now) same ended,
-    refl,
+    subst (λ (it : Stand C S). HasEnded left told left_there told_there terms setup config ended outcome client (with_client client pauses it) now) same.1 is,
+    (refl, refl),
   )
-  ended_more terms setup config (one ∷ outcomes) first between now exchange outcome client pauses others ended = (
+  ended_more terms setup config (one ∷ outcomes) first between now exchange exchange_then ended outcome client pauses others is = (
     others.0,
     others.1,
     others.2,
     others.3,
     others.4,
-    ended_more terms setup config outcomes others.0 between now exchange outcome client pauses others.5 ended,
+    ended_more terms setup config outcomes others.0 between now others.1 exchange_then ended outcome client pauses others.5 is,
   )

@@ -14,6 +14,7 @@ use Rattle.proxy_config.specs.declared.parts.Config.{Config}
 use Rattle.proxy_config.specs.declared.parts.Server.{Server}
 use Rattle.relay_http.specs.declared.closing.Closing.TheVariants.{Reading, Forwarding, Breaking}
 use Rattle.relay_http.specs.declared.exchange.Exchange.{Exchange}
+use Rattle.relay_http.specs.declared.exchange.Stage.TheVariants.{New, Answered}
 use Rattle.relay_workers.specs.Carrying.{IsTold, IsUntouched}
 use Rattle.relay_workers.specs.Checks.{later_by, IsDue, Looks, HasChecked}
 use Rattle.relay_workers.specs.Checks.HasChecked.{began as began_checks}
@@ -118,14 +119,21 @@ left_out : (notes : ℕ → Option (List (Notice ℕ ℕ))) → ¬ (AllZip (Ends
 left_out notes zipped = zipped
 
 -- without a client nothing is done
-no_client : (terms : Terms) (setup : Setup) (config : Config) (stand : Stand (List ℕ) (List ℕ))
-    → HaveEnded Some Some Some Some terms setup config [] stand stand
-no_client terms setup config stand = refl
+no_client : (terms : Terms) (setup : Setup) (config : Config) (exchange : Exchange) (stand : Stand (List ℕ) (List ℕ))
+    → HaveEnded Some Some Some Some terms setup config [] exchange exchange stand stand
+no_client terms setup config exchange stand = (refl, refl)
+
+-- an exchange isn't renewed where no client came
+renewed_for_nobody : (terms : Terms) (setup : Setup) (config : Config) (exchange exchange_then : Exchange) (stand : Stand (List ℕ) (List ℕ))
+    → exchange.stage ≡ Answered → exchange_then.stage ≡ New
+    → ¬ (HaveEnded Some Some Some Some terms setup config [] exchange exchange_then stand stand)
+renewed_for_nobody terms setup config exchange exchange_then stand old new same =
+    let other : exchange_then.stage ≡ exchange.stage = ap (λ (it : Exchange). it.stage) same.0 in cc
 
 -- a worker's memory isn't refused, since it has its exchange before it begins
-without_memory : (terms : Terms) (setup : Setup) (config : Config) (stand : Stand (List ℕ) (List ℕ))
-    → ¬ (HasWorked Some Some Some Some terms setup config (Err NoMemory) stand stand)
-without_memory terms setup config stand worked = worked
+without_memory : (terms : Terms) (setup : Setup) (config : Config) (exchange : Exchange) (stand : Stand (List ℕ) (List ℕ))
+    → ¬ (HasWorked Some Some Some Some terms setup config (Err NoMemory) exchange exchange stand stand)
+without_memory terms setup config exchange stand worked = worked
 
 -- nothing was done yet, and all pauses are left
 at_first : (terms : Terms) (setup : Setup) (at : Ticketed) (stand : Stand ℕ ℕ) → HasWaited terms setup at stand stand Waits

@@ -1,6 +1,10 @@
--- What the threads of a crew return.
-use Rattle.std.specs.Prelude.{◌≡◌, ◌⊎◌, List, [], ◌∷◌, map, Option, None, Some, Result, Ok, Err}
+-- What the threads of a crew return, and the thread for its checks.
+use Rattle.std.specs.Prelude.{◌≡◌, ◌⊎◌, ℕ, List, [], ◌∷◌, map, Option, None, Some, Result, Ok, Err}
 use Rattle.std.specs.List.{AllZip}
+use Rattle.grant_board.specs.Views.{Terms}
+use Rattle.log_entries.specs.declared.setup.Setup.{Setup}
+use Rattle.proxy_config.specs.declared.parts.Server.{Server}
+use Rattle.relay_workers.specs.Checks.{HasEndedChecks}
 use Rattle.relay_workers.specs.Gates.{Notice}
 use Rattle.relay_workers.specs.declared.finished.Finished.{Finished}
 use Rattle.relay_workers.specs.Tallies.{no_clients, of_both}
@@ -28,3 +32,8 @@ module _ {C S G : Type 0} (Worked : Result Tally Stopped → Option (List (Notic
   -- the result of a crew: that of all its members, or that with a stop for no memory behind it
   abbrev pub IsOfCrew : {P : Type 0} → List (G × P) → Result Tally Stopped → Type 0
   IsOfCrew members result = (all : Result Tally Stopped) × IsOfAll members all × ((result ≡ all) ⊎ (result ≡ of_both all (Err NoMemory)))
+
+-- a crew's checks: a checker, which may be told to stop at any time, began when its gate had noted
+-- this and it had this number of pauses, and ended when the gate had noted that
+abbrev pub CrewHasChecked : {C S : Type 0} → Terms → Setup → List Server → Option (List (Notice C S)) → ℕ → Option (List (Notice C S)) → Type 0
+CrewHasChecked terms setup servers first most last = (left : ℕ) × HasEndedChecks (Unit {0}) terms setup servers first most last left

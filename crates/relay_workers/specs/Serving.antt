@@ -1,15 +1,16 @@
 -- What a worker does, from a client to the next one, and what its gate notes of that.
-use Rattle.std.specs.Prelude.{◌≡◌, ◌⊎◌, ℕ, List, [], ◌∷◌, Option, Result, Ok, Err}
+use Rattle.std.specs.Prelude.{◌≡◌, ◌⊎◌, ℕ, false, List, [], ◌∷◌, Option, Result, Ok, Err}
 use Rattle.base_verdict.specs.declared.Ending.TheVariants.{Done, Failed}
 use Rattle.dispatch_state.specs.declared.position.Ticketed.{Ticketed}
-use Rattle.grant_board.specs.RelayCalls.{post_after}
+use Rattle.grant_board.specs.RelayCalls.{new_relay, post_after}
 use Rattle.grant_board.specs.Views.{Grant, Terms}
 use Rattle.log_entries.specs.declared.setup.Setup.{Setup}
 use Rattle.prio_rules.specs.Wishes.{wish}
 use Rattle.proxy_config.specs.declared.parts.Config.{Config}
 use Rattle.relay_http.specs.Askings.{HasReadHead}
-use Rattle.relay_http.specs.States.{Serves}
+use Rattle.relay_http.specs.States.{IsFresh, Serves}
 use Rattle.relay_http.specs.declared.exchange.Exchange.{Exchange}
+use Rattle.relay_http.specs.declared.exchange.Stage.TheVariants.{Asked}
 use Rattle.relay_workers.specs.Admissions.{arrival}
 use Rattle.shared_desk.specs.Answers.{AnswersArrival}
 use Rattle.relay_workers.specs.Carrying.{IsUntouched, IsServed}
@@ -21,6 +22,7 @@ use Rattle.relay_workers.specs.Turning.{HasTurned, IsAnswered}
 use Rattle.relay_workers.specs.Waiting.{Stand, TakesPass, SpendsPauses}
 use Rattle.relay_workers.specs.declared.outcome.Outcome.{Outcome}
 use Rattle.relay_workers.specs.declared.stopping.Stopped.{Stopped}
+use Rattle.relay_workers.specs.declared.stopping.TheConstants.{TURNS}
 use Rattle.relay_workers.specs.declared.stopping.Stopped.TheVariants.{NoMemory, PausesSpent}
 use Rattle.relay_workers.specs.declared.tally.Tally.{Tally}
 use Rattle.req_view.specs.Request.{Request}
@@ -101,26 +103,32 @@ module _ {C S : Type 0} (left told : C → Option (List ℕ)) (left_there told_t
     pub end : (IsTurnedAway left told terms setup config exchange outcome client first.notes last.notes × (last.left ≡ first.left) × (last.view ≡ first.view))
         ⊎ ((pass : Grant) × HasEndedUnder terms setup config pass exchange outcome client first last)
 
-  -- one client after the other came, and ended with these outcomes
-  abbrev pub HaveEnded : Terms → Setup → Config → List Outcome → Stand C S → Stand C S → Type 0
-  HaveEnded terms setup config [] first last = last ≡ first
-  HaveEnded terms setup config (outcome ∷ outcomes) first last =
-      (between : Stand C S) × (exchange : Exchange) × (client : C) × (pauses : ℕ)
-      × HasEnded terms setup config exchange outcome client (with_client client pauses first) between × HaveEnded terms setup config outcomes between last
+  -- one client after the other came, and ended with these outcomes; the exchange is as the last one
+  -- left it, and unchanged where none came
+  abbrev pub HaveEnded : Terms → Setup → Config → List Outcome → Exchange → Exchange → Stand C S → Stand C S → Type 0
+  HaveEnded terms setup config [] exchange exchange_then first last = (exchange_then ≡ exchange) × (last ≡ first)
+  HaveEnded terms setup config (outcome ∷ outcomes) exchange exchange_then first last =
+      (between : Stand C S) × (ended : Exchange) × (client : C) × (pauses : ℕ)
+      × HasEnded terms setup config ended outcome client (with_client client pauses first) between
+      × HaveEnded terms setup config outcomes ended exchange_then between last
 
   -- What a worker returns, after one client after the other has ended: the tally of their outcomes,
-  -- where no more come; or that the pauses of the next one were spent.
-  abbrev pub HasWorked : Terms → Setup → Config → Result Tally Stopped → Stand C S → Stand C S → Type 0
-  HasWorked terms setup config (Ok tally) first last =
-      (outcomes : List Outcome) × (before : Stand C S) × HaveEnded terms setup config outcomes first before × (tally ≡ all_noted no_clients outcomes)
-      × (last.notes ≡ noted NoMore before.notes) × (last.view ≡ before.view)
-  HasWorked terms setup config (Err PausesSpent) first last =
-      (outcomes : List Outcome) × (before : Stand C S) × HaveEnded terms setup config outcomes first before
+  -- where no more come; or that the pauses of the next one were spent, whose request is to be handed on.
+  abbrev pub HasWorked : Terms → Setup → Config → Result Tally Stopped → Exchange → Exchange → Stand C S → Stand C S → Type 0
+  HasWorked terms setup config (Ok tally) exchange exchange_then first last =
+      (outcomes : List Outcome) × (before : Stand C S) × HaveEnded terms setup config outcomes exchange exchange_then first before
+      × (tally ≡ all_noted no_clients outcomes) × (last.notes ≡ noted NoMore before.notes) × (last.view ≡ before.view)
+  HasWorked terms setup config (Err PausesSpent) exchange exchange_then first last =
+      (outcomes : List Outcome) × (before : Stand C S)
+      × ((ended : Exchange) × HaveEnded terms setup config outcomes exchange ended first before)
+      × (exchange_then.stage ≡ Asked)
       × ((client : C) × (pauses : ℕ) × HasSpentPauses left told terms setup config client (with_client client pauses before) last)
-  HasWorked terms setup config (Err NoMemory) first last = ⊥
+  HasWorked terms setup config (Err NoMemory) exchange exchange_then first last = ⊥
 
-  -- a gate noted what a worker did that returned this, at some seat and under some configuration
+  -- a gate noted what a worker did that returned this, under some configuration, with a fresh exchange,
+  -- and at a seat that was split off and had done nothing
   abbrev pub SomeHasWorked : Terms → Setup → Result Tally Stopped → Option (List (Notice C S)) → Option (List (Notice C S)) → Type 0
   SomeHasWorked terms setup result before after =
-      (config : Config) × (first : Stand C S) × (last : Stand C S) × HasWorked terms setup config result first last
-      × (first.notes ≡ before) × (last.notes ≡ after)
+      (config : Config) × (exchange : Exchange) × (exchange_then : Exchange) × (first : Stand C S) × (last : Stand C S)
+      × HasWorked terms setup config result exchange exchange_then first last × (first.notes ≡ before) × (last.notes ≡ after)
+      × IsFresh TURNS exchange × (first.view ≡ new_relay terms false)

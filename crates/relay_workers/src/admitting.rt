@@ -6,7 +6,7 @@ ghost use Rattle.relay_http.specs.declared.exchange.Stage.TheVariants as stage;
 ghost use Rattle.relay_http.specs.declared.exchange.Stage.TheVariants.{Asked};
 ghost use Rattle.relay_workers.specs.Admissions.{arrival, late_arrival, IsAdmitted, IsAdmittedAs, IsAdmittedLate, IsRequestAt, WishIsTurnedAway, IsRefusedFor};
 ghost use Rattle.shared_desk.specs.Answers.{AnswersArrival};
-ghost use Rattle.relay_workers.specs.declared.outcome.Outcome.TheVariants.{Answered, Refused};
+ghost use Rattle.relay_workers.specs.declared.outcome.Outcome.TheVariants.{Answered, Cut, Refused};
 ghost use Rattle.prio_rules.specs.Wishes.{wish};
 ghost use Rattle.relay_workers.specs.Carrying.{IsTold};
 ghost use Rattle.relay_workers.specs.Turning.{IsAnswered};
@@ -197,6 +197,7 @@ pub(crate) fn answer_refusal<W: Write>(
     ensures same { result ≡ outcome }
     ensures unanswered { (result ≢ Answered) × (exchange.new.stage ≢ stage.Answered) }
     ensures sent { IsSent exchange.new result }
+    ensures cut { outcome ≡ Cut → exchange.new ≡ exchange.old }
     ensures told { IsTold W.contents exchange.new result client.old client.new }
     ensures closing { exchange.new.closing ≡ exchange.old.closing }
     ensures most { exchange.new.most ≡ exchange.old.most }

@@ -1,7 +1,9 @@
-ghost use Rattle.std.specs.Prelude.{◌≡◌, ◌+◌, ◌≤◌, ◌⊎◌, true, [], length, vec_len, IfOk};
+ghost use Rattle.std.specs.Prelude.{◌≡◌, ◌+◌, ◌≤◌, ◌⊎◌, List, true, All, [], length, vec_len, IfOk};
 ghost use Rattle.std.specs.Thread.{IsSend};
 ghost use Rattle.std.specs.Vec.Iter.{into_iter_items};
-ghost use Rattle.relay_workers.specs.Crews.{EndsAs, IsOfAll, IsOfCrew};
+ghost use Rattle.proxy_config.specs.declared.parts.Server.{Server};
+ghost use Rattle.relay_workers.specs.Crews.{CrewHasChecked, EndsAs, IsOfAll, IsOfCrew};
+ghost use Rattle.relay_workers.specs.Seats.{IsUnused};
 ghost use Rattle.relay_workers.specs.Serving.{SomeHasWorked};
 ghost use Rattle.relay_workers.specs.Tallies.{of_both};
 ghost use Rattle.relay_workers.specs.declared.stopping.Stopped.TheVariants.{NoMemory};
@@ -29,7 +31,7 @@ use std::{thread, vec};
 /// is split off it, and joined again.
 ///
 /// Returns the sum of the members' tallies, or why the first one stopped that did; `NoMemory` also
-/// where a thread can't be started.
+/// where a thread can't be started. With it comes the gate for the checks, as they left it.
 pub fn serve<
     R: Threads + Wait + Sync,
     N: DeskName + Send + Sync,
@@ -41,26 +43,29 @@ pub fn serve<
     seat: RelaySeat,
     crew: Vec<(G, P)>,
     checks: (G, P),
-) -> (RelaySeat, Result<Tally, Stopped>)
+) -> (RelaySeat, Result<Tally, Stopped>, Finished<G>)
     requires named { (seat.board ≡ N.board) × (seat.view.terms ≡ N.terms) }
     requires first { seat.view.first ≡ true }
     requires idle { seat.view.passes ≡ [] }
     ensures same { (result.0.board ≡ seat.board) × (result.0.view.terms ≡ seat.view.terms) × (result.0.view.first ≡ true) }
     ensures idle { result.0.view.passes ≡ [] }
+    ensures looks { result.0.view.looks ≡ seat.view.looks }
     ensures joined { result.0.view.split + seat.view.joined ≡ result.0.view.joined + seat.view.split }
     ensures each { IfOk result.1 (λ tally. result.0.view.split ≡ seat.view.split + vec_len crew) }
     ensures all { (result.1 ≡ Err NoMemory) ⊎ IsOfCrew (SomeHasWorked G.Client.remaining G.Client.contents G.Server.remaining G.Server.contents N.terms N.setup) G.notes crew.items result.1 }
+    ensures checks { CrewHasChecked N.terms N.setup proxy.now.config.servers (G.notes checks.0) (P.most checks.1) (G.notes result.2.gate) }
 {
     let mut first = seat;
     let mut seats = Vec::new(proxy.alloc);
     let enough = split_off(proxy, &mut first, &mut seats, crew.len());
-    let all = if enough {
+    let (all, checked) = if enough {
         run_all(rt, proxy, &mut seats, crew, checks)
     } else {
-        Err(Stopped::NoMemory)
+        let (gate, _pause) = checks;
+        (Err(Stopped::NoMemory), Finished::of(gate))
     };
     join_all(proxy, &mut first, seats);
-    (first, all)
+    (first, all, checked)
 }
 
 // Runs all threads in a scope.
@@ -76,10 +81,12 @@ fn run_all<
     seats: &mut Vec<Idle<N>>,
     crew: Vec<(G, P)>,
     checks: (G, P),
-) -> Result<Tally, Stopped>
-    requires { vec_len crew ≤ vec_len seats.old }
+) -> (Result<Tally, Stopped>, Finished<G>)
+    requires few { vec_len crew ≤ vec_len seats.old }
+    requires unused { All (λ idle. IsUnused N.terms idle.seat) seats.old.items }
     ensures seats { vec_len seats.new ≡ vec_len seats.old }
-    ensures all { IsOfCrew (SomeHasWorked G.Client.remaining G.Client.contents G.Server.remaining G.Server.contents N.terms N.setup) G.notes crew.items result }
+    ensures all { IsOfCrew (SomeHasWorked G.Client.remaining G.Client.contents G.Server.remaining G.Server.contents N.terms N.setup) G.notes crew.items result.0 }
+    ensures checks { CrewHasChecked N.terms N.setup (S.servers shared.now) (G.notes checks.0) (P.most checks.1) (G.notes result.1.gate) }
 {
     let stop = AtomicBool::new(false);
     let told = &stop;
@@ -88,29 +95,74 @@ fn run_all<
     thread::scope(
         thread::scope_env(),
         rt,
-        move |scope| -> Result<Tally, Stopped>
-            requires { length (into_iter_items members) ≤ length lent.now }
-            ensures { IsOfCrew (SomeHasWorked G.Client.remaining G.Client.contents G.Server.remaining G.Server.contents N.terms N.setup) G.notes (into_iter_items members) result }
-        {
-            let (gate, pause) = checks;
-            let checking = scope
-                .spawn(move || {
-                    let mut gate = gate;
-                    let mut pause = pause;
-                    checker(rt, shared.proxy(), &mut gate, &mut pause, told)
-                })
-                .ok();
-            let all = run_crew(scope, rt, shared, lent, &mut members);
-            told.store(true, Ordering::SeqCst);
-            match checking {
-                Some(handle) => {
-                    handle.join(rt);
-                    all
-                }
-                None => all.and(Err(Stopped::NoMemory)),
-            }
-        },
+        move |scope| -> (Result<Tally, Stopped>, Finished<G>)
+            requires few { length (into_iter_items members) ≤ length lent.now }
+            requires unused { All (λ idle. IsUnused N.terms idle.seat) lent.now }
+            ensures all { IsOfCrew (SomeHasWorked G.Client.remaining G.Client.contents G.Server.remaining G.Server.contents N.terms N.setup) G.notes (into_iter_items members) result.0 }
+            ensures checks { CrewHasChecked N.terms N.setup (S.servers shared.entry.now) (G.notes checks.0) (P.most checks.1) (G.notes result.1.gate) }
+        { run_threads(scope, rt, shared, lent, &mut members, checks, told) },
     )
+}
+
+// Runs a crew, and a thread for the checks beside it. Where that can't be started, the checks are
+// told to stop before they begin.
+fn run_threads<
+    's,
+    E,
+    R: Threads + Wait + Sync,
+    N: DeskName + Send + Sync + 's,
+    S: Lends<N> + Sync + 's,
+    G: Gate + Send + Drop + 's,
+    P: Pause + Send + Drop + 's,
+>(
+    scope: &Scope<'s, E>,
+    rt: &'s R,
+    shared: &'s S,
+    seats: &'s mut [Idle<N>],
+    crew: &mut vec::IntoIter<(G, P)>,
+    checks: (G, P),
+    told: &'s AtomicBool,
+) -> (Result<Tally, Stopped>, Finished<G>)
+    requires few { length (into_iter_items crew.old) ≤ length seats.old }
+    requires unused { All (λ idle. IsUnused N.terms idle.seat) seats.old }
+    ensures all { IsOfCrew (SomeHasWorked G.Client.remaining G.Client.contents G.Server.remaining G.Server.contents N.terms N.setup) G.notes (into_iter_items crew.old) result.0 }
+    ensures checks { CrewHasChecked N.terms N.setup (S.servers shared.now) (G.notes checks.0) (P.most checks.1) (G.notes result.1.gate) }
+{
+    let promise = EndOfChecks::<N, S, G, P> {
+        shared: Snapshot::of(shared),
+        checks: Snapshot::of(&checks),
+        of: PhantomData,
+    };
+    let checking = scope.spawn_with(
+        promise,
+        move || -> Finished<G>
+            requires { IsSend G.Client.row × IsSend G.Server.row }
+            ensures { CrewHasChecked N.terms N.setup (S.servers shared.entry.now) (G.notes checks.0) (P.most checks.1) (G.notes result.gate) }
+        {
+            let (mut gate, mut pause) = checks;
+            checker(rt, shared.proxy(), &mut gate, &mut pause, told);
+            Finished::of(gate)
+        },
+    );
+    let all = run_crew(scope, rt, shared, seats, crew);
+    told.store(true, Ordering::SeqCst);
+    match checking {
+        Ok(handle) => (all, handle.join(rt)),
+        Err(refused) => (all.and(Err(Stopped::NoMemory)), (refused.value)()),
+    }
+}
+
+// Promises how the thread for these checks ends.
+#[derive(Drop)]
+struct EndOfChecks<N: DeskName, S: Lends<N>, G: Gate + Drop, P: Pause> {
+    shared: Snapshot<S>,
+    checks: Snapshot<(G, P)>,
+    of: PhantomData<N>,
+}
+
+impl<N: DeskName, S: Lends<N>, G: Gate + Drop, P: Pause> Promise<Finished<G>>
+    for EndOfChecks<N, S, G, P> {
+    ghost kept_by = { λ promise result. CrewHasChecked N.terms N.setup (S.servers promise.shared.value) (G.notes promise.checks.value.0) (P.most promise.checks.value.1) (G.notes result.gate) };
 }
 
 // How the thread of a member ends: its result, and its gate, unless there was no memory for it.
@@ -140,7 +192,8 @@ fn run_crew<
     seats: &'s mut [Idle<N>],
     crew: &mut vec::IntoIter<(G, P)>,
 ) -> Result<Tally, Stopped>
-    requires { length (into_iter_items crew.old) ≤ length seats.old }
+    requires few { length (into_iter_items crew.old) ≤ length seats.old }
+    requires unused { All (λ idle. IsUnused N.terms idle.seat) seats.old }
     ensures { IsOfAll (SomeHasWorked G.Client.remaining G.Client.contents G.Server.remaining G.Server.contents N.terms N.setup) G.notes (into_iter_items crew.old) result }
 {
     let Some((idle, rest)) = seats.split_first_mut() else {
@@ -154,7 +207,8 @@ fn run_crew<
         .spawn_with(
             promise,
             move || -> End<G>
-                requires { IsSend G.Client.row × IsSend G.Server.row }
+                requires sends { IsSend G.Client.row × IsSend G.Server.row }
+                requires unused { IsUnused N.terms idle.now.seat }
                 ensures { EndsAs (SomeHasWorked G.Client.remaining G.Client.contents G.Server.remaining G.Server.contents N.terms N.setup) G.notes gate result }
             {
                 let Ok(mut hand) = Worker::new(shared.proxy().alloc, gate, pause) else {
@@ -186,10 +240,16 @@ fn first_stop(
 // Lends threads a proxy. Whether a type parameter may be shared is known only from a bound, so this
 // trait shows it once, for `Proxy`, where `serve` begins.
 trait Lends<N: DeskName> {
-    fn proxy(&self) -> &Proxy<N>;
+    // The servers of its configuration.
+    ghost servers: { Self → List Server };
+
+    fn proxy(&self) -> &Proxy<N>
+        ensures { result.now.config.servers ≡ servers self.now };
 }
 
 impl<N: DeskName> Lends<N> for Proxy<N> {
+    ghost servers = { λ proxy. proxy.config.servers };
+
     fn proxy(&self) -> &Proxy<N> {
         self
     }

@@ -10,7 +10,7 @@ ghost use Rattle.relay_workers.specs.Gates.Notice.{Missing, Posted, Released};
 ghost use Rattle.grant_board.specs.RelayCalls.{post_after};
 ghost use Rattle.relay_workers.specs.Outcomes.{after_telling};
 ghost use Rattle.shared_desk.specs.Seats.{IsSameSeat};
-ghost use Rattle.relay_workers.specs.declared.outcome.Outcome.TheVariants.{Answered};
+ghost use Rattle.relay_workers.specs.declared.outcome.Outcome.TheVariants.{Answered, Cut};
 ghost use Rattle.base_verdict.specs.declared.Cause.{Cause};
 ghost use Rattle.base_verdict.specs.declared.Ending.TheVariants as ending;
 ghost use Rattle.base_verdict.specs.declared.Verdict.TheVariants.{Serve, Told};
@@ -53,6 +53,8 @@ pub fn finish<R: Wait, N: DeskName, G: Gate + Drop>(
     ensures answered { IfOk result (λ outcome. (outcome ≡ Answered) ↔ (runner.new.exchange.stage ≡ stage.Answered)) }
     ensures carried { (server : ℕ) → granted.pass.verdict ≡ Serve server → IfOk result (λ outcome. IsCarried runner.new.exchange outcome) }
     ensures closing { (cause : Cause) → granted.pass.verdict ≡ Told cause → runner.new.exchange.closing ≡ None }
+    // One that gave up is told nothing.
+    ensures cut { (cause : Cause) → granted.pass.verdict ≡ Told cause → result ≡ Ok Cut → runner.new.exchange ≡ runner.old.exchange }
     ensures sent { IfOk result (λ outcome. IsSent runner.new.exchange outcome) }
     ensures relayed { IfOk result (λ outcome. (client_then : G.Client) × (served : Option (List (Notice G.Client G.Server))) × (turned : Option (List (Notice G.Client G.Server)))
         × IsServed G.Client.remaining G.Client.contents G.Server.remaining G.Server.contents granted.pass.verdict granted.pass runner.new.exchange outcome granted.admitted.view runner.old.exchange.pipe.inbox granted.admitted.client client_then (G.notes runner.old.gate) served
@@ -98,6 +100,7 @@ fn carry<N: DeskName, G: Gate + Drop>(
     ensures answered { IfSome result (λ outcome. (outcome ≡ Answered) ↔ (runner.new.exchange.stage ≡ stage.Answered)) }
     ensures carried { (server : ℕ) → pass.now.verdict ≡ Serve server → IfSome result (λ outcome. IsCarried runner.new.exchange outcome) }
     ensures closing { (cause : Cause) → pass.now.verdict ≡ Told cause → runner.new.exchange.closing ≡ None }
+    ensures cut { (cause : Cause) → pass.now.verdict ≡ Told cause → result ≡ Some Cut → runner.new.exchange ≡ runner.old.exchange }
     ensures sent { IfSome result (λ outcome. IsSent runner.new.exchange outcome) }
     ensures none { IfNone result (Serves pass.now.verdict × (runner.new.exchange ≡ runner.old.exchange) × (admitted.new.client ≡ admitted.old.client) × (G.notes runner.new.gate ≡ noted (Missing pass.now) (G.notes runner.old.gate))) }
     ensures relayed { IfSome result (λ outcome. IsServed G.Client.remaining G.Client.contents G.Server.remaining G.Server.contents pass.now.verdict pass.now runner.new.exchange outcome admitted.old.view runner.old.exchange.pipe.inbox admitted.old.client admitted.new.client (G.notes runner.old.gate) (G.notes runner.new.gate)) }

@@ -30,6 +30,7 @@ pub fn worker<R: Wait, N: DeskName, G: Gate + Drop, P: Pause + Drop>(
 ) -> Result<Tally, Stopped>
     ensures same { IsSameSeat idle.old.seat idle.new.seat }
     ensures worked { HasWorked G.Client.remaining G.Client.contents G.Server.remaining G.Server.contents N.terms N.setup proxy.now.config result
+        hand.old.runner.exchange hand.new.runner.exchange
         (record { notes = G.notes hand.old.runner.gate; left = P.left hand.old.pause; view = idle.old.seat.view })
         (record { notes = G.notes hand.new.runner.gate; left = P.left hand.new.pause; view = idle.new.seat.view }) }
 {
@@ -69,7 +70,8 @@ fn serve_next<R: Wait, N: DeskName, G: Gate + Drop, P: Pause + Drop>(
         (with_client client pauses (record { notes = G.notes hand.old.runner.gate; left = P.left hand.old.pause; view = seat.old.view }))
         (record { notes = G.notes hand.new.runner.gate; left = P.left hand.new.pause; view = seat.new.view })
         × (tally.new ≡ tally_noted outcome tally.old) }
-    ensures no_more { result ≡ Next.NoMore → (tally.new ≡ tally.old) × (seat.new.view ≡ seat.old.view) × (G.notes hand.new.runner.gate ≡ noted NoMore (G.notes hand.old.runner.gate)) }
+    ensures no_more { result ≡ Next.NoMore → (tally.new ≡ tally.old) × (seat.new.view ≡ seat.old.view) × (G.notes hand.new.runner.gate ≡ noted NoMore (G.notes hand.old.runner.gate)) × (hand.new.runner.exchange ≡ hand.old.runner.exchange) }
+    ensures asked { result ≡ Next.Spent → hand.new.runner.exchange.stage ≡ Asked }
     ensures spent { result ≡ Next.Spent → (client : G.Client) × (pauses : ℕ)
         × HasSpentPauses G.Client.remaining G.Client.contents N.terms N.setup proxy.now.config client
         (with_client client pauses (record { notes = G.notes hand.old.runner.gate; left = P.left hand.old.pause; view = seat.old.view }))

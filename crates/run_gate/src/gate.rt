@@ -1,4 +1,4 @@
-ghost use Rattle.std.specs.Prelude.{◌≡◌, ◌≤◌, ℕ, IfOk, false, length};
+ghost use Rattle.std.specs.Prelude.{◌≡◌, ◌≤◌, ◌⊎◌, ◌↔◌, ℕ, IfOk, false, length};
 ghost use Rattle.base_places.specs.Sets.{Has};
 ghost use Rattle.relay_workers.specs.Windows.{WindowHasEnded};
 
@@ -7,7 +7,7 @@ use crate::front::{GateShared, within};
 use crate::leaving::has_left;
 use crate::probing::Probe;
 use crate::waits::{duration, left, patience, turnaround};
-use base_places::{MOST_PLACES, PlaceSet};
+use base_places::PlaceSet;
 use dispatch_reports::EndedWindow;
 use due_key::Moment;
 use grant_board::RelaySeat;
@@ -76,17 +76,11 @@ impl<'a, R: Net<Listener = TcpListener, Stream = TcpStream> + Clock> SocketGate<
     }
 
     /// Adds places to those that `take_woken` takes.
-    pub fn add_woken(&mut self, places: &PlaceSet) {
-        let mut from = 0;
-        for _ in 0..MOST_PLACES {
-            let Some(place) = places.next(from) else {
-                return;
-            };
-            if place < MOST_PLACES {
-                self.woken.insert(place);
-            }
-            from = place.saturating_add(1);
-        }
+    pub fn add_woken(&mut self, places: &PlaceSet)
+        ensures woken { (place : ℕ) → Has self.new.woken place ↔ (Has self.old.woken place ⊎ Has places.now place) }
+        ensures same { self.new ≡ record self.old { woken = self.new.woken } }
+    {
+        add_all(&mut self.woken, places);
     }
 
     /// Notes a failed connect of another thread: some time passes before the same request tries the
@@ -240,5 +234,16 @@ impl<'a, R: Net<Listener = TcpListener, Stream = TcpStream> + Clock + Wait> Gate
     fn wake<N: DeskName>(&mut self, changed: Changed<N>) {
         let places = changed.take(self.front.wakes);
         self.add_woken(&places);
+    }
+}
+
+// Adds all places of one set to another.
+fn add_all(set: &mut PlaceSet, places: &PlaceSet)
+    ensures { (place : ℕ) → Has set.new place ↔ (Has set.old place ⊎ Has places.now place) }
+{
+    let mut from = 0;
+    while let Some(place) = places.next(from) {
+        set.insert(place);
+        from = place + 1;
     }
 }

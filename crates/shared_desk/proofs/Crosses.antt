@@ -26,19 +26,20 @@ module _ (K V : RattleType) (k : IsSend K) (v : IsSend V) where
   pub single_send : IsSend (single.the_row K V)
   single_send = search (crosses, knot.crosses, sendable) depth 60 fits 20000
 
-locked_sync : (N : RattleType) (d : desk_name.Ghosts N.Denot) (g : board_name.Ghosts N.Denot) → IsSync (locked.the_field N d g).row
-locked_sync N d g =
-    struct_sync (shape (locked.the_type N d g)) (
-      search (queue_send, single_send, key.the_send, book.the_send, mutex.the_sync, crosses, sendable) depth 60 fits 20000,
-      (search (crosses, sendable) depth 60 fits 20000, tt),
-    )
+module _ (B : RattleType) (b : IsSend B) where
+  pub locked_sync : IsSync (locked.the_field B).row
+  locked_sync =
+      struct_sync (shape (locked.the_type B)) (
+        search (b, mutex.the_sync, crosses, sendable) depth 60 fits 20000,
+        (search (crosses, sendable) depth 60 fits 20000, tt),
+      )
 
 pub desk_sync : (N : RattleType) (d : desk_name.Ghosts N.Denot) (g : board_name.Ghosts N.Denot) → IsSync (desk.the_row N d g)
 desk_sync N d g =
     recorded_sync (desk.the_field N d g).row _ _ (desk.the_type N d g).to_one (struct_sync (shape (desk.the_type N d g)) (
-      locked_sync N d g,
+      search (locked_sync, queue_send, single_send, key.the_send, book.the_send, crosses, sendable) depth 60 fits 20000,
       (
         search (board.the_sync, crosses, sendable) depth 60 fits 20000,
-        (search (tail.the_send, mutex.the_sync, crosses, sendable) depth 60 fits 20000, tt),
+        (search (locked_sync, tail.the_send, crosses, sendable) depth 60 fits 20000, tt),
       ),
     ))

@@ -1,5 +1,5 @@
 -- What a desk answers to a call that may change what its lock holds, and what the call changed.
-use Rattle.std.specs.Prelude.{◌≡◌, ◌<◌, ℕ, Bool, List, Option, None, Some, Result, Ok, Err}
+use Rattle.std.specs.Prelude.{◌≡◌, ◌<◌, ℕ, Bool, List, Option, None, Some, MatchOption, Result, Ok, Err}
 use Rattle.std.specs.declared.alloc.AllocError.{AllocError}
 use Rattle.dispatch_reports.specs.Lines.{AreLines}
 use Rattle.dispatch_reports.specs.declared.reporting.EndedWindow.{EndedWindow}
@@ -23,6 +23,8 @@ use Rattle.log_entries.specs.declared.allowance.Intake.{Intake}
 use Rattle.log_entries.specs.declared.setup.Setup.{Setup}
 use Rattle.shared_desk.specs.Changes.{AreNone, Change, ChangesNothing, Offers}
 use Rattle.shared_desk.specs.Replies.{IsHeld}
+use Rattle.shared_desk.specs.Tails.{HasCaughtUp, HasKept, WhereFollowed}
+use Rattle.log_reading.specs.Tails.{Waiting}
 
 -- An event is asked for: it was added to the log that the lock held, and its verdicts were offered; or
 -- that log refuses it, and nothing was changed.
@@ -102,3 +104,19 @@ MakesRoom terms setup (Ok None) change =
 MakesRoom terms setup (Ok (Some window)) change =
     IsHeld terms setup change.old × (HasEntryRoom change.old.history → ⊥) × EndsWindow window change
 MakesRoom terms setup (Err fault) change = IsHeld terms setup change.old × ChangesNothing change
+
+-- a call reached what waits to be read, and changed it so, where a reader follows the log
+abbrev pub ReachesTail : (Waiting → Waiting → Type 0) → Change → Type 0
+ReachesTail goes change = MatchOption change.tail ⊥ (λ tail. WhereFollowed goes tail.old tail.new)
+
+-- The end of the window is asked for: all of the window's log is kept to be read, and behind it the
+-- end, where the window ended.
+abbrev pub KeepsWindow : Result EndedWindow AllocError → Change → Type 0
+KeepsWindow (Ok window) change = ReachesTail (HasKept change.old.history.log) change
+KeepsWindow (Err fault) change = ReachesTail (HasCaughtUp change.old.history.log) change
+
+-- the same where room for an event is asked for
+abbrev pub KeepsFullWindow : Result (Option EndedWindow) AllocError → Change → Type 0
+KeepsFullWindow (Ok (Some window)) change = ReachesTail (HasKept change.old.history.log) change
+KeepsFullWindow (Ok None) change = ReachesTail (HasCaughtUp change.old.history.log) change
+KeepsFullWindow (Err fault) change = ReachesTail (HasCaughtUp change.old.history.log) change

@@ -1,9 +1,13 @@
 -- The entries of the log that wait to be read, beside a desk's book.
-use Rattle.std.specs.Prelude.{◌≡◌, ◌≤◌, ◌<◌, ◌+◌, ◌++◌, ℕ, List, [], length, drop, Option, None, Some, IsSome}
+use Rattle.std.specs.Prelude.{◌≡◌, ◌≤◌, ◌<◌, ◌+◌, ◌++◌, ℕ, List, [], length, drop, vec_capacity, Option, None, Some, IsSome}
 use Rattle.std.specs.Option.{option_map}
 use Rattle.log_entries.specs.declared.entry.Entry.{Entry}
 use Rattle.log_reading.specs.Tails.{Waiting, one_more}
 use Rattle.log_reading.specs.declared.tail.Batch.{Batch}
+use Rattle.grant_board.specs.Views.{Terms}
+use Rattle.log_entries.specs.declared.setup.Setup.{Setup}
+use Rattle.locked_book.specs.Calls.{Booked}
+use Rattle.shared_desk.specs.Replies.{IsHeld}
 
 -- The entries of this log beyond those that were taken wait too. Where there is no room for all of
 -- them they are lost, as they are where some were lost before.
@@ -24,6 +28,10 @@ pub record HasNotedEnd (old new : Waiting) : Type 0 where
   pub lost : IsSome old.lost → (new.end ≡ old.end) × (new.lost ≡ option_map one_more old.lost)
   pub same : (new.entries ≡ old.entries) × (new.room ≡ old.room)
 
+-- nothing waits of a window without an entry, and there is room for this number of entries
+abbrev pub nothing_waits : ℕ → Waiting
+nothing_waits room = record { entries = []; end = None; lost = None; seen = 0; room = room }
+
 -- a relation of the entries that wait, where a reader follows the log; where none does nothing waits
 abbrev pub WhereFollowed : (Waiting → Waiting → Type 0) → Option Waiting → Option Waiting → Type 0
 WhereFollowed goes None None = Unit {0}
@@ -36,9 +44,23 @@ abbrev pub HasKept : List Entry → Waiting → Waiting → Type 0
 HasKept log old new = (between : Waiting) × HasCaughtUp log old between × HasNotedEnd between new
 
 -- All that waited is in the batch, and nothing waits any more, where the batch has room for as many
--- entries as may wait; else the batch is empty.
+-- entries as may wait; else the batch is empty. It has room for the next read as it had for this one.
 pub record IsTakenFrom (waiting : Waiting) (capacity : ℕ) (left : Waiting) (batch : Batch) : Type 0 where
   pub all : waiting.room ≤ capacity
       → (batch.entries.items ≡ waiting.entries) × (batch.end ≡ waiting.end) × (batch.lost ≡ waiting.lost)
       × (left.entries ≡ []) × (left.end ≡ None) × (left.lost ≡ None) × (left.seen ≡ waiting.seen) × (left.room ≡ waiting.room)
-  pub small : capacity < waiting.room → (left ≡ waiting) × (batch.entries.items ≡ []) × (batch.end ≡ None) × (batch.lost ≡ None)
+      × (left.room ≤ vec_capacity batch.entries)
+  pub small : capacity < waiting.room
+      → (left ≡ waiting) × (batch.entries.items ≡ []) × (batch.end ≡ None) × (batch.lost ≡ None) × (capacity ≤ vec_capacity batch.entries)
+
+-- What waited, with the entries that weren't taken yet of the log that the lock held, is in the batch,
+-- which has at least this much room; where no reader follows the log the batch is empty.
+abbrev pub ReadsNew : Terms → Setup → ℕ → Option Waiting → Option Waiting → Option Booked → Batch → Type 0
+ReadsNew terms setup room None None seen batch =
+    (batch.entries.items ≡ []) × (batch.end ≡ None) × (batch.lost ≡ None) × (room ≤ vec_capacity batch.entries)
+ReadsNew terms setup room None (Some new) seen batch = ⊥
+ReadsNew terms setup room (Some old) None seen batch = ⊥
+ReadsNew terms setup room (Some old) (Some new) None batch = ⊥
+ReadsNew terms setup room (Some old) (Some new) (Some seen) batch =
+    IsHeld terms setup seen
+    × ((waiting : Waiting) × (capacity : ℕ) × (room ≤ capacity) × HasCaughtUp seen.history.log old waiting × IsTakenFrom waiting capacity new batch)

@@ -1,13 +1,15 @@
-ghost use Rattle.std.specs.Prelude.{◌≡◌, ◌<◌, ◌^◌, [], length, true};
+ghost use Rattle.std.specs.Prelude.{◌≡◌, ◌<◌, ◌^◌, [], length, true, None, Some, IfOk, vec_capacity};
 ghost use Rattle.std.specs.Sync.Mutex.{mutex_guard_value};
 ghost use Rattle.log_entries.specs.Histories.{first_window};
 ghost use Rattle.grant_board.specs.KeeperCalls.{new_keeper, IsClosed};
 ghost use Rattle.shared_desk.specs.Replies.{IsHeld};
+ghost use Rattle.shared_desk.specs.Tails.{nothing_waits, ReadsNew};
 ghost use Rattle.dispatch_reports.specs.Reporting.{IsNew};
 ghost use Rattle.locked_book.specs.Books.{terms_for};
 
+use crate::changed::{LogRead, TailChanged};
 use crate::followed::Followed;
-use crate::keys::{DeskKeys, LogKey};
+use crate::keys::DeskKeys;
 use crate::locked::{Held, Locked, Looking};
 use binom_queue::BinomQueue;
 use dispatch_core::Core;
@@ -22,6 +24,9 @@ use std::sync::Wait;
 /// The queues of a desk's dispatcher.
 pub type DeskQueue = BinomQueue<Key, usize>;
 
+/// The book of a desk.
+pub type DeskBook<N> = Book<DeskQueue, N>;
+
 /// A dispatcher that threads share: its book behind a lock, of the setup that N names, and the board
 /// that N names, which no lock guards.
 ///
@@ -30,7 +35,7 @@ pub type DeskQueue = BinomQueue<Key, usize>;
 /// `open` asks for the desk's key; each of them returns what the lock held before it and after it.
 #[derive(Drop)]
 pub struct Desk<N: DeskName> {
-    book: Locked<N>,
+    book: Locked<DeskBook<N>>,
     board: Board,
     /// The part of the log that waits to be read.
     tail: Followed,
@@ -54,14 +59,17 @@ impl<N: DeskName> Desk<N> {
         requires seat { seat.view ≡ new_keeper N.terms }
         requires running { IsNew running (length core.setup.servers) }
         // What its lock holds at first.
-        ensures { result.0.book.first.value ≡ record { history = core; view = seat.view } }
+        ensures first { result.0.book.first.value ≡ record { history = core; view = seat.view } }
+        // Nobody follows its log at first.
+        ensures unread { result.0.tail.tail.first.value ≡ None }
     {
+        let (book, keys) = DeskKeys::of(Locked::new(Book::new(core, seat, running)));
         let desk = Desk {
-            book: Locked::new(Book::new(core, seat, running)),
+            book,
             board,
             tail: Followed::new(),
         };
-        (desk, DeskKeys::new())
+        (desk, keys)
     }
 
     /// Returns the board, for the seats of threads.
@@ -71,42 +79,50 @@ impl<N: DeskName> Desk<N> {
         &self.board
     }
 
-    /// Takes the lock to look at the book.
-    pub fn look<R: Wait>(&self, rt: &R) -> Looking<'_, N>
+    /// Takes the lock to look at the book. A thread that takes the lock again before it drops what
+    /// this returns waits for ever.
+    pub fn look<R: Wait>(&self, rt: &R) -> Looking<'_, DeskBook<N>>
         ensures { IsHeld N.terms N.setup (mutex_guard_value result.guard) }
     {
-        self.book.look(rt)
+        let book = self.book.look(rt);
+        // This call states the book's invariant.
+        book.book().places();
+        book
     }
 
-    /// Keeps new entries of the log for `read_new` from now on, at most this number at a time.
-    /// Fails only where memory is refused.
+    /// Keeps new entries of the log for `read_new` from now on, at most this number at a time. Only
+    /// who has the `LogKey` can get rid of what it returns. Fails only where memory is refused.
     pub fn follow<R: Wait>(
         &self,
         rt: &R,
-        _key: &LogKey<N>,
         alloc: Global,
         room: usize,
-    ) -> Result<(), AllocError>
+    ) -> Result<TailChanged, AllocError>
         requires { room < 2 ^ 32 }
+        ensures { IfOk result (λ change. change.new ≡ Some (nothing_waits room)) }
     {
         self.tail.begin(rt, alloc, room)
     }
 
     /// Replaces the batch by the entries since the last read, window after window; by nothing,
     /// where none are kept, or where the batch has less room than `follow` was given. `O(n)` in the
-    /// new entries while the lock is held, without allocating.
-    pub fn read_new<R: Wait>(&self, rt: &R, _key: &LogKey<N>, batch: &mut Batch) {
-        self.tail.read_new(rt, &self.book, batch);
+    /// new entries while the lock is held, without allocating. Only who has the `LogKey` can get rid
+    /// of what it returns.
+    pub fn read_new<R: Wait>(&self, rt: &R, batch: &mut Batch) -> LogRead<N>
+        ensures { ReadsNew N.terms N.setup (vec_capacity batch.old.entries) result.tail.old result.tail.new result.seen batch.new }
+    {
+        self.tail.read_new(rt, &self.book, batch)
     }
 
     /// Closes the board, once all its seats are joined. What the seats took and posted is what the
     /// book offered and collected, except for what is left. Returns what the lock held at last, too.
-    pub fn close(self, relay: RelaySeat) -> (Closing, Held<N>)
+    pub fn close(self, relay: RelaySeat) -> (Closing, Held<DeskBook<N>>)
         requires named { relay.board ≡ N.board }
         requires first { relay.view.first ≡ true }
         requires settled { relay.view.split ≡ relay.view.joined }
-        ensures held { IsHeld N.terms N.setup result.1 }
-        ensures closed { IsClosed result.1.view relay.view result.0.left }
+        ensures first { result.1.first.value ≡ self.book.first.value }
+        ensures held { IsHeld N.terms N.setup result.1.last.value }
+        ensures closed { IsClosed result.1.last.value.view relay.view result.0.left }
     {
         let Desk {
             book,
@@ -120,7 +136,7 @@ impl<N: DeskName> Desk<N> {
     }
 
     // Returns the lock of the book.
-    pub(crate) fn locked(&self) -> &Locked<N>
+    pub(crate) fn locked(&self) -> &Locked<DeskBook<N>>
         ensures { result.now ≡ self.now.book }
     {
         &self.book

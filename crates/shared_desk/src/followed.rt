@@ -1,35 +1,37 @@
-ghost use Rattle.std.specs.Prelude.{◌≡◌, ◌<◌, ◌^◌, [], vec_capacity, IfSome, OnSome, IfNone, IfOk, OnOk, OnErr, None};
+ghost use Rattle.std.specs.Prelude.{◌≡◌, ◌<◌, ◌^◌, [], vec_capacity, IfSome, OnSome, IfNone, IfOk, OnOk, OnErr, None, Some};
 ghost use Rattle.dispatch_reports.specs.Lines.{AreLines};
 ghost use Rattle.dispatch_state.specs.Histories.{HasEntryRoom};
 ghost use Rattle.late_cert.specs.Certificates.{IsCertified};
 ghost use Rattle.log_entries.specs.Histories.{next_window};
 ghost use Rattle.log_reading.specs.Tails.{Waiting};
-ghost use Rattle.shared_desk.specs.Answers.{AnswersRoll, MakesRoom};
-ghost use Rattle.shared_desk.specs.Tails.{HasCaughtUp, HasNotedEnd, HasKept, WhereFollowed, IsTakenFrom};
+ghost use Rattle.shared_desk.specs.Answers.{AnswersRoll, KeepsFullWindow, KeepsWindow, MakesRoom};
+ghost use Rattle.shared_desk.specs.Tails.{nothing_waits, ReadsNew, HasCaughtUp, HasNotedEnd, HasKept, WhereFollowed, IsTakenFrom};
 
-use crate::desk::DeskQueue;
-use crate::keys::DeskKey;
-use crate::locked::{Changed, Locked};
-use base_places::PlaceSet;
+use crate::changed::{Changed, LogRead, TailChanged};
+use crate::desk::DeskBook;
+use crate::locked::Locked;
 use dispatch_reports::EndedWindow;
-use locked_book::{Book, DeskName};
+use locked_book::DeskName;
 use log_entries::Entry;
 use log_reading::{Batch, Tail};
 use std::alloc::{AllocError, Global};
-use std::sync::{Mutex, Wait};
+use std::snapshot::Snapshot;
+use std::sync::Wait;
 
 /// The part of a desk's log that waits to be read, where a reader follows it, behind a lock of its
 /// own. Only these calls reach it. A thread that takes both locks takes this one first.
 #[derive(Drop)]
 pub(crate) struct Followed {
-    tail: Mutex<Option<Tail>>,
+    tail: Locked<Option<Tail>>,
 }
 
 impl Followed {
     /// Makes one that no reader follows.
-    pub(crate) fn new() -> Followed {
+    pub(crate) fn new() -> Followed
+        ensures { result.tail.first.value ≡ None }
+    {
         Followed {
-            tail: Mutex::new(None),
+            tail: Locked::new(None),
         }
     }
 
@@ -39,66 +41,79 @@ impl Followed {
         rt: &R,
         alloc: Global,
         room: usize,
-    ) -> Result<(), AllocError>
+    ) -> Result<TailChanged, AllocError>
         requires { room < 2 ^ 32 }
+        ensures { IfOk result (λ change. change.new ≡ Some (nothing_waits room)) }
     {
         let made = Tail::with_room(alloc, room)?;
-        let mut tail = self.tail.lock(rt);
-        *tail = Some(made);
-        Ok(())
+        let mut tail = self.tail.change(rt);
+        *tail.guard = Some(made);
+        Ok(TailChanged::of(tail.end()))
     }
 
     /// Makes the call `Desk::read_new`.
     pub(crate) fn read_new<R: Wait, N: DeskName>(
         &self,
         rt: &R,
-        book: &Locked<N>,
+        book: &Locked<DeskBook<N>>,
         batch: &mut Batch,
-    ) {
+    ) -> LogRead<N>
+        ensures { ReadsNew N.terms N.setup (vec_capacity batch.old.entries) result.tail.old result.tail.new result.seen batch.new }
+    {
         batch.clear();
-        let mut tail = self.tail.lock(rt);
-        if let Some(tail) = &mut *tail {
-            take_new(tail, book.look(rt).book().entries(), batch);
+        let mut tail = self.tail.change(rt);
+        let mut seen = None;
+        if let Some(tail) = &mut *tail.guard {
+            let book = book.look(rt);
+            // This call states the book's invariant.
+            book.book().places();
+            take_new(tail, book.book().entries(), batch);
+            seen = Some(Snapshot::of(book.book()));
         }
+        LogRead::of(tail.end(), seen)
     }
 
     /// Makes the call `OpenDesk::roll`.
     pub(crate) fn end_window<R: Wait, N: DeskName>(
         &self,
         rt: &R,
-        book: &Locked<N>,
-        key: &DeskKey<N>,
+        book: &Locked<DeskBook<N>>,
         alloc: Global,
     ) -> (Result<EndedWindow, AllocError>, Changed<N>)
-        ensures { AnswersRoll N.terms N.setup result.0 result.1 }
+        ensures answer { AnswersRoll N.terms N.setup result.0 result.1 }
+        ensures tail { KeepsWindow result.0 result.1 }
     {
-        let mut tail = self.tail.lock(rt);
-        let mut book = book.change(rt, key);
-        let ended = end_window(&mut tail, &mut book.guard, alloc);
-        (ended, book.end(PlaceSet::new()))
+        let mut tail = self.tail.change(rt);
+        let mut book = book.change(rt);
+        // This call states the book's invariant.
+        book.guard.places();
+        let ended = end_window(&mut tail.guard, &mut book.guard, alloc);
+        (ended, Changed::with_tail(book.end(), tail.end()))
     }
 
     /// Makes the call `OpenDesk::make_room`.
     pub(crate) fn make_room<R: Wait, N: DeskName>(
         &self,
         rt: &R,
-        book: &Locked<N>,
-        key: &DeskKey<N>,
+        book: &Locked<DeskBook<N>>,
         alloc: Global,
     ) -> (Result<Option<EndedWindow>, AllocError>, Changed<N>)
-        ensures { MakesRoom N.terms N.setup result.0 result.1 }
+        ensures answer { MakesRoom N.terms N.setup result.0 result.1 }
+        ensures tail { KeepsFullWindow result.0 result.1 }
     {
-        let mut tail = self.tail.lock(rt);
-        let mut book = book.change(rt, key);
-        let made = make_room(&mut tail, &mut book.guard, alloc);
-        (made, book.end(PlaceSet::new()))
+        let mut tail = self.tail.change(rt);
+        let mut book = book.change(rt);
+        // This call states the book's invariant.
+        book.guard.places();
+        let made = make_room(&mut tail.guard, &mut book.guard, alloc);
+        (made, Changed::with_tail(book.end(), tail.end()))
     }
 }
 
 // Ends the window, all of which is kept to be read before. Where memory is refused the window goes on.
 fn end_window<N: DeskName>(
     tail: &mut Option<Tail>,
-    book: &mut Book<DeskQueue, N>,
+    book: &mut DeskBook<N>,
     alloc: Global,
 ) -> Result<EndedWindow, AllocError>
     ensures ok { IfOk result (λ window. IsCertified book.old.history window.reports × AreLines book.old.history window.servers.items × (book.new ≡ record book.old { history = next_window book.old.history })) }
@@ -116,7 +131,7 @@ fn end_window<N: DeskName>(
 // Ends the window where the log has no room for an event.
 fn make_room<N: DeskName>(
     tail: &mut Option<Tail>,
-    book: &mut Book<DeskQueue, N>,
+    book: &mut DeskBook<N>,
     alloc: Global,
 ) -> Result<Option<EndedWindow>, AllocError>
     ensures none { IfOk result (λ found. IfNone found (HasEntryRoom book.old.history × (book.new ≡ book.old))) }

@@ -1,3 +1,8 @@
+ghost use Rattle.std.specs.Prelude.{◌≡◌};
+
+use crate::desk::DeskBook;
+use crate::locked::{Locked, Step};
+use locked_book::DeskName;
 use std::marker::PhantomData;
 
 /// Opens a desk for calls that change what its lock holds. Only who is lent it makes such calls.
@@ -6,8 +11,8 @@ pub struct DeskKey<N> {
     of: PhantomData<N>,
 }
 
-/// Opens the part of a desk's log that waits to be read. Each entry is read once, so that only one
-/// thread has this key.
+/// Opens what reads of a desk's log return, to get rid of it. Each entry is read once, so that only
+/// one thread has this key, and reads.
 #[derive(Drop)]
 pub struct LogKey<N> {
     of: PhantomData<N>,
@@ -28,13 +33,17 @@ pub struct DeskKeys<N> {
     pub wake: WakeKey,
 }
 
-impl<N> DeskKeys<N> {
-    // Makes the keys of a desk.
-    pub(crate) fn new() -> DeskKeys<N> {
-        DeskKeys {
+impl<N: DeskName> DeskKeys<N> {
+    // Makes the keys of the desk that has this lock, and returns the lock. Who is only lent a desk
+    // can't make any.
+    pub(crate) fn of(lock: Locked<DeskBook<N>>) -> (Locked<DeskBook<N>>, DeskKeys<N>)
+        ensures { result.0 ≡ lock }
+    {
+        let keys = DeskKeys {
             desk: DeskKey { of: PhantomData },
             log: LogKey { of: PhantomData },
             wake: WakeKey { of: PhantomData },
-        }
+        };
+        (lock, keys)
     }
 }

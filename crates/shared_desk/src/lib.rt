@@ -4,13 +4,15 @@
 //! holds, and each of them returns what it `Changed`.
 #![tactic(auto)]
 
+mod changed;
 mod desk;
 mod followed;
 mod keys;
 mod locked;
 mod opened;
 
-pub use desk::{Desk, DeskQueue};
+pub use changed::{Changed, LogRead, TailChanged};
+pub use desk::{Desk, DeskBook, DeskQueue};
 pub use keys::{DeskKey, DeskKeys, LogKey, WakeKey};
-pub use locked::{Changed, Held, Looking};
+pub use locked::{Held, Looking};
 pub use opened::OpenDesk;

@@ -1,72 +1,51 @@
-//! The lock of a desk. It lends the book to look at; who changes the book gets in return what was
-//! changed, which can't be dropped.
+//! A lock that changes nothing unseen. It lends what it holds to look at; who changes that gets in
+//! return what was changed, which can't be dropped. What it holds is of any type, so that no call
+//! here can change it.
 
 ghost use Rattle.std.specs.Prelude.{◌≡◌};
 ghost use Rattle.std.specs.Sync.Mutex.{mutex_guard_value};
-ghost use Rattle.shared_desk.specs.Replies.{IsHeld};
 
-use crate::desk::DeskQueue;
-use crate::keys::{DeskKey, WakeKey};
-use base_places::PlaceSet;
-use locked_book::{Book, DeskName};
-use std::marker::Model;
+use crate::keys::{LogKey, WakeKey};
 use std::snapshot::Snapshot;
 use std::sync::{Mutex, MutexGuard, Wait};
 
 /// A book behind a lock.
 #[derive(Drop)]
-pub(crate) struct Locked<N: DeskName> {
-    book: Mutex<Book<DeskQueue, N>>,
+pub(crate) struct Locked<B: Drop> {
+    book: Mutex<B>,
     // The book that it was made with.
-    first: Snapshot<Book<DeskQueue, N>>,
+    first: Snapshot<B>,
 }
 
-/// A desk whose lock is held, so that its book can be looked at. The lock is free again where this
-/// is dropped.
+/// A book whose lock is held, so that it can be looked at. The lock is free again where this is
+/// dropped; a thread that takes it again before that waits for ever.
 #[derive(Drop)]
-pub struct Looking<'a, N: DeskName> {
-    guard: MutexGuard<'a, Book<DeskQueue, N>>,
+pub struct Looking<'a, B> {
+    guard: MutexGuard<'a, B>,
 }
 
 /// A book whose lock is held to change it. `end` alone frees the lock.
-pub(crate) struct Changing<'a, N: DeskName> {
-    pub(crate) guard: MutexGuard<'a, Book<DeskQueue, N>>,
+pub(crate) struct Changing<'a, B> {
+    pub(crate) guard: MutexGuard<'a, B>,
     // The book that the lock held.
-    found: Snapshot<Book<DeskQueue, N>>,
+    found: Snapshot<B>,
 }
 
-/// What a call changed of what a desk's lock holds, and the places with its offers. It can't be
-/// dropped: who has the desk's `WakeKey` takes the places.
-pub struct Changed<N: DeskName> {
-    old: Snapshot<Book<DeskQueue, N>>,
-    new: Snapshot<Book<DeskQueue, N>>,
-    places: PlaceSet,
+/// The book that a lock held before a change, and the one after it. It can't be dropped.
+pub(crate) struct Step<B> {
+    old: Snapshot<B>,
+    new: Snapshot<B>,
 }
 
-impl<N: DeskName> Model for Changed<N> {
-    ghost use Rattle.shared_desk.specs.Changes.{Change};
-
-    ghost Value = { Change };
-
-    ghost view = { λ changed. record { old = changed.old.value; new = changed.new.value; places = changed.places } };
-}
-
-/// What a desk's lock held at last. Only contracts see it.
+/// The book that a lock held at first, and the last one. Only contracts see it.
 #[derive(Drop)]
-pub struct Held<N: DeskName> {
-    book: Snapshot<Book<DeskQueue, N>>,
+pub struct Held<B> {
+    first: Snapshot<B>,
+    last: Snapshot<B>,
 }
 
-impl<N: DeskName> Model for Held<N> {
-    ghost use Rattle.locked_book.specs.Calls.{Booked};
-
-    ghost Value = { Booked };
-
-    ghost view = { λ held. held.book.value };
-}
-
-impl<N: DeskName> Locked<N> {
-    pub(crate) fn new(book: Book<DeskQueue, N>) -> Locked<N>
+impl<B: Drop> Locked<B> {
+    pub(crate) fn new(book: B) -> Locked<B>
         ensures { result.first.value ≡ book }
     {
         let first = Snapshot::of(&book);
@@ -77,83 +56,62 @@ impl<N: DeskName> Locked<N> {
     }
 
     /// Takes the lock to look at the book.
-    pub(crate) fn look<R: Wait>(&self, rt: &R) -> Looking<'_, N>
-        ensures { IsHeld N.terms N.setup (mutex_guard_value result.guard) }
-    {
+    pub(crate) fn look<R: Wait>(&self, rt: &R) -> Looking<'_, B> {
         Looking {
-            guard: self.enter(rt),
+            guard: self.book.lock(rt),
         }
     }
 
     /// Takes the lock to change the book.
-    pub(crate) fn change<R: Wait>(&self, rt: &R, _key: &DeskKey<N>) -> Changing<'_, N>
-        ensures held { IsHeld N.terms N.setup (mutex_guard_value result.guard) }
-        ensures found { result.found.value ≡ mutex_guard_value result.guard }
+    pub(crate) fn change<R: Wait>(&self, rt: &R) -> Changing<'_, B>
+        ensures { result.found.value ≡ mutex_guard_value result.guard }
     {
-        let guard = self.enter(rt);
+        let guard = self.book.lock(rt);
         let found = Snapshot::of(&*guard);
         Changing { guard, found }
     }
 
     /// Returns the book.
-    pub(crate) fn into_book(self) -> (Book<DeskQueue, N>, Held<N>)
-        ensures { result.1 ≡ result.0 }
+    pub(crate) fn into_book(self) -> (B, Held<B>)
+        ensures first { result.1.first.value ≡ self.first.value }
+        ensures last { result.1.last.value ≡ result.0 }
     {
-        let Locked { book, first: _ } = self;
+        let Locked { book, first } = self;
         let book = book.into_inner();
-        let held = Held {
-            book: Snapshot::of(&book),
-        };
-        (book, held)
-    }
-
-    // Takes the lock.
-    fn enter<R: Wait>(&self, rt: &R) -> MutexGuard<'_, Book<DeskQueue, N>>
-        ensures { IsHeld N.terms N.setup (mutex_guard_value result) }
-    {
-        let book = self.book.lock(rt);
-        // This call states the book's invariant.
-        book.places();
-        book
+        let last = Snapshot::of(&book);
+        (book, Held { first, last })
     }
 }
 
-impl<N: DeskName> Looking<'_, N> {
+impl<B> Looking<'_, B> {
     /// Returns the book.
-    pub fn book(&self) -> &Book<DeskQueue, N>
+    pub fn book(&self) -> &B
         ensures { result.now ≡ mutex_guard_value self.now.guard }
     {
         &self.guard
     }
 }
 
-impl<N: DeskName> Changing<'_, N> {
+impl<B> Changing<'_, B> {
     /// Frees the lock, and returns what was changed while it was held.
-    pub(crate) fn end(self, places: PlaceSet) -> Changed<N>
-        ensures old { result.old ≡ self.entry.found.value }
-        ensures new { result.new ≡ mutex_guard_value self.entry.guard }
-        ensures places { result.places ≡ places }
+    pub(crate) fn end(self) -> Step<B>
+        ensures old { result.old.value ≡ self.entry.found.value }
+        ensures new { result.new.value ≡ mutex_guard_value self.entry.guard }
     {
         let Changing { guard, found } = self;
         let new = Snapshot::of(&*guard);
-        Changed {
-            old: found,
-            new,
-            places,
-        }
+        Step { old: found, new }
     }
 }
 
-impl<N: DeskName> Changed<N> {
-    /// Takes the places with the offers.
-    pub fn take(self, _key: &WakeKey) -> PlaceSet
-        ensures { result ≡ self.places }
-    {
-        let Changed {
-            old: _,
-            new: _,
-            places,
-        } = self;
-        places
+impl<B> Step<B> {
+    /// Forgets the change, which a gate was told of.
+    pub(crate) fn forget(self, _key: &WakeKey) {
+        let Step { old: _, new: _ } = self;
+    }
+
+    /// Forgets the change, which the reader of a log made.
+    pub(crate) fn forget_read<N>(self, _key: &LogKey<N>) {
+        let Step { old: _, new: _ } = self;
     }
 }

@@ -1,4 +1,4 @@
-ghost use Rattle.std.specs.Prelude.{◌≡◌, ◌<◌, length, pos, ◌+ℤ◌};
+ghost use Rattle.std.specs.Prelude.{◌≡◌, ◌<◌, None, length, pos, ◌+ℤ◌};
 ghost use Rattle.std.specs.Sync.Mutex.{mutex_guard_value};
 ghost use Rattle.base_lists.specs.Weights.{AreIn};
 ghost use Rattle.grant_board.specs.KeeperCalls.{Vouches};
@@ -6,13 +6,14 @@ ghost use Rattle.locked_book.specs.Outstanding.{outstanding};
 ghost use Rattle.log_entries.specs.declared.entry.Entry.TheVariants.{Arrive};
 ghost use Rattle.log_entries.specs.Histories.{state_of};
 ghost use Rattle.queue_outside.specs.Admission.{due_at};
-ghost use Rattle.shared_desk.specs.Answers.{AnswersAbort, AnswersArrival, AnswersCheck, AnswersCollect, AnswersLimit, AnswersRoll, AnswersTick, AnswersTurn, MakesRoom};
+ghost use Rattle.shared_desk.specs.Answers.{AnswersAbort, AnswersArrival, AnswersCheck, AnswersCollect, AnswersLimit, AnswersRoll, AnswersTick, AnswersTurn, KeepsFullWindow, KeepsWindow, MakesRoom};
 ghost use Rattle.shared_desk.specs.Changes.{AreNone};
 ghost use Rattle.shared_desk.specs.Replies.{IsHeld};
 
-use crate::desk::Desk;
+use crate::changed::Changed;
+use crate::desk::{Desk, DeskBook};
 use crate::keys::DeskKey;
-use crate::locked::{Changed, Changing};
+use crate::locked::Changing;
 use base_places::PlaceSet;
 use dispatch_reports::EndedWindow;
 use dispatch_state::Ticketed;
@@ -28,13 +29,12 @@ use std::sync::Wait;
 #[derive(Drop)]
 pub struct OpenDesk<'a, N: DeskName> {
     desk: &'a Desk<N>,
-    key: &'a DeskKey<N>,
 }
 
 impl<N: DeskName> Desk<N> {
     /// Opens the desk for calls that change what its lock holds. It takes no lock.
-    pub fn open<'a>(&'a self, key: &'a DeskKey<N>) -> OpenDesk<'a, N> {
-        OpenDesk { desk: self, key }
+    pub fn open(&self, _key: &DeskKey<N>) -> OpenDesk<'_, N> {
+        OpenDesk { desk: self }
     }
 }
 
@@ -47,13 +47,14 @@ impl<N: DeskName> OpenDesk<'_, N> {
         moment: Moment,
         wanted: Wanted,
     ) -> (Result<Ticketed, Refusal>, Changed<N>)
-        ensures { AnswersArrival N.terms N.setup (λ it at. Arrive at (record { ticket = it.ticket; class = wanted.class; due = pos at +ℤ wanted.offset; pin = wanted.pin; place = it.place })) wanted.pin moment result.0 result.1 }
+        ensures answer { AnswersArrival N.terms N.setup (λ it at. Arrive at (record { ticket = it.ticket; class = wanted.class; due = pos at +ℤ wanted.offset; pin = wanted.pin; place = it.place })) wanted.pin moment result.0 result.1 }
+        ensures tail { result.1.tail ≡ None }
     {
         let mut book = self.enter(rt);
         let mut places = PlaceSet::new();
         let board = self.desk.board();
         let arrived = book.guard.arrive(alloc, board, moment, wanted, &mut places);
-        (arrived, book.end(places))
+        (arrived, Changed::of(book.end(), places))
     }
 
     /// A request that waited elsewhere arrives: it keeps its due date, or gets the earliest one
@@ -65,7 +66,8 @@ impl<N: DeskName> OpenDesk<'_, N> {
         moment: Moment,
         deferred: Deferred,
     ) -> (Result<Ticketed, Refusal>, Changed<N>)
-        ensures { AnswersArrival N.terms N.setup (λ it at. Arrive at (record { ticket = it.ticket; class = deferred.class; due = due_at deferred.due at; pin = deferred.pin; place = it.place })) deferred.pin moment result.0 result.1 }
+        ensures answer { AnswersArrival N.terms N.setup (λ it at. Arrive at (record { ticket = it.ticket; class = deferred.class; due = due_at deferred.due at; pin = deferred.pin; place = it.place })) deferred.pin moment result.0 result.1 }
+        ensures tail { result.1.tail ≡ None }
     {
         let mut book = self.enter(rt);
         let mut places = PlaceSet::new();
@@ -73,7 +75,7 @@ impl<N: DeskName> OpenDesk<'_, N> {
         let arrived = book
             .guard
             .arrive_due(alloc, board, moment, deferred, &mut places);
-        (arrived, book.end(places))
+        (arrived, Changed::of(book.end(), places))
     }
 
     /// A request that waits is given up. Refused as the dispatcher's `abort` is.
@@ -83,23 +85,25 @@ impl<N: DeskName> OpenDesk<'_, N> {
         moment: Moment,
         ticket: u64,
     ) -> (Result<(), Refusal>, Changed<N>)
-        ensures { AnswersAbort N.terms N.setup ticket moment result.0 result.1 }
+        ensures answer { AnswersAbort N.terms N.setup ticket moment result.0 result.1 }
+        ensures tail { result.1.tail ≡ None }
     {
         let mut book = self.enter(rt);
         let mut places = PlaceSet::new();
         let board = self.desk.board();
         let given_up = book.guard.abort(board, moment, ticket, &mut places);
-        (given_up, book.end(places))
+        (given_up, Changed::of(book.end(), places))
     }
 
     /// Each request that has waited as long as it may is told so. Refused as the dispatcher's `tick` is.
     pub fn tick<R: Wait>(&self, rt: &R, moment: Moment) -> (Result<(), Refusal>, Changed<N>)
-        ensures { AnswersTick N.terms N.setup moment result.0 result.1 }
+        ensures answer { AnswersTick N.terms N.setup moment result.0 result.1 }
+        ensures tail { result.1.tail ≡ None }
     {
         let mut book = self.enter(rt);
         let mut places = PlaceSet::new();
         let ticked = book.guard.tick(self.desk.board(), moment, &mut places);
-        (ticked, book.end(places))
+        (ticked, Changed::of(book.end(), places))
     }
 
     /// A check of a server ended. Refused as the dispatcher's `check` is.
@@ -110,13 +114,14 @@ impl<N: DeskName> OpenDesk<'_, N> {
         server: usize,
         ok: bool,
     ) -> (Result<(), Refusal>, Changed<N>)
-        ensures { AnswersCheck N.terms N.setup server ok moment result.0 result.1 }
+        ensures answer { AnswersCheck N.terms N.setup server ok moment result.0 result.1 }
+        ensures tail { result.1.tail ≡ None }
     {
         let mut book = self.enter(rt);
         let mut places = PlaceSet::new();
         let board = self.desk.board();
         let noted = book.guard.check(board, moment, server, ok, &mut places);
-        (noted, book.end(places))
+        (noted, Changed::of(book.end(), places))
     }
 
     /// Sets a server's limit: the event, then the server's mark at the board, then the offers.
@@ -128,13 +133,14 @@ impl<N: DeskName> OpenDesk<'_, N> {
         server: usize,
         limit: Intake,
     ) -> (Result<(), Refusal>, Changed<N>)
-        ensures { AnswersLimit N.terms N.setup server limit moment result.0 result.1 }
+        ensures answer { AnswersLimit N.terms N.setup server limit moment result.0 result.1 }
+        ensures tail { result.1.tail ≡ None }
     {
         let mut book = self.enter(rt);
         let mut places = PlaceSet::new();
         let board = self.desk.board();
         let set = book.guard.limit(board, moment, server, limit, &mut places);
-        (set, book.end(places))
+        (set, Changed::of(book.end(), places))
     }
 
     /// Collects what was posted at a place, which becomes the dispatcher's event. `None` where
@@ -146,13 +152,14 @@ impl<N: DeskName> OpenDesk<'_, N> {
         place: usize,
     ) -> (Result<Option<Return>, Refusal>, Changed<N>)
         requires in_range { place < N.terms.places }
-        ensures { AnswersCollect N.terms N.setup place moment result.0 result.1 }
+        ensures answer { AnswersCollect N.terms N.setup place moment result.0 result.1 }
+        ensures tail { result.1.tail ≡ None }
     {
         let mut book = self.enter(rt);
         let mut places = PlaceSet::new();
         let board = self.desk.board();
         let found = book.guard.collect_at(board, moment, place, &mut places);
-        (found, book.end(places))
+        (found, Changed::of(book.end(), places))
     }
 
     /// Looks at each place that is out, by rising number, and collects what was posted there; then
@@ -160,12 +167,13 @@ impl<N: DeskName> OpenDesk<'_, N> {
     /// place is out: the returns that were collected before are kept, and their places are in the
     /// set. `O(1)` for each place that is out, beside the events.
     pub fn turn<R: Wait>(&self, rt: &R, moment: Moment) -> (Result<(), Refusal>, Changed<N>)
-        ensures { AnswersTurn N.terms N.setup moment result.0 result.1 }
+        ensures answer { AnswersTurn N.terms N.setup moment result.0 result.1 }
+        ensures tail { result.1.tail ≡ None }
     {
         let mut book = self.enter(rt);
         let mut places = PlaceSet::new();
         let turned = book.guard.turn(self.desk.board(), moment, &mut places);
-        (turned, book.end(places))
+        (turned, Changed::of(book.end(), places))
     }
 
     /// Begins the next window of the log, and returns what is told of the one that ended. Where
@@ -175,11 +183,12 @@ impl<N: DeskName> OpenDesk<'_, N> {
         rt: &R,
         alloc: Global,
     ) -> (Result<EndedWindow, AllocError>, Changed<N>)
-        ensures { AnswersRoll N.terms N.setup result.0 result.1 }
+        ensures answer { AnswersRoll N.terms N.setup result.0 result.1 }
+        ensures tail { KeepsWindow result.0 result.1 }
     {
         self.desk
             .followed()
-            .end_window(rt, self.desk.locked(), self.key, alloc)
+            .end_window(rt, self.desk.locked(), alloc)
     }
 
     /// Begins the next window where the log has no room for an event, and returns what is told of
@@ -189,11 +198,12 @@ impl<N: DeskName> OpenDesk<'_, N> {
         rt: &R,
         alloc: Global,
     ) -> (Result<Option<EndedWindow>, AllocError>, Changed<N>)
-        ensures { MakesRoom N.terms N.setup result.0 result.1 }
+        ensures answer { MakesRoom N.terms N.setup result.0 result.1 }
+        ensures tail { KeepsFullWindow result.0 result.1 }
     {
         self.desk
             .followed()
-            .make_room(rt, self.desk.locked(), self.key, alloc)
+            .make_room(rt, self.desk.locked(), alloc)
     }
 
     /// Returns the relay's seat unchanged, and the number of its passes, each of which is outstanding.
@@ -203,18 +213,22 @@ impl<N: DeskName> OpenDesk<'_, N> {
         ensures back { result.0.0 ≡ relay }
         ensures count { result.0.1 ≡ length relay.view.passes }
         ensures outstanding { AreIn relay.view.passes (outstanding (state_of result.1.old.history).rows) }
+        ensures tail { result.1.tail ≡ None }
         ensures vouched { (result.1.new.history ≡ result.1.old.history) × Vouches result.1.old.view result.1.new.view relay.view.passes × AreNone result.1.places }
     {
         let mut book = self.enter(rt);
         let vouched = book.guard.vouch(self.desk.board(), relay);
-        (vouched, book.end(PlaceSet::new()))
+        (vouched, Changed::of(book.end(), PlaceSet::new()))
     }
 
     // Takes the lock to change the book.
-    fn enter<R: Wait>(&self, rt: &R) -> Changing<'_, N>
+    fn enter<R: Wait>(&self, rt: &R) -> Changing<'_, DeskBook<N>>
         ensures held { IsHeld N.terms N.setup (mutex_guard_value result.guard) }
         ensures found { result.found.value ≡ mutex_guard_value result.guard }
     {
-        self.desk.locked().change(rt, self.key)
+        let book = self.desk.locked().change(rt);
+        // This call states the book's invariant.
+        book.guard.places();
+        book
     }
 }

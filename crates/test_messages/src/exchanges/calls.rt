@@ -130,6 +130,22 @@ fn refusals(rt: HostRuntime) {
     }
 }
 
+// The client isn't told once more, where the write of its refusal failed.
+#[test]
+fn a_second_refusal(rt: HostRuntime) {
+    let mut exchange = Exchange::new(rt.alloc(), 0).expect(&rt, "memory");
+    let mut output = Log::new(rt.alloc());
+    output.fails_at = 1;
+    exchange.renew();
+    let first = exchange.refuse(Code::BadGateway, &mut output);
+    same(&rt, first, Err(Fault::Write), "a refusal");
+    holds(&rt, !exchange.begun(), "a refusal");
+    let second = exchange.refuse(Code::Unavailable, &mut output);
+    same(&rt, second, Err(Fault::Closed), "a second refusal");
+    let written = (output.writes, output.bytes.len());
+    same(&rt, written, (1, 0), "a second refusal");
+}
+
 fn reads(alloc: Global, exchange: &mut Exchange, head: &[u8]) -> bool {
     exchange.renew();
     exchange.read_request(alloc, &mut Feed::of(head)).is_ok()

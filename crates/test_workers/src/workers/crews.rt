@@ -36,7 +36,7 @@ fn serve_two<N: DeskName + Send + Sync, R: Abort + Threads + Wait + Sync>(
     ]
     .expect(rt, "memory");
     let checks = (Fake::new(one, &seen), Few::new(0));
-    let (relay, tally) = serve(rt, &proxy, idle.seat(), crew, checks);
+    let (relay, tally, _) = serve(rt, &proxy, idle.seat(), crew, checks);
     let turned = proxy.turn(rt, &mut Fake::new(one, &seen)).is_ok();
     assert!(rt; turned);
     Found {

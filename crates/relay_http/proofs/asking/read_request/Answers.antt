@@ -8,8 +8,9 @@ use Rattle.http_bodies.specs.Steps.{ends, Moves}
 use Rattle.http_bodies.specs.declared.pipe.Pipe.{Pipe}
 use Rattle.exchange_machine.specs.Wholes.{begun}
 use Rattle.http_texts.specs.Heads.{LacksRequest}
-use Rattle.relay_http.specs.Failures.{Fails}
+use Rattle.relay_http.specs.Failures.{Conveys, Fails}
 use Rattle.relay_http.proofs.Failing.{moves_fails, fails_plainly}
+use Rattle.relay_http.proofs.Keeping.{kept_by, kept_before}
 use Rattle.relay_http.proofs.Telling.{asking_of, fails_lacking, fails_ended}
 use Rattle.req_view.specs.Heads.{HasNoHead}
 use Rattle.relay_http.proofs.asking.read_request.Goals as goal
@@ -85,3 +86,25 @@ reading-preserved g c =
 
 pub returns-in-Whole-clause-unread : goal.returns-in-Whole-clause-unread
 returns-in-Whole-clause-unread g c = λ h rest has. elim c.reading.invariant.3 [ inl none ↦ absurd (none h rest has) | inr same ↦ same.0 ]
+
+pub returns-in-Refused-clause-kept : goal.returns-in-Refused-clause-kept
+returns-in-Refused-clause-kept g c = λ w.
+    let before = g.S.Source.stream c.args.source.now in
+    subst (λ (p : Pipe). Conveys c.args.pipe.now.inbox p.inbox before.bytes (g.S.Source.stream c.reading.source).bytes w w [] []) (sym c.in-Refused.ensures.0)
+    (kept_by w (c.reading.invariant.0 before))
+
+pub returns-in_err-count-clause-kept : goal.returns-in_err-count-clause-kept
+returns-in_err-count-clause-kept g c = λ w.
+    let before = g.S.Source.stream c.args.source.now in
+    let so_far =
+    subst (λ (p : Pipe). Moves (ends c.args.pipe.now before before) (ends p (g.S.Source.stream c.reading.source) before) [] []) (sym c.in-More.ensures.0)
+    (c.reading.invariant.0 before) in
+    at_exit _ _ _ c.from_residual.ensures.1 (kept_before _ _ w so_far c.in_err-count.ensures.kept.0 c.in_err-count.ensures.kept.1)
+
+pub returns-then-count-eq0-clause-kept : goal.returns-then-count-eq0-clause-kept
+returns-then-count-eq0-clause-kept g c = λ w.
+    let before = g.S.Source.stream c.args.source.now in
+    let so_far =
+    subst (λ (p : Pipe). Moves (ends c.args.pipe.now before before) (ends p (g.S.Source.stream c.reading.source) before) [] []) (sym c.in-More.ensures.0)
+    (c.reading.invariant.0 before) in
+    kept_by w (moves_trans so_far (c.in_ok-count.ensures.ok before))

@@ -12,6 +12,7 @@ invariant-loop g l =
     × ((outcomes : List Outcome)
     × HaveEnded g.G.Client.Read.remaining g.G.Client.Write.contents g.G.Server.Read.remaining g.G.Server.Write.contents
     g.N.BoardName.terms g.N.DeskName.setup l.proxy.config outcomes
+    l.initial.hand.runner.exchange l.hand.runner.exchange
     (record { notes = g.G.Gate.notes l.initial.hand.runner.gate; left = g.P.Pause.left l.initial.hand.pause; view = l.initial.idle.seat.view })
     (record { notes = g.G.Gate.notes l.hand.runner.gate; left = g.P.Pause.left l.hand.pause; view = l.idle.seat.view })
     × (l.tally ≡ all_noted no_clients outcomes))

@@ -1,4 +1,4 @@
-use Rattle.std.proofs.Common.{◌≡◌, ◌↔◌, ◌+◌, ◌*◌, ◌/◌, ◌<◌, IsTrue, Option, None, Some, IfNone, is_some, false, sym, ◌∙◌, subst}
+use Rattle.std.proofs.Common.{◌≡◌, ◌↔◌, ◌/◌, ◌<◌, IsTrue, Option, None, Some, IfNone, is_some, false, sym, ◌∙◌, subst}
 use mathlib.Core.Bool.{true≢false}
 use Rattle.grant_board.specs.Views.{Terms, count_at}
 use Rattle.grant_board.specs.KeeperCalls.{FindsUnposted}
@@ -22,7 +22,7 @@ pub loop-place-preserved-then-is_some : goal.loop-place-preserved-then-is_some
 loop-place-preserved-then-is_some g c =
     let is = c.loop-place.invariant.0 in
     let at = c.in-Some.ensures.some in (
-      walking_goes c.args.moment (64 * c.args.number) (64 * c.args.number + 64) g.N.BoardName.terms.places c.args.self.now c.args.woken.now
+      walking_goes c.args.moment c.args.number g.N.BoardName.terms.places c.args.self.now c.args.woken.now
           c.loop-place.self c.loop-place.woken c.loop-place.ahead is c.in-Some.place c.take_first.new.self c.take_at.new.self c.take_at.new.woken
           at c.in-Some.ensures.later
           (visit_of c.args.moment c.in-Some.place c.loop-place.self c.loop-place.woken c.take_at.new.self c.take_at.new.woken c.take_at.result
@@ -43,7 +43,7 @@ loop-place-preserved g c =
     let none = if_not_some c.take_at.result
     ((c.take_at.new.self.history ≡ c.loop-place.self.history) × FindsUnposted c.loop-place.self.view c.take_at.new.self.view c.in-Some.place
     × (c.take_at.new.woken ≡ c.loop-place.woken)) (sym c.is_some.ensures ∙ c.if-is_some.false) c.take_at.ensures.none in (
-      walking_goes c.args.moment (64 * c.args.number) (64 * c.args.number + 64) g.N.BoardName.terms.places c.args.self.now c.args.woken.now
+      walking_goes c.args.moment c.args.number g.N.BoardName.terms.places c.args.self.now c.args.woken.now
           c.loop-place.self c.loop-place.woken c.loop-place.ahead is c.in-Some.place c.take_first.new.self c.take_at.new.self c.take_at.new.woken
           at c.in-Some.ensures.later
           (visit_of c.args.moment c.in-Some.place c.loop-place.self c.loop-place.woken c.take_at.new.self c.take_at.new.woken c.take_at.result
@@ -53,10 +53,10 @@ loop-place-preserved g c =
 
 pub returns-clause-ok : goal.returns-clause-ok
 returns-clause-ok g c =
-    walking_ends c.args.moment (64 * c.args.number) (64 * c.args.number + 64) g.N.BoardName.terms.places c.args.self.now c.args.woken.now
+    walking_ends c.args.moment c.args.number g.N.BoardName.terms.places c.args.self.now c.args.woken.now
     c.loop-place.self c.loop-place.woken c.loop-place.ahead c.loop-place.invariant.0 c.in_default.ensures.none
 
 pub returns-then-not-room-clause-stopped : goal.returns-then-not-room-clause-stopped
 returns-then-not-room-clause-stopped g c =
-    walking_stops c.args.moment (64 * c.args.number) (64 * c.args.number + 64) g.N.BoardName.terms.places c.args.self.now c.args.woken.now
+    walking_stops c.args.moment c.args.number g.N.BoardName.terms.places c.args.self.now c.args.woken.now
     c.loop-place.self c.loop-place.woken c.loop-place.ahead c.loop-place.invariant.0 c.in-Some.place c.in-Some.ensures.some

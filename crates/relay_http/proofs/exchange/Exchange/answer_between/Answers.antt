@@ -1,5 +1,5 @@
 -- The answer is handed on by a pipe that holds nothing, and what was written is known by how many writes succeeded.
-use Rattle.std.proofs.Common.{◌<◌, ℕ, length, arith, ap, length-append}
+use Rattle.std.proofs.Common.{◌<◌, ◌∙◌, ℕ, length, arith, ap, length-append}
 use Rattle.http_texts.specs.Messages.{LacksAnswer}
 use Rattle.std.proofs.lemmas.Grind.{common_steps}
 use Rattle.relay_http.proofs.Failing.{fails_after}
@@ -48,7 +48,7 @@ returns-in-Err-clause-err g c =
       part.0,
       part.1,
       part.2,
-      rw (← empty) (fails_after (LacksAnswer c.args.view.now.method) c.forget_waiting.new.self c.forget_waiting.ensures.turns part.3),
+      rw (← empty) (fails_after (LacksAnswer c.args.view.now.method) c.hold-in-Err.new.self (c.hold-in-Err.ensures.turns ∙ c.forget_waiting.ensures.turns) part.3),
     )
 
 pub returns-in-Err-clause-marks : goal.returns-in-Err-clause-marks
@@ -73,12 +73,12 @@ returns-in-Ok-clause-turns g c = omega (arith, moves_turns c.in-Ok.ensures.ok.3,
 
 pub returns-in-Err-clause-turns : goal.returns-in-Err-clause-turns
 returns-in-Err-clause-turns g c =
-    let after = fails_after (LacksAnswer c.args.view.now.method) c.forget_waiting.new.self c.forget_waiting.ensures.turns c.in-Err.ensures.err.3 in
+    let after = fails_after (LacksAnswer c.args.view.now.method) c.hold-in-Err.new.self (c.hold-in-Err.ensures.turns ∙ c.forget_waiting.ensures.turns) c.in-Err.ensures.err.3 in
     omega (arith, fails_turns after, c.hold.ensures.turns)
 
 pub returns-in-Err-clause-spent : goal.returns-in-Err-clause-spent
 returns-in-Err-clause-spent g c = λ is.
-    let after = fails_after (LacksAnswer c.args.view.now.method) c.forget_waiting.new.self c.forget_waiting.ensures.turns c.in-Err.ensures.err.3 in
+    let after = fails_after (LacksAnswer c.args.view.now.method) c.hold-in-Err.new.self (c.hold-in-Err.ensures.turns ∙ c.forget_waiting.ensures.turns) c.in-Err.ensures.err.3 in
     fails_spent c.in-Err.fault after is
 
 pub returns-in-Err-clause-stays : goal.returns-in-Err-clause-stays

@@ -1,5 +1,6 @@
 use Rattle.std.proofs.Common.{rules}
 use Rattle.http_texts.specs.Heads.{LacksRequest}
+use Rattle.relay_http.proofs.Keeping.{kept_as}
 use Rattle.relay_http.proofs.Thinning.{thin_read, thin_read_fault, thin_same}
 use Rattle.relay_http.proofs.exchange.Exchange.read_request.Goals as goal
 
@@ -16,3 +17,6 @@ returns-clause-untouched g c = λ failed. (
   (c.read_request_from.ensures.untouched failed).0,
   thin_same _ _ _ _ (search rules) (search rules) (c.read_request_from.ensures.untouched failed).1,
 )
+
+pub returns-clause-kept : goal.returns-clause-kept
+returns-clause-kept g c = kept_as _ _ _ _ _ _ _ (search rules) (search rules) c.read_request_from.ensures.kept

@@ -8,6 +8,6 @@ pub returns-in-Ok-clause-ok : goal.returns-in-Ok-clause-ok
 returns-in-Ok-clause-ok g c = (
   c.in-Ok.window,
   c.roll-ended.result.1,
-  subst (λ (it : Result EndedWindow AllocError). AnswersRoll g.N.BoardName.terms g.N.DeskName.setup it c.roll-ended.result.1) c.in-Ok.is c.roll-ended.ensures,
+  subst (λ (it : Result EndedWindow AllocError). AnswersRoll g.N.BoardName.terms g.N.DeskName.setup it c.roll-ended.result.1) c.in-Ok.is c.roll-ended.ensures.answer,
   c.window.ensures,
 )

@@ -1,8 +1,8 @@
 #!/usr/bin/env bash
 # bench/edits.sh [NAME..]: tries the edits bench/edits/NAME/*.edit, each of which the prover must refuse as it refuses those of
-# crates/NAME/must-fail; without names all. `rt ci` leaves these out: their crates' proofs take so long that each would cost it
-# more than a minute, or (relay_http) their crate has twenty there. Prints a line for each; the status is 1 where one wasn't refused. Takes about two hours on one
-# processor, and the libraries below are built first where they aren't there.
+# crates/NAME/must-fail; without names all. `rt ci` leaves these out: before it tries the edits of a crate it proves the crate once
+# more, which takes one processor more than a minute in these crates. Prints a line for each; the status is 1 where one wasn't
+# refused. Takes about six hours on one processor, and the libraries below are built first where they aren't there.
 set -u
 cd "$(dirname "$0")/.." || exit 2
 command -v rt >/dev/null || { echo "rt, the command of the Rattle kit, is not on the PATH"; exit 2; }

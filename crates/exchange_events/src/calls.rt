@@ -1,8 +1,10 @@
 ghost use Rattle.std.specs.Prelude.{◌≡◌, ◌≤◌, ℕ, List, [], false, true, Some, IsTrue, length, take};
 ghost use Rattle.exchange_machine.specs.Histories.{ExchangeHistory, client_came, server_came, server_got, client_got, signed};
 ghost use Rattle.exchange_machine.specs.Reasons.{told_for};
+ghost use Rattle.exchange_machine.specs.declared.dialing.Terms.{Terms};
 ghost use Rattle.exchange_machine.specs.declared.signs.Sign.{Sign};
 ghost use Rattle.exchange_machine.specs.Stages.{IsAsking, IsDialing, IsForwarding, IsTurn, IsUnread};
+ghost use Rattle.exchange_events.specs.Answers as answers;
 ghost use Rattle.exchange_events.specs.Steps as steps;
 ghost use Rattle.http_texts.specs.declared.additions.Additions as additions;
 ghost use Rattle.http_texts.specs.declared.refusals.Code as codes;
@@ -20,6 +22,7 @@ fn quiet(next: Exchange, used: usize) -> Step
     ensures used { result.used ≡ used }
     ensures same { result.next ≡ next }
     ensures at { (h : ExchangeHistory) → steps.IsAtItsStage next h → steps.IsAtItsStage result.next (steps.ended result.outcome h) }
+    ensures does { (result.outcome ≡ Outcome.Quiet) }
     ensures fails { steps.FailsInTurn result.outcome result.next }
 {
     Step {
@@ -44,6 +47,7 @@ fn unmoved(exchange: Exchange) -> Step
         → steps.IsAtItsStage result.next (steps.ended result.outcome (server_got h (take count []))) }
     ensures connected { (h : ExchangeHistory) (adds : additions.Additions) → steps.IsAtItsStage exchange h
         → steps.IsAtItsStage result.next (steps.ended result.outcome (steps.connected_with result.used adds h)) }
+    ensures does { answers.Stays exchange result.used result.outcome result.next }
     ensures fails { steps.FailsInTurn result.outcome result.next }
 {
     Step {
@@ -115,6 +119,8 @@ fn unread(why: Fault) -> Turned
 fn request_bytes(mut forwarding: Forwarding, alloc: Global, input: &[u8]) -> Step
     ensures within { result.used ≤ length input.now }
     ensures at { (h : ExchangeHistory) → IsForwarding forwarding h → steps.IsAtItsStage result.next (steps.ended result.outcome (client_came h (take result.used input.now))) }
+    ensures keeps { answers.Keeps forwarding result.next }
+    ensures runs { answers.IsRunning result.next }
     ensures fails { steps.FailsInTurn result.outcome result.next }
 {
     let used = take_request(&mut forwarding, input);
@@ -128,6 +134,7 @@ fn request_bytes(mut forwarding: Forwarding, alloc: Global, input: &[u8]) -> Ste
 
 fn take_request(forwarding: &mut Forwarding, input: &[u8]) -> usize
     ensures within { result ≤ length input.now }
+    ensures same { answers.IsOfSame forwarding.old forwarding.new }
     ensures passes { (h : ExchangeHistory) → IsForwarding forwarding.old h → IsForwarding forwarding.new (client_came h (take result input.now)) }
 {
     forwarding.use_held();
@@ -140,6 +147,7 @@ fn take_request(forwarding: &mut Forwarding, input: &[u8]) -> usize
 pub(crate) fn server_bytes(exchange: Exchange, alloc: Global, input: &[u8]) -> Step
     ensures within { result.used ≤ length input.now }
     ensures at { (h : ExchangeHistory) → steps.IsAtItsStage exchange h → steps.IsAtItsStage result.next (steps.ended result.outcome (server_came h (take result.used input.now))) }
+    ensures does { answers.HearsAlone exchange result.used result.outcome result.next }
     ensures fails { steps.FailsInTurn result.outcome result.next }
 {
     match exchange {
@@ -151,6 +159,8 @@ pub(crate) fn server_bytes(exchange: Exchange, alloc: Global, input: &[u8]) -> S
 fn answer_bytes(mut forwarding: Forwarding, alloc: Global, input: &[u8]) -> Step
     ensures within { result.used ≤ length input.now }
     ensures at { (h : ExchangeHistory) → IsForwarding forwarding h → steps.IsAtItsStage result.next (steps.ended result.outcome (server_came h (take result.used input.now))) }
+    ensures keeps { answers.Keeps forwarding result.next }
+    ensures runs { answers.IsRunning result.next }
     ensures fails { steps.FailsInTurn result.outcome result.next }
 {
     let used = take_answer(&mut forwarding, input);
@@ -164,6 +174,7 @@ fn answer_bytes(mut forwarding: Forwarding, alloc: Global, input: &[u8]) -> Step
 
 fn take_answer(forwarding: &mut Forwarding, input: &[u8]) -> usize
     ensures within { result ≤ length input.now }
+    ensures same { answers.IsOfSame forwarding.old forwarding.new }
     ensures passes { (h : ExchangeHistory) → IsForwarding forwarding.old h → IsForwarding forwarding.new (server_came h (take result input.now)) }
 {
     if forwarding.is_at_body() && forwarding.holds_no_answer() {
@@ -228,6 +239,7 @@ pub(crate) fn client_took(exchange: Exchange, alloc: Global, count: usize) -> St
 pub(crate) fn server_took(exchange: Exchange, alloc: Global, count: usize) -> Step
     ensures at { (h : ExchangeHistory) → steps.IsAtItsStage exchange h
         → steps.IsAtItsStage result.next (steps.ended result.outcome (server_got h (take count (steps.to_server exchange)))) }
+    ensures does { answers.HearsAlone exchange result.used result.outcome result.next }
     ensures fails { steps.FailsInTurn result.outcome result.next }
 {
     match exchange {
@@ -253,6 +265,7 @@ pub(crate) fn server_took(exchange: Exchange, alloc: Global, count: usize) -> St
 
 pub(crate) fn granted(exchange: Exchange, pass: Pass) -> Step
     ensures at { (h : ExchangeHistory) → steps.IsAtItsStage exchange h → steps.IsAtItsStage result.next (steps.ended result.outcome (steps.came_pass result.used pass h)) }
+    ensures does { answers.IsGranted exchange pass result.used result.outcome result.next }
     ensures fails { steps.MayReturn result.outcome result.next }
 {
     match exchange {
@@ -268,6 +281,7 @@ pub(crate) fn granted(exchange: Exchange, pass: Pass) -> Step
 pub(crate) fn unserved(exchange: Exchange, sign: Sign) -> Step
     requires { told_for sign ≡ Some codes.Code.Unavailable }
     ensures at { (h : ExchangeHistory) → steps.IsAtItsStage exchange h → steps.IsAtItsStage result.next (steps.ended result.outcome (signed h sign)) }
+    ensures does { answers.IsUnserved exchange result.used result.outcome result.next }
     ensures fails { steps.FailsInTurn result.outcome result.next }
 {
     match exchange {
@@ -281,6 +295,7 @@ pub(crate) fn unserved(exchange: Exchange, sign: Sign) -> Step
 pub(crate) fn connected(exchange: Exchange, alloc: Global, terms: Terms) -> Step
     ensures at { (h : ExchangeHistory) → steps.IsAtItsStage exchange h
         → steps.IsAtItsStage result.next (steps.ended result.outcome (steps.connected_with result.used terms.adds h)) }
+    ensures does { answers.IsConnected exchange terms result.used result.outcome result.next }
     ensures fails { steps.FailsInTurn result.outcome result.next }
 {
     match exchange {
@@ -294,6 +309,7 @@ pub(crate) fn connected(exchange: Exchange, alloc: Global, terms: Terms) -> Step
 fn reconnected(mut forwarding: Forwarding, alloc: Global, terms: Terms) -> Step
     ensures at { (h : ExchangeHistory) → IsForwarding forwarding h
         → steps.IsAtItsStage result.next (steps.ended result.outcome (steps.connected_with result.used terms.adds h)) }
+    ensures does { answers.GoesOnOn forwarding terms result.used result.outcome result.next }
     ensures fails { steps.FailsInTurn result.outcome result.next }
 {
     if !forwarding.is_dialing() {
@@ -311,6 +327,7 @@ fn reconnected(mut forwarding: Forwarding, alloc: Global, terms: Terms) -> Step
 fn begin(dialing: Dialing, alloc: Global, terms: Terms) -> Step
     ensures at { (h : ExchangeHistory) → IsDialing dialing h
         → steps.IsAtItsStage result.next (steps.ended result.outcome (steps.connected_with result.used terms.adds h)) }
+    ensures does { answers.StartsOn dialing terms result.next }
     ensures fails { steps.FailsInTurn result.outcome result.next }
 {
     let Ok(up) = Way::new(alloc) else {
@@ -335,6 +352,7 @@ fn begin(dialing: Dialing, alloc: Global, terms: Terms) -> Step
 fn short(dialing: Dialing) -> Step
     ensures at { (h : ExchangeHistory) (adds : additions.Additions) → IsDialing dialing h
         → steps.IsAtItsStage result.next (steps.ended result.outcome (steps.connected_with result.used adds h)) }
+    ensures does { (terms : Terms) → answers.StartsOn dialing terms result.next }
     ensures fails { steps.FailsInTurn result.outcome result.next }
 {
     let (waiting, pass) = dialing.give_up();
@@ -348,6 +366,7 @@ fn short(dialing: Dialing) -> Step
 pub(crate) fn unreachable(exchange: Exchange, sign: Sign) -> Step
     requires { told_for sign ≡ Some codes.Code.Unavailable }
     ensures at { (h : ExchangeHistory) → steps.IsAtItsStage exchange h → steps.IsAtItsStage result.next (steps.ended result.outcome (signed h sign)) }
+    ensures does { answers.IsUnreached exchange result.used result.outcome result.next }
     ensures fails { steps.FailsInTurn result.outcome result.next }
 {
     match exchange {
@@ -361,6 +380,7 @@ pub(crate) fn unreachable(exchange: Exchange, sign: Sign) -> Step
 fn unreached_at_first(dialing: Dialing, sign: Sign) -> Step
     requires { told_for sign ≡ Some codes.Code.Unavailable }
     ensures at { (h : ExchangeHistory) → IsDialing dialing h → steps.IsAtItsStage result.next (steps.ended result.outcome (signed h sign)) }
+    ensures does { answers.MissesServer dialing result.outcome result.next }
     ensures fails { steps.FailsInTurn result.outcome result.next }
 {
     if dialing.has_reached() {
@@ -382,6 +402,7 @@ fn unreached_at_first(dialing: Dialing, sign: Sign) -> Step
 fn unreached(forwarding: Forwarding, sign: Sign) -> Step
     requires { told_for sign ≡ Some codes.Code.Unavailable }
     ensures at { (h : ExchangeHistory) → IsForwarding forwarding h → steps.IsAtItsStage result.next (steps.ended result.outcome (signed h sign)) }
+    ensures does { answers.LosesServer forwarding result.used result.outcome result.next }
     ensures fails { steps.FailsInTurn result.outcome result.next }
 {
     if !forwarding.is_dialing() {
@@ -399,6 +420,7 @@ fn unreached(forwarding: Forwarding, sign: Sign) -> Step
 pub(crate) fn gone(exchange: Exchange, sign: Sign) -> Step
     ensures over { result.next ≡ Exchange.Over }
     ensures at { (h : ExchangeHistory) → steps.IsAtItsStage exchange h → steps.IsAtItsStage result.next (steps.ended result.outcome (signed h sign)) }
+    ensures does { answers.IsLeft exchange result.outcome result.next }
     ensures fails { steps.FailsInTurn result.outcome result.next }
 {
     match exchange {
@@ -431,6 +453,7 @@ pub(crate) fn client_ended(exchange: Exchange, aborts: bool) -> Step
     ensures at { (h : ExchangeHistory) → steps.IsAtItsStage exchange h → steps.IsAtItsStage result.next (steps.ended result.outcome (signed h Sign.ClientEnded)) }
     ensures leaves { steps.is_left aborts exchange ≡ true → result.next ≡ Exchange.Over }
     ensures stays { steps.is_left aborts exchange ≡ false → result.next ≡ exchange }
+    ensures does { answers.IsHalfClosed aborts exchange result.used result.outcome result.next }
     ensures fails { steps.FailsInTurn result.outcome result.next }
 {
     if is_left(&exchange, aborts) {
@@ -459,6 +482,7 @@ fn is_left(exchange: &Exchange, aborts: bool) -> bool
 pub(crate) fn server_ended(exchange: Exchange, alloc: Global, sign: Sign) -> Step
     requires { told_for sign ≡ Some codes.Code.BadGateway }
     ensures at { (h : ExchangeHistory) → steps.IsAtItsStage exchange h → steps.IsAtItsStage result.next (steps.ended result.outcome (signed h sign)) }
+    ensures does { answers.HearsAlone exchange result.used result.outcome result.next }
     ensures fails { steps.FailsInTurn result.outcome result.next }
 {
     match exchange {
@@ -488,6 +512,7 @@ fn is_end(sign: Sign) -> bool
 
 pub(crate) fn server_deaf(exchange: Exchange, alloc: Global) -> Step
     ensures at { (h : ExchangeHistory) → steps.IsAtItsStage exchange h → steps.IsAtItsStage result.next (steps.ended result.outcome (signed h Sign.ServerDeaf)) }
+    ensures does { answers.HearsAlone exchange result.used result.outcome result.next }
     ensures fails { steps.FailsInTurn result.outcome result.next }
 {
     match exchange {
@@ -506,6 +531,7 @@ pub(crate) fn server_deaf(exchange: Exchange, alloc: Global) -> Step
 
 pub(crate) fn time_over(exchange: Exchange, clock: TimeoutKind) -> Step
     ensures at { (h : ExchangeHistory) → steps.IsAtItsStage exchange h → steps.IsAtItsStage result.next (steps.ended result.outcome (signed h (steps.over clock))) }
+    ensures does { answers.IsOverdue clock exchange result.used result.outcome result.next }
     ensures fails { steps.FailsInTurn result.outcome result.next }
 {
     match clock {
@@ -518,6 +544,7 @@ pub(crate) fn time_over(exchange: Exchange, clock: TimeoutKind) -> Step
 
 fn client_over(exchange: Exchange) -> Step
     ensures at { (h : ExchangeHistory) → steps.IsAtItsStage exchange h → steps.IsAtItsStage result.next (steps.ended result.outcome (signed h Sign.ClientOver)) }
+    ensures does { answers.IsSilent exchange result.used result.outcome result.next }
     ensures fails { steps.FailsInTurn result.outcome result.next }
 {
     match exchange {
@@ -531,6 +558,7 @@ fn client_over(exchange: Exchange) -> Step
 // A client that sent nothing at all is told nothing.
 fn asked_late(asking: Asking) -> Step
     ensures at { (h : ExchangeHistory) → IsAsking asking h → steps.IsAtItsStage result.next (steps.ended result.outcome (signed h Sign.ClientOver)) }
+    ensures does { answers.IsSilent (Exchange.Asking asking) result.used result.outcome result.next }
     ensures fails { steps.FailsInTurn result.outcome result.next }
 {
     if asking.is_silent() {
@@ -542,6 +570,7 @@ fn asked_late(asking: Asking) -> Step
 
 fn server_over(exchange: Exchange) -> Step
     ensures at { (h : ExchangeHistory) → steps.IsAtItsStage exchange h → steps.IsAtItsStage result.next (steps.ended result.outcome (signed h Sign.ServerOver)) }
+    ensures does { answers.IsMute exchange result.used result.outcome result.next }
     ensures fails { steps.FailsInTurn result.outcome result.next }
 {
     match exchange {

@@ -1,5 +1,6 @@
 ghost use Rattle.std.specs.Prelude.{◌≡◌, ◌≢◌, ◌++◌, [], true, false, Some, IsFalse, IsTrue};
 ghost use Rattle.exchange_machine.specs.Histories.{ExchangeHistory, nothing_yet};
+ghost use Rattle.exchange_events.specs.Answers.{Does};
 ghost use Rattle.exchange_events.specs.Chains as chains;
 ghost use Rattle.exchange_events.specs.Passes.{held_by, came_with, gone_with};
 ghost use Rattle.exchange_events.specs.Steps as steps;
@@ -208,6 +209,7 @@ impl Exchange {
         ensures within { steps.TakesNoMore event.entry result.used }
         ensures leaves { event.entry ≡ Event.ClientEnd → steps.is_left rules.aborts self ≡ true → result.next ≡ Exchange.Over }
         ensures stays { event.entry ≡ Event.ClientEnd → steps.is_left rules.aborts self ≡ false → result.next ≡ self }
+        ensures does { Does rules.aborts self event.entry result.used result.outcome result.next }
     {
         self.go_on(alloc, rules, event)
     }
@@ -218,6 +220,7 @@ impl Exchange {
         ensures within { steps.TakesNoMore event.entry result.used }
         ensures leaves { event.entry ≡ Event.ClientEnd → steps.is_left rules.aborts self ≡ true → result.next ≡ Exchange.Over }
         ensures stays { event.entry ≡ Event.ClientEnd → steps.is_left rules.aborts self ≡ false → result.next ≡ self }
+        ensures does { Does rules.aborts self event.entry result.used result.outcome result.next }
     {
         match event {
             Event::ClientBytes(input) => client_bytes(self, alloc, input),

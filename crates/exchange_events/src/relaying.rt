@@ -1,10 +1,13 @@
-ghost use Rattle.std.specs.Prelude.{◌≡◌, Some, true};
+ghost use Rattle.std.specs.Prelude.{◌≡◌, ◌≢◌, Some, true, false};
 ghost use Rattle.http_bodies.specs.Stops.{is_bad};
+ghost use Rattle.exchange_machine.specs.Changes.{Uses};
+ghost use Rattle.exchange_machine.specs.declared.forwarding.Forwarding as forwardings;
 ghost use Rattle.exchange_machine.specs.Histories.{ExchangeHistory, posted, signed};
 ghost use Rattle.exchange_machine.specs.Reasons.{LacksAnswer, told_for};
 ghost use Rattle.exchange_machine.specs.Repeatables.{IsRepeatable, IsUntouched};
 ghost use Rattle.exchange_machine.specs.Settlings.{IsRest};
 ghost use Rattle.exchange_machine.specs.Stages.{IsLeaving, IsForwarding};
+ghost use Rattle.exchange_events.specs.Answers as answers;
 ghost use Rattle.exchange_events.specs.Steps as steps;
 ghost use Rattle.http_texts.specs.declared.refusals.Code as codes;
 ghost use Rattle.base_verdict.specs.declared.Ending.TheVariants as ending;
@@ -24,6 +27,8 @@ pub(crate) struct Turned {
 /// Uses the held bytes as far as it may, and judges the server's side where it is over.
 pub(crate) fn go_on(mut forwarding: Forwarding, alloc: Global) -> Turned
     ensures at { (h : ExchangeHistory) → IsForwarding forwarding h → steps.IsAtItsStage result.next (steps.ended result.outcome h) }
+    ensures keeps { answers.Keeps forwarding result.next }
+    ensures runs { answers.IsRunning result.next }
     ensures fails { steps.FailsInTurn result.outcome result.next }
 {
     forwarding.use_held();
@@ -38,6 +43,9 @@ pub(crate) fn go_on(mut forwarding: Forwarding, alloc: Global) -> Turned
 }
 
 fn read_heads(forwarding: &mut Forwarding, alloc: Global, left: u8) -> Headed
+    ensures body { result ≡ Headed.Answer → forwarding.new.phase ≡ Down.Body }
+    ensures heads { result ≢ Headed.Answer → forwarding.new.phase ≢ Down.Body }
+    ensures same { answers.IsOfSame forwarding.old forwarding.new }
     ensures passes { (h : ExchangeHistory) → IsForwarding forwarding.old h → IsForwarding forwarding.new h }
     ensures refused { result ≡ Headed.Refused → (h : ExchangeHistory) → IsForwarding forwarding.old h → LacksAnswer forwarding.new.view.method h.server_in }
 {
@@ -50,6 +58,7 @@ fn read_heads(forwarding: &mut Forwarding, alloc: Global, left: u8) -> Headed
 
 fn still_forwarding(forwarding: Forwarding) -> Turned
     ensures at { (h : ExchangeHistory) → IsForwarding forwarding h → steps.IsAtItsStage result.next (steps.ended result.outcome h) }
+    ensures does { (result.next ≡ Exchange.Forwarding forwarding) × (result.outcome ≡ Outcome.Quiet) }
     ensures fails { steps.FailsInTurn result.outcome result.next }
 {
     Turned {
@@ -61,6 +70,8 @@ fn still_forwarding(forwarding: Forwarding) -> Turned
 // A head's text waits for room, where bytes are to be sent before it; otherwise there is never room for it.
 fn no_room(forwarding: Forwarding) -> Turned
     ensures at { (h : ExchangeHistory) → IsForwarding forwarding h → steps.IsAtItsStage result.next (steps.ended result.outcome h) }
+    ensures keeps { answers.Keeps forwarding result.next }
+    ensures runs { forwarding.phase ≢ Down.Body → answers.IsRunning result.next }
     ensures fails { steps.FailsInTurn result.outcome result.next }
 {
     if forwarding.to_client().is_empty() {
@@ -72,6 +83,9 @@ fn no_room(forwarding: Forwarding) -> Turned
 
 fn head_goes_on(forwarding: Forwarding) -> Turned
     ensures at { (h : ExchangeHistory) → IsForwarding forwarding h → steps.IsAtItsStage result.next (steps.ended result.outcome h) }
+    ensures does { answers.AwaitsHead forwarding result.outcome result.next }
+    ensures keeps { answers.Keeps forwarding result.next }
+    ensures runs { forwarding.phase ≢ Down.Body → answers.IsRunning result.next }
     ensures fails { steps.FailsInTurn result.outcome result.next }
 {
     if forwarding.is_asked_badly() {
@@ -93,6 +107,7 @@ fn head_goes_on(forwarding: Forwarding) -> Turned
 fn redials(mut forwarding: Forwarding) -> Turned
     requires { IsUntouched forwarding }
     ensures at { (h : ExchangeHistory) → IsForwarding forwarding h → steps.IsAtItsStage result.next (steps.ended result.outcome h) }
+    ensures does { (result.next ≡ Exchange.Forwarding (record forwarding { cut = false; ended = false; well = false; dialing = true })) × (result.outcome ≡ Outcome.Retries) }
     ensures fails { steps.FailsInTurn result.outcome result.next }
 {
     forwarding.redial();
@@ -106,6 +121,7 @@ fn redials(mut forwarding: Forwarding) -> Turned
 fn breaks_off(forwarding: Forwarding) -> Turned
     requires { forwarding.ended ≡ true }
     ensures at { (h : ExchangeHistory) → IsForwarding forwarding h → steps.IsAtItsStage result.next (steps.ended result.outcome h) }
+    ensures does { answers.StopsWith codes.Code.BadGateway forwarding result.outcome result.next }
     ensures fails { steps.FailsInTurn result.outcome result.next }
 {
     if forwarding.has_begun() {
@@ -117,6 +133,7 @@ fn breaks_off(forwarding: Forwarding) -> Turned
 fn asked_badly(forwarding: Forwarding) -> Turned
     requires { is_bad forwarding.up.coding ≡ true }
     ensures at { (h : ExchangeHistory) → IsForwarding forwarding h → steps.IsAtItsStage result.next (steps.ended result.outcome h) }
+    ensures does { answers.StopsWith codes.Code.BadRequest forwarding result.outcome result.next }
     ensures fails { steps.FailsInTurn result.outcome result.next }
 {
     if forwarding.has_begun() {
@@ -127,6 +144,7 @@ fn asked_badly(forwarding: Forwarding) -> Turned
 
 fn left(ended: Ended) -> Turned
     ensures at { (h : ExchangeHistory) → IsLeaving ended.rest (posted h ended.pass ending.Done) → steps.IsAtItsStage result.next (steps.ended result.outcome h) }
+    ensures does { (result.next ≡ Exchange.Leaving ended.rest) × (result.outcome ≡ Outcome.Posts ended.pass Ending.Done) }
     ensures fails { steps.FailsInTurn result.outcome result.next }
 {
     let Ended { pass, rest } = ended;
@@ -139,6 +157,7 @@ fn left(ended: Ended) -> Turned
 fn again(forwarding: Forwarding) -> Turned
     requires { IsRepeatable forwarding }
     ensures at { (h : ExchangeHistory) → IsForwarding forwarding h → steps.IsAtItsStage result.next (steps.ended result.outcome h) }
+    ensures does { answers.Repeats forwarding result.outcome result.next }
     ensures fails { steps.FailsInTurn result.outcome result.next }
 {
     let dialing = forwarding.again();
@@ -150,12 +169,27 @@ fn again(forwarding: Forwarding) -> Turned
 
 fn body_goes_on(mut forwarding: Forwarding) -> Turned
     ensures at { (h : ExchangeHistory) → IsForwarding forwarding h → steps.IsAtItsStage result.next (steps.ended result.outcome h) }
+    ensures does { forwarding.phase ≡ Down.Body → (used : forwardings.Forwarding) × Uses forwarding used × answers.AwaitsBody used result.outcome result.next }
+    ensures keeps { answers.Keeps forwarding result.next }
+    ensures runs { answers.IsRunning result.next }
     ensures fails { steps.FailsInTurn result.outcome result.next }
 {
     if !forwarding.is_at_body() {
         return still_forwarding(forwarding);
     }
     forwarding.use_answer_held();
+    body_is_used(forwarding)
+}
+
+// The bytes that came of the answer's body were used, as far as there was room.
+fn body_is_used(forwarding: Forwarding) -> Turned
+    requires { forwarding.phase ≡ Down.Body }
+    ensures at { (h : ExchangeHistory) → IsForwarding forwarding h → steps.IsAtItsStage result.next (steps.ended result.outcome h) }
+    ensures does { answers.AwaitsBody forwarding result.outcome result.next }
+    ensures keeps { answers.Keeps forwarding result.next }
+    ensures runs { answers.IsRunning result.next }
+    ensures fails { steps.FailsInTurn result.outcome result.next }
+{
     if forwarding.is_answered_badly() {
         return answered_badly(forwarding);
     }
@@ -176,6 +210,7 @@ fn answered_badly(forwarding: Forwarding) -> Turned
     requires body { forwarding.phase ≡ Down.Body }
     requires bad { is_bad forwarding.down.coding ≡ true }
     ensures at { (h : ExchangeHistory) → IsForwarding forwarding h → steps.IsAtItsStage result.next (steps.ended result.outcome h) }
+    ensures does { answers.StopsWith codes.Code.BadGateway forwarding result.outcome result.next }
     ensures fails { steps.FailsInTurn result.outcome result.next }
 {
     if forwarding.has_begun() {
@@ -186,6 +221,7 @@ fn answered_badly(forwarding: Forwarding) -> Turned
 
 fn settles(forwarding: Forwarding) -> Turned
     ensures at { (h : ExchangeHistory) → IsForwarding forwarding h → steps.IsAtItsStage result.next (steps.ended result.outcome h) }
+    ensures does { answers.Settles forwarding result.outcome result.next }
     ensures fails { steps.FailsInTurn result.outcome result.next }
 {
     let Settled { pass, rest } = forwarding.settle();
@@ -205,6 +241,7 @@ fn settles(forwarding: Forwarding) -> Turned
 /// The answer can't go on: the part that was handed on is still sent.
 pub(crate) fn ends(forwarding: Forwarding) -> Turned
     ensures at { (h : ExchangeHistory) → IsForwarding forwarding h → steps.IsAtItsStage result.next (steps.ended result.outcome h) }
+    ensures does { (result.next ≡ Exchange.Leaving (record { out = forwarding.down; whole = false; clean = false })) × (result.outcome ≡ Outcome.Posts forwarding.pass Ending.Done) }
     ensures fails { steps.FailsInTurn result.outcome result.next }
 {
     left(forwarding.end())
@@ -212,6 +249,8 @@ pub(crate) fn ends(forwarding: Forwarding) -> Turned
 
 fn refused_short(forwarding: Forwarding) -> Turned
     ensures at { (h : ExchangeHistory) → IsForwarding forwarding h → steps.IsAtItsStage result.next (steps.ended result.outcome h) }
+    ensures keeps { answers.Keeps forwarding result.next }
+    ensures runs { answers.IsRunning result.next }
     ensures fails { steps.FailsInTurn result.outcome result.next }
 {
     if forwarding.has_begun() {
@@ -226,6 +265,9 @@ fn refused_short(forwarding: Forwarding) -> Turned
 
 fn refused_badly(forwarding: Forwarding) -> Turned
     ensures at { (h : ExchangeHistory) → IsForwarding forwarding h → LacksAnswer forwarding.view.method h.server_in → steps.IsAtItsStage result.next (steps.ended result.outcome h) }
+    ensures does { answers.StopsWith codes.Code.BadGateway forwarding result.outcome result.next }
+    ensures keeps { answers.Keeps forwarding result.next }
+    ensures runs { answers.IsRunning result.next }
     ensures fails { steps.FailsInTurn result.outcome result.next }
 {
     if forwarding.has_begun() {
@@ -237,6 +279,7 @@ fn refused_badly(forwarding: Forwarding) -> Turned
 /// The server is silent for too long.
 pub(crate) fn refused_late(forwarding: Forwarding) -> Turned
     ensures at { (h : ExchangeHistory) → IsForwarding forwarding h → steps.IsAtItsStage result.next (steps.ended result.outcome (signed h Sign.ServerOver)) }
+    ensures does { answers.StopsWith codes.Code.BadGateway forwarding result.outcome result.next }
     ensures fails { steps.FailsInTurn result.outcome result.next }
 {
     if forwarding.has_begun() {
@@ -249,6 +292,7 @@ pub(crate) fn refused_late(forwarding: Forwarding) -> Turned
 pub(crate) fn not_redialed(forwarding: Forwarding, sign: Sign) -> Turned
     requires { told_for sign ≡ Some codes.Code.Unavailable }
     ensures at { (h : ExchangeHistory) → IsForwarding forwarding h → steps.IsAtItsStage result.next (steps.ended result.outcome (signed h sign)) }
+    ensures does { answers.StopsWith codes.Code.Unavailable forwarding result.outcome result.next }
     ensures fails { steps.FailsInTurn result.outcome result.next }
 {
     if forwarding.has_begun() {

@@ -1,6 +1,8 @@
 -- What the sides gave, by the definitions of whole messages.
 use Rattle.std.proofs.Common.{cond, ◌&&◌, ◌≡◌, ◌≢◌, ◌∙◌, ℕ, ◌+◌, ◌-◌, ◌<◌, ◌≤◌, Bool, true, false, true≢false, Some, IsSome, List, [], ◌∷◌, ◌++◌, length, take, drop, refl, sym, ap, arith, append_assoc, append-nil, length-append, length-drop, subst, inr}
+use Rattle.std.proofs.lemmas.Bool.Decides.{nat_tests}
 use Rattle.httparse.specs.Grammar.{ResponseHead, print_response}
+use Rattle.exchange_machine.specs.Changes.{begun_after}
 use Rattle.http_texts.specs.declared.refusals.Code.{Code}
 use Rattle.base_lists.specs.Fronts.{IsFront}
 use Rattle.http_bodies.specs.Framings.{IsBody, LacksBody}
@@ -920,6 +922,11 @@ forwarding_refused p l way h code pass ending false is over same none why out fu
 }
 
 -- the client took more of what waits
+-- where nothing behind the `100` was taken, it wasn't before, and no more than was left of the `100`
+pub leave_kept : (begun : Bool) (left count : ℕ) → begun_after begun left count ≡ false → (begun ≡ false) × (count ≤ left)
+leave_kept true left count is = absurd cc
+leave_kept false left count is = (refl, grind (arith, nat_tests))
+
 pub forwarding_told : (p q : Forwarding) (h : ExchangeHistory) (count : ℕ) → IsForwarding p h → q.down.out ≡ drop count p.down.out → q.down.coding ≡ p.down.coding
     → (q.begun ≡ false → (p.begun ≡ false) × (count ≤ p.leave_left) × (q.leave_left ≡ p.leave_left - count))
     → q ≡ record p { down = q.down; begun = q.begun; leave_left = q.leave_left } → IsForwarding q (client_got h (take count p.down.out))

@@ -1,4 +1,5 @@
 pub mod Answerings
+pub mod Changes
 pub mod Findings
 pub mod Headline
 pub mod Histories

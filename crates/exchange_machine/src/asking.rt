@@ -5,6 +5,7 @@ ghost use Rattle.exchange_machine.specs.Stages as stages;
 ghost use Rattle.exchange_machine.specs.Wants.{is_none};
 ghost use Rattle.http_texts.specs.Heads.{LacksRequest};
 ghost use Rattle.req_view.specs.Heads.{HasNoHead, Waits};
+ghost use Rattle.http_texts.specs.Replies.{refusal_text};
 
 use crate::held::{forget, has_feed};
 use crate::signs::Sign;
@@ -101,7 +102,8 @@ impl Asking {
 
     /// `timeout client` expired before a whole request came: 400.
     pub fn late(self) -> Telling
-        ensures { (h : ExchangeHistory) → stages.IsAsking self h → Shows h.signs Sign.ClientOver → stages.IsTelling result h }
+        ensures tells { (h : ExchangeHistory) → stages.IsAsking self h → Shows h.signs Sign.ClientOver → stages.IsTelling result h }
+        ensures told { result.rest.now ≡ refusal_text Code.BadRequest }
     {
         Telling::of(Code::BadRequest)
     }

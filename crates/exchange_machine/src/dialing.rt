@@ -1,4 +1,5 @@
 ghost use Rattle.std.specs.Prelude.{◌≡◌, [], false, IfOk, IfErr};
+ghost use Rattle.exchange_machine.specs.Changes.{IsBegunOn};
 ghost use Rattle.exchange_machine.specs.Histories.{ExchangeHistory, connected_on, posted};
 ghost use Rattle.exchange_machine.specs.Repeatables as repeats;
 ghost use Rattle.exchange_machine.specs.Stages as stages;
@@ -75,7 +76,8 @@ impl Dialing {
     /// and the exchange may wait for another.
     pub fn fail(self) -> (Waiting, Pass)
         requires { self.reached ≡ false }
-        ensures { (h : ExchangeHistory) → stages.IsDialing self h → stages.IsWaiting result.0 (posted h result.1 ending.Failed) }
+        ensures waits { (h : ExchangeHistory) → stages.IsDialing self h → stages.IsWaiting result.0 (posted h result.1 ending.Failed) }
+        ensures same { (result.0 ≡ self.waiting) × (result.1 ≡ self.pass) }
     {
         let Dialing {
             waiting,
@@ -87,7 +89,8 @@ impl Dialing {
 
     /// The exchange makes no more tries: the pass is posted as done, and the client is to be told why.
     pub fn give_up(self) -> (Waiting, Pass)
-        ensures { (h : ExchangeHistory) → stages.IsDialing self h → stages.IsWaiting result.0 (posted h result.1 ending.Done) }
+        ensures waits { (h : ExchangeHistory) → stages.IsDialing self h → stages.IsWaiting result.0 (posted h result.1 ending.Done) }
+        ensures same { (result.0 ≡ self.waiting) × (result.1 ≡ self.pass) }
     {
         let Dialing {
             waiting,
@@ -109,7 +112,7 @@ impl Dialing {
         requires up { up.out ≡ [] }
         requires down { down.out ≡ [] }
         ensures passes { IfOk result (λ forwarding. (h : ExchangeHistory) → stages.IsDialing self h → stages.IsForwarding forwarding (connected_on h terms.adds)) }
-        ensures said { IfOk result (λ forwarding. (forwarding.adds ≡ terms.adds) × (forwarding.willing ≡ terms.willing) × (forwarding.fresh ≡ terms.fresh)) }
+        ensures begins { IfOk result (IsBegunOn self terms) }
         ensures same { IfErr result (λ dialing. dialing ≡ self) }
     {
         let fits = put_request(
@@ -133,7 +136,7 @@ impl Dialing {
         requires up { up.out ≡ request_text terms.adds self.waiting.asked.view self.waiting.asked.framing }
         requires down { down.out ≡ leave_text self.waiting.asked.view }
         ensures passes { (h : ExchangeHistory) → stages.IsDialing self h → stages.IsForwarding result (connected_on h terms.adds) }
-        ensures said { (result.adds ≡ terms.adds) × (result.willing ≡ terms.willing) × (result.fresh ≡ terms.fresh) }
+        ensures begins { IsBegunOn self terms result }
     {
         up.begin(self.waiting.asked.framing, true);
         let leave_left = down.waiting().len();

@@ -1,8 +1,9 @@
 //! The end of an exchange at which both sides were active: its pass, and what is left.
 
-ghost use Rattle.std.specs.Prelude.{◌≡◌, ◌≢◌, [], true, false, IsTrue};
+ghost use Rattle.std.specs.Prelude.{◌≡◌, ◌≢◌, ◌⊎◌, [], true, false, IsTrue};
 ghost use Rattle.http_bodies.specs.Stops.{is_bad, is_done};
 ghost use Rattle.exchange_machine.specs.Answerings.{has_answered};
+ghost use Rattle.exchange_machine.specs.Changes.{IsLeftOf, IsRefused};
 ghost use Rattle.exchange_machine.specs.Histories.{ExchangeHistory, posted, retried};
 ghost use Rattle.exchange_machine.specs.Reasons.{Reason};
 ghost use Rattle.exchange_machine.specs.Repeatables as repeats;
@@ -47,7 +48,8 @@ impl Forwarding {
     /// it took of the `100`.
     pub fn refuse(self, code: Code) -> Ended
         requires { self.begun ≡ false }
-        ensures { (h : ExchangeHistory) → (is : stages.IsForwarding self h) → Reason h.signs self.view is.behind h.server_in code
+        ensures refused { IsRefused self code result }
+        ensures leaves { (h : ExchangeHistory) → (is : stages.IsForwarding self h) → Reason h.signs self.view is.behind h.server_in code
             → stages.IsLeaving result.rest (posted h result.pass ending.Done) }
     {
         let leave_left = self.leave_left;
@@ -69,7 +71,8 @@ impl Forwarding {
     pub fn refuse_unanswered(self) -> Ended
         requires none { self.begun ≡ false }
         requires ended { self.ended ≡ true }
-        ensures { (h : ExchangeHistory) → stages.IsForwarding self h → stages.IsLeaving result.rest (posted h result.pass ending.Done) }
+        ensures refused { IsRefused self Code.BadGateway result }
+        ensures leaves { (h : ExchangeHistory) → stages.IsForwarding self h → stages.IsLeaving result.rest (posted h result.pass ending.Done) }
     {
         self.refuse(Code::BadGateway)
     }
@@ -79,7 +82,8 @@ impl Forwarding {
         requires none { self.begun ≡ false }
         requires body { self.phase ≡ Down.Body }
         requires bad { is_bad self.down.coding ≡ true }
-        ensures { (h : ExchangeHistory) → stages.IsForwarding self h → stages.IsLeaving result.rest (posted h result.pass ending.Done) }
+        ensures refused { IsRefused self Code.BadGateway result }
+        ensures leaves { (h : ExchangeHistory) → stages.IsForwarding self h → stages.IsLeaving result.rest (posted h result.pass ending.Done) }
     {
         self.refuse(Code::BadGateway)
     }
@@ -88,7 +92,8 @@ impl Forwarding {
     pub fn refuse_request(self) -> Ended
         requires none { self.begun ≡ false }
         requires bad { is_bad self.up.coding ≡ true }
-        ensures { (h : ExchangeHistory) → stages.IsForwarding self h → stages.IsLeaving result.rest (posted h result.pass ending.Done) }
+        ensures refused { IsRefused self Code.BadRequest result }
+        ensures leaves { (h : ExchangeHistory) → stages.IsForwarding self h → stages.IsLeaving result.rest (posted h result.pass ending.Done) }
     {
         self.refuse(Code::BadRequest)
     }
@@ -108,7 +113,7 @@ impl Forwarding {
     /// before and the request is idempotent.
     pub fn can_repeat(&self) -> bool
         ensures may { IsTrue result → repeats.IsRepeatable self.now }
-        ensures each { repeats.IsRepeatable self.now → self.now.fresh ≡ false → IsTrue result }
+        ensures each { repeats.IsRepeatable self.now → (self.now.fresh ≡ false) ⊎ (self.now.reached ≡ false) → IsTrue result }
     {
         (!self.reached || !self.fresh && is_idempotent(self.view.method()))
             && self.phase == Down::Heads(0)
@@ -119,7 +124,9 @@ impl Forwarding {
     /// The server's connection broke: the same request is sent on another one, under the same pass.
     pub fn again(self) -> Dialing
         requires { repeats.IsRepeatable self }
-        ensures { (h : ExchangeHistory) → stages.IsForwarding self h → (h.server_in ≡ []) × stages.IsDialing result (retried h) }
+        ensures dials { (h : ExchangeHistory) → stages.IsForwarding self h → (h.server_in ≡ []) × stages.IsDialing result (retried h) }
+        ensures same { (result.pass ≡ self.pass) × (result.reached ≡ self.reached) × (result.waiting.asked.view ≡ self.view)
+            × (result.waiting.asked.framing ≡ self.framing) × (result.waiting.asked.held ≡ self.up_held) }
     {
         let Forwarding {
             view,
@@ -169,7 +176,8 @@ impl Forwarding {
     /// sent on another one as they are, under the same pass.
     pub fn redial(&mut self)
         requires { repeats.IsUntouched self.old }
-        ensures { (h : ExchangeHistory) → stages.IsForwarding self.old h → (h.server_in ≡ []) × stages.IsForwarding self.new (retried h) }
+        ensures dials { (h : ExchangeHistory) → stages.IsForwarding self.old h → (h.server_in ≡ []) × stages.IsForwarding self.new (retried h) }
+        ensures same { self.new ≡ record self.old { cut = false; ended = false; well = false; dialing = true } }
     {
         self.cut = false;
         self.ended = false;
@@ -221,6 +229,8 @@ impl Forwarding {
 
     /// Ends the exchange: its pass is to be posted. Where both messages were whole the client may ask again.
     pub fn settle(self) -> Settled
+        ensures pass { result.pass ≡ self.pass }
+        ensures left { IsLeftOf self result.rest }
         ensures ends { (h : ExchangeHistory) → stages.IsForwarding self h → settling.IsRest result.rest (posted h result.pass ending.Done) }
         ensures whole { settling.IsMarked (has_answered self) result.rest }
         ensures clean { settling.IsCleanAs (settling.is_clean self) result.rest }
@@ -239,6 +249,8 @@ impl Forwarding {
 
     fn settle_whole(self) -> Settled
         requires { (self.phase ≡ Down.Body) × (is_done self.up.coding ≡ true) × (is_done self.down.coding ≡ true) × (self.says ≢ Persistence.Close) }
+        ensures pass { result.pass ≡ self.pass }
+        ensures left { IsLeftOf self result.rest }
         ensures ends { (h : ExchangeHistory) → stages.IsForwarding self h → settling.IsRest result.rest (posted h result.pass ending.Done) }
         ensures whole { settling.IsMarked (has_answered self) result.rest }
         ensures clean { settling.IsCleanAs (settling.is_clean self) result.rest }

@@ -1,6 +1,7 @@
 ghost use Rattle.std.specs.Prelude.{◌≡◌, ◌-◌, ◌≤◌, ◌++◌, [], length, take, drop, IfOk, OnErr, false, true, IsTrue};
 ghost use Rattle.http_bodies.specs.Stops.{is_bad, is_done};
 ghost use Rattle.http_bodies.specs.declared.coding.Coding as codings;
+ghost use Rattle.exchange_machine.specs.Changes.{Uses, begun_after, left_after};
 ghost use Rattle.exchange_machine.specs.Histories.{ExchangeHistory, client_came, server_came, server_got, client_got};
 ghost use Rattle.exchange_machine.specs.Answerings.{has_answered};
 ghost use Rattle.exchange_machine.specs.Reasons.{HasEnded, Shows};
@@ -63,6 +64,7 @@ impl Forwarding {
 
     /// Takes bytes of the client, no more than there is room for, and returns how many.
     pub fn client_bytes(&mut self, input: &[u8]) -> usize
+        ensures uses { Uses self.old self.new }
         ensures within { result ≤ length input.now }
         ensures passes { (h : ExchangeHistory) → stages.IsForwarding self.old h → self.old.up_held.items ≡ []
             → stages.IsForwarding self.new (client_came h (take result input.now)) }
@@ -84,7 +86,8 @@ impl Forwarding {
 
     /// Uses the bytes from after the request's head, before any new ones.
     pub fn use_held(&mut self)
-        ensures { (h : ExchangeHistory) → stages.IsForwarding self.old h → stages.IsForwarding self.new h }
+        ensures passes { (h : ExchangeHistory) → stages.IsForwarding self.old h → stages.IsForwarding self.new h }
+        ensures uses { Uses self.old self.new }
     {
         let fed = self.up.take(self.up_held.as_slice());
         forget(&mut self.up_held, fed.used);
@@ -95,6 +98,7 @@ impl Forwarding {
         requires { self.old.phase ≡ Down.Body }
         ensures passes { (h : ExchangeHistory) → stages.IsForwarding self.old h → stages.IsForwarding self.new h }
         ensures body { self.new.phase ≡ Down.Body }
+        ensures uses { Uses self.old self.new }
     {
         let fed = self.down.take(self.down_held.as_slice());
         forget(&mut self.down_held, fed.used);
@@ -103,7 +107,7 @@ impl Forwarding {
     /// The server takes no more: no more of the request is sent or taken.
     pub fn cut_off(&mut self)
         ensures passes { (h : ExchangeHistory) → stages.IsForwarding self.old h → stages.IsForwarding self.new h }
-        ensures cut { self.new.cut ≡ true }
+        ensures cut { self.new ≡ record self.old { cut = true } }
     {
         self.cut = true;
     }
@@ -118,7 +122,7 @@ impl Forwarding {
     /// The server was reached, on a new connection or a used one.
     pub fn connect(&mut self, fresh: bool)
         ensures passes { (h : ExchangeHistory) → stages.IsForwarding self.old h → stages.IsForwarding self.new h }
-        ensures there { (self.new.dialing ≡ false) × (self.new.fresh ≡ fresh) }
+        ensures there { self.new ≡ record self.old { fresh = fresh; dialing = false } }
     {
         self.fresh = fresh;
         self.dialing = false;
@@ -135,7 +139,7 @@ impl Forwarding {
     pub fn server_ended(&mut self, well: bool)
         ensures passes { (h : ExchangeHistory) → stages.IsForwarding self.old h → HasEnded h.signs → (well ≡ true → Shows h.signs Sign.ServerEnded)
             → stages.IsForwarding self.new h }
-        ensures ended { (self.new.ended ≡ true) × (self.new.well ≡ well) }
+        ensures ended { self.new ≡ record self.old { ended = true; well = well } }
     {
         self.ended = true;
         self.well = well;
@@ -178,7 +182,8 @@ impl Forwarding {
 
     /// Says whether the answer goes on to the end of the server's input.
     pub fn goes_to_end(&self) -> bool
-        ensures { IsTrue result → (self.now.phase ≡ Down.Body) × (self.now.down.coding ≡ codings.Coding.ToEnd) }
+        ensures end { IsTrue result → (self.now.phase ≡ Down.Body) × (self.now.down.coding ≡ codings.Coding.ToEnd) }
+        ensures each { self.now.phase ≡ Down.Body → self.now.down.coding ≡ codings.Coding.ToEnd → IsTrue result }
     {
         self.phase == Down::Body && self.down.goes_to_end()
     }
@@ -230,7 +235,9 @@ impl Forwarding {
     /// The server took this number of them.
     pub fn server_took(&mut self, count: usize)
         requires { count ≤ length self.old.up.out }
-        ensures { (h : ExchangeHistory) → stages.IsForwarding self.old h → stages.IsForwarding self.new (server_got h (take count self.old.up.out)) }
+        ensures took { (h : ExchangeHistory) → stages.IsForwarding self.old h → stages.IsForwarding self.new (server_got h (take count self.old.up.out)) }
+        ensures out { self.new.up.out ≡ drop count self.old.up.out }
+        ensures reached { self.new ≡ record self.old { up = self.new.up; reached = true } }
     {
         self.reached = true;
         self.up.went(count);
@@ -246,7 +253,9 @@ impl Forwarding {
     /// The client took this number of them.
     pub fn client_took(&mut self, count: usize)
         requires { count ≤ length self.old.down.out }
-        ensures { (h : ExchangeHistory) → stages.IsForwarding self.old h → stages.IsForwarding self.new (client_got h (take count self.old.down.out)) }
+        ensures took { (h : ExchangeHistory) → stages.IsForwarding self.old h → stages.IsForwarding self.new (client_got h (take count self.old.down.out)) }
+        ensures out { self.new.down.out ≡ drop count self.old.down.out }
+        ensures begun { self.new ≡ record self.old { down = self.new.down; begun = begun_after self.old.begun self.old.leave_left count; leave_left = left_after self.old.leave_left count } }
     {
         let (begun, leave_left) = leave_told(self.begun, self.leave_left, count);
         self.begun = begun;
@@ -258,6 +267,7 @@ impl Forwarding {
     pub fn server_bytes(&mut self, input: &[u8]) -> usize
         requires body { self.old.phase ≡ Down.Body }
         requires first { self.old.down_held.items ≡ [] }
+        ensures uses { Uses self.old self.new }
         ensures within { result ≤ length input.now }
         ensures passes { (h : ExchangeHistory) → stages.IsForwarding self.old h → stages.IsForwarding self.new (server_came h (take result input.now)) }
     {
@@ -267,6 +277,7 @@ impl Forwarding {
 
     /// Takes bytes of the heads before the answer's body, and returns how many. At most 16 KiB are held.
     pub fn server_head_bytes(&mut self, input: &[u8]) -> Result<usize, AllocError>
+        ensures uses { Uses self.old self.new }
         ensures within { IfOk result (λ used. used ≤ length input.now) }
         ensures passes { IfOk result (λ used. (h : ExchangeHistory) → stages.IsForwarding self.old h → stages.IsForwarding self.new (server_came h (take used input.now))) }
         ensures err { OnErr result ((h : ExchangeHistory) → stages.IsForwarding self.old h → stages.IsForwarding self.new h) }
@@ -286,7 +297,7 @@ impl Forwarding {
 
 // Says whether bytes after the `100` were taken, and how many bytes of it weren't, once `count` more were.
 fn leave_told(begun: bool, left: usize, count: usize) -> (bool, usize)
-    ensures { result.0 ≡ false → (begun ≡ false) × (count ≤ left) × (result.1 ≡ left - count) }
+    ensures { (result.0 ≡ begun_after begun left count) × (result.1 ≡ left_after left count) }
 {
     if count <= left {
         (begun, left - count)

@@ -1,11 +1,13 @@
 //! The heads that a server sends: they are found in its bytes, and handed on.
 
-ghost use Rattle.std.specs.Prelude.{◌≡◌, ◌≢◌, ◌<◌, ℕ, true, false, Some, IsSome};
+ghost use Rattle.std.specs.Prelude.{◌≡◌, ◌≢◌, ◌<◌, ◌+◌, ℕ, true, false, Some, IsSome};
+ghost use Rattle.exchange_machine.specs.Changes.{Uses};
 ghost use Rattle.exchange_machine.specs.Histories.{ExchangeHistory};
 ghost use Rattle.exchange_machine.specs.Reasons.{LacksAnswer};
 ghost use Rattle.exchange_machine.specs.Findings.{IsSeen};
 ghost use Rattle.exchange_machine.specs.Stages as stages;
 ghost use Rattle.http_texts.specs.Framings.{answer_plan, is_interim};
+ghost use Rattle.http_texts.specs.Persistences.{answer_says, is_kept_by_server};
 ghost use Rattle.req_view.specs.AnswerHeads.{SaysAnswer};
 
 use crate::forwarding::Forwarding;
@@ -67,6 +69,9 @@ impl Forwarding {
     /// on. Nothing else changes.
     pub fn read_head(&mut self, alloc: Global) -> Headed
         ensures passes { (h : ExchangeHistory) → stages.IsForwarding self.old h → stages.IsForwarding self.new h }
+        ensures uses { Uses self.old self.new }
+        ensures body { result ≡ Headed.Answer → self.new.phase ≡ Down.Body }
+        ensures heads { result ≢ Headed.Answer → self.new.phase ≢ Down.Body }
         ensures refused { result ≡ Headed.Refused → (h : ExchangeHistory) → stages.IsForwarding self.old h → LacksAnswer self.new.view.method h.server_in }
     {
         let Down::Heads(count) = self.phase else {
@@ -98,8 +103,12 @@ impl Forwarding {
         requires planned { IsSome (answer_plan self.old.view.method head.now) }
         requires interim { is_interim head.now.status ≡ true }
         requires few { count < 8 }
+        ensures one { result ≡ Headed.Interim → self.new.phase ≡ Down.Heads (count + 1) }
         ensures answered { result ≢ Headed.Refused }
+        ensures body { result ≡ Headed.Answer → self.new.phase ≡ Down.Body }
+        ensures heads { result ≢ Headed.Answer → self.new.phase ≢ Down.Body }
         ensures passes { (h : ExchangeHistory) → stages.IsForwarding self.old h → stages.IsForwarding self.new h }
+        ensures uses { Uses self.old self.new }
     {
         let framed = is_framed(self.view.version());
         let Ok(text) = interim_head(alloc, head, framed) else {
@@ -118,8 +127,12 @@ impl Forwarding {
         requires says { SaysAnswer self.old.down_held.items head.now len }
         requires planned { answer_plan self.old.view.method head.now ≡ Some plan }
         requires last { is_interim head.now.status ≡ false }
+        ensures says { result ≡ Headed.Answer → (self.new.says ≡ answer_says self.old.willing self.old.view plan) × (self.new.kept ≡ is_kept_by_server head.now plan) }
         ensures answered { result ≢ Headed.Refused }
+        ensures body { result ≡ Headed.Answer → self.new.phase ≡ Down.Body }
+        ensures heads { result ≢ Headed.Answer → self.new.phase ≢ Down.Body }
         ensures passes { (h : ExchangeHistory) → stages.IsForwarding self.old h → stages.IsForwarding self.new h }
+        ensures uses { Uses self.old self.new }
     {
         let framed = is_framed(self.view.version());
         let says = answer_says(self.willing, &self.view, plan);
@@ -140,7 +153,8 @@ impl Forwarding {
 }
 
 fn headed_for(why: Fault) -> Headed
-    ensures { result ≡ Headed.Refused → why ≢ Fault.NoMemory }
+    ensures memory { result ≡ Headed.Refused → why ≢ Fault.NoMemory }
+    ensures unanswered { result ≢ Headed.Answer }
 {
     if why == Fault::NoMemory {
         Headed::Short

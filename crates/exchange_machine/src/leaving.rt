@@ -1,4 +1,4 @@
-ghost use Rattle.std.specs.Prelude.{◌≡◌, ◌≤◌, length, take};
+ghost use Rattle.std.specs.Prelude.{◌≡◌, ◌≤◌, length, take, drop};
 ghost use Rattle.exchange_machine.specs.Histories.{ExchangeHistory, client_got};
 ghost use Rattle.exchange_machine.specs.Stages as stages;
 
@@ -42,6 +42,7 @@ impl Leaving {
     pub fn client_took(&mut self, count: usize)
         requires { count ≤ length self.old.out.out }
         ensures took { (h : ExchangeHistory) → stages.IsLeaving self.old h → stages.IsLeaving self.new (client_got h (take count self.old.out.out)) }
+        ensures out { self.new.out.out ≡ drop count self.old.out.out }
         ensures whole { self.new.whole ≡ self.old.whole }
         ensures clean { self.new.clean ≡ self.old.clean }
     {

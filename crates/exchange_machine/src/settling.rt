@@ -39,6 +39,7 @@ impl Settling {
         ensures took { (h : ExchangeHistory) → settling.IsSettling self.old h → settling.IsSettling self.new (client_got h (take count self.old.out.out)) }
         ensures behind { self.new.behind ≡ self.old.behind }
         ensures out { self.new.out.out ≡ drop count self.old.out.out }
+        ensures clean { self.new.clean ≡ self.old.clean }
     {
         self.out.went(count);
     }

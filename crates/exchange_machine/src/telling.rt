@@ -1,4 +1,4 @@
-ghost use Rattle.std.specs.Prelude.{◌≡◌, ◌≢◌, ◌≤◌, [], length, take};
+ghost use Rattle.std.specs.Prelude.{◌≡◌, ◌≢◌, ◌≤◌, [], length, take, drop};
 ghost use Rattle.exchange_machine.specs.Histories.{ExchangeHistory, client_got, signed};
 ghost use Rattle.exchange_machine.specs.Stages as stages;
 ghost use Rattle.http_texts.specs.Replies.{refusal_text};
@@ -23,14 +23,16 @@ impl Telling {
     /// Refuses bytes that the proxy doesn't accept: 400.
     pub fn of_fault(fault: Fault) -> Telling
         requires { fault ≢ Fault.NoMemory }
-        ensures { (h : ExchangeHistory) → stages.IsUnread fault h → stages.IsTelling result h }
+        ensures tells { (h : ExchangeHistory) → stages.IsUnread fault h → stages.IsTelling result h }
+        ensures told { result.rest.now ≡ refusal_text Code.BadRequest }
     {
         Telling::of(Code::BadRequest)
     }
 
     /// Refuses a request for want of memory: 503.
     pub fn starved() -> Telling
-        ensures { (fault : faults.Fault) (h : ExchangeHistory) → stages.IsUnread fault h → stages.IsTelling result (signed h Sign.NoMemory) }
+        ensures tells { (fault : faults.Fault) (h : ExchangeHistory) → stages.IsUnread fault h → stages.IsTelling result (signed h Sign.NoMemory) }
+        ensures told { result.rest.now ≡ refusal_text Code.Unavailable }
     {
         Telling::of(Code::Unavailable)
     }
@@ -45,7 +47,8 @@ impl Telling {
     /// The client took this number of them.
     pub fn client_took(&mut self, count: usize)
         requires { count ≤ length self.old.rest.now }
-        ensures { (h : ExchangeHistory) → stages.IsTelling self.old h → stages.IsTelling self.new (client_got h (take count self.old.rest.now)) }
+        ensures took { (h : ExchangeHistory) → stages.IsTelling self.old h → stages.IsTelling self.new (client_got h (take count self.old.rest.now)) }
+        ensures rest { self.new.rest.now ≡ drop count self.old.rest.now }
     {
         let (_, rest) = self.rest.split_at(count);
         self.rest = rest;

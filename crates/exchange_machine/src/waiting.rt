@@ -1,7 +1,8 @@
-ghost use Rattle.std.specs.Prelude.{◌≡◌};
+ghost use Rattle.std.specs.Prelude.{◌≡◌, false};
 ghost use Rattle.exchange_machine.specs.Histories.{ExchangeHistory, granted};
 ghost use Rattle.exchange_machine.specs.Reasons.{Reason};
 ghost use Rattle.exchange_machine.specs.Stages as stages;
+ghost use Rattle.http_texts.specs.Replies.{refusal_text};
 
 use crate::dialing::Dialing;
 use crate::telling::Telling;
@@ -45,6 +46,7 @@ impl Waiting {
     pub fn grant(self, pass: Pass) -> Dialing
         ensures dials { (h : ExchangeHistory) → stages.IsWaiting self h → stages.IsDialing result (granted h pass) }
         ensures pass { result.pass ≡ pass }
+        ensures same { (result.waiting ≡ self) × (result.reached ≡ false) }
     {
         Dialing {
             waiting: self,
@@ -55,7 +57,8 @@ impl Waiting {
 
     /// No pass comes, for this reason.
     pub fn refuse(self, code: Code) -> Telling
-        ensures { (h : ExchangeHistory) → stages.IsWaiting self h → Reason h.signs self.asked.view self.asked.held.items h.server_in code → stages.IsTelling result h }
+        ensures told { result.rest.now ≡ refusal_text code }
+        ensures tells { (h : ExchangeHistory) → stages.IsWaiting self h → Reason h.signs self.asked.view self.asked.held.items h.server_in code → stages.IsTelling result h }
     {
         Telling::of(code)
     }

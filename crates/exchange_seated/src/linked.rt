@@ -1,6 +1,6 @@
 ghost use Rattle.std.specs.Prelude.{◌≡◌, ◌≢◌, ◌<◌, ◌∷◌, ℕ, List, [], true, false, length, Some, IfOk, IfErr, IfSome, IfNone, MatchOption, is_some};
 ghost use Rattle.std.specs.Bool.{OnTrue, OnFalse};
-ghost use Rattle.exchange_driver.specs.Drives.{IsDownAtRest, IsUpAtRest};
+ghost use Rattle.exchange_driver.specs.Drives.{Drives, IsDownAtRest, IsUpAtRest};
 ghost use Rattle.exchange_driver.specs.Wires.{Wire, is_still_at};
 ghost use Rattle.exchange_machine.specs.Histories.{ExchangeHistory, granted};
 ghost use Rattle.exchange_machine.specs.Stages.{IsWaiting};
@@ -215,6 +215,8 @@ impl<N: BoardName + Ledger, S: Socket> Linked<N, S> {
         ensures stays { result.given ≢ Given.Retries → result.linked.line.there ≡ self.line.there }
         ensures down { result.rest ≡ Rest.Waits → IsDownAtRest result.linked.seated.exchange client.new result.linked.line }
         ensures up { result.rest ≡ Rest.Waits → IsUpAtRest result.linked.seated.exchange client.new result.linked.line }
+        ensures client { (h : ExchangeHistory) → steps.IsAtItsStage self.seated.exchange h → (outcome : outcomes.Outcome) × (server : Wire)
+            × Drives client.old client.new self.line server (is_some result.client) (is_some result.server) h result.linked.seated.exchange outcome }
     {
         let Linked {
             seated,

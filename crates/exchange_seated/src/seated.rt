@@ -1,4 +1,4 @@
-ghost use Rattle.std.specs.Prelude.{◌≡◌, ◌↔◌, ℕ, None, ◌<◌, ◌≤◌, ◌++◌, ◌∷◌, [], true, false, length, is_some, IfOk, IfErr, IfSome, IsTrue, MatchOption};
+ghost use Rattle.std.specs.Prelude.{◌≡◌, ◌⊎◌, ◌↔◌, ℕ, None, ◌<◌, ◌≤◌, ◌++◌, ◌∷◌, [], true, false, length, is_some, IfOk, IfErr, IfSome, IsTrue, MatchOption};
 ghost use Rattle.exchange_driver.specs.Drives.{Drives, IsDownAtRest, IsUpAtRest};
 ghost use Rattle.grant_board.specs.RelayCalls.{post_after};
 ghost use Rattle.exchange_machine.specs.Histories.{ExchangeHistory};
@@ -320,7 +320,8 @@ impl<N: BoardName + Ledger> Seated<N> {
         ensures at { (h : ExchangeHistory) → steps.IsAtItsStage self.exchange h → (outcome : outcomes.Outcome)
             × Drives client.old client.new server.old server.new (is_some result.client) (is_some result.server) h result.seated.exchange outcome
             × (outcome ≡ outcomes.Outcome.Retries → result.given ≡ Given.Retries)
-            × (result.given ≡ Given.Retries → outcome ≡ outcomes.Outcome.Retries) }
+            × (result.given ≡ Given.Retries → outcome ≡ outcomes.Outcome.Retries)
+            × ((posting : _) → result.given ≡ Given.Posts posting → (outcome ≡ outcomes.Outcome.Posts posting.taken.held.pass posting.ending) ⊎ (outcome ≡ outcomes.Outcome.StarvedPosts posting.taken.held.pass posting.ending)) }
         ensures holds { StillHolds (held_by self.exchange) (held_by result.seated.exchange) }
         ensures there { server.new.there ≡ server.old.there }
         ensures down { result.rest ≡ Rest.Waits → IsDownAtRest result.seated.exchange client.new server.new }
@@ -354,7 +355,8 @@ impl<N: BoardName + Ledger> Seated<N> {
         ensures at { (h : ExchangeHistory) → steps.IsAtItsStage self.exchange h → (now : ExchangeHistory) × (outcome : outcomes.Outcome)
             × (now.to_server ≡ h.to_server) × (now.server_in ≡ h.server_in) × steps.IsAtItsStage result.seated.exchange (steps.ended outcome now)
             × (outcome ≡ outcomes.Outcome.Retries → result.given ≡ Given.Retries)
-            × (result.given ≡ Given.Retries → outcome ≡ outcomes.Outcome.Retries) }
+            × (result.given ≡ Given.Retries → outcome ≡ outcomes.Outcome.Retries)
+            × ((posting : _) → result.given ≡ Given.Posts posting → (outcome ≡ outcomes.Outcome.Posts posting.taken.held.pass posting.ending) ⊎ (outcome ≡ outcomes.Outcome.StarvedPosts posting.taken.held.pass posting.ending)) }
         ensures event { (h : ExchangeHistory) → steps.IsAtItsStage self.exchange h → (used : ℕ) × (outcome : outcomes.Outcome)
             × steps.IsAtItsStage result.seated.exchange (steps.history_after self.exchange (event_of notice) used outcome h) }
         ensures leaves { notice ≡ Notice.ClientEnd → steps.is_left settings.rules.aborts self.exchange ≡ true → result.seated.exchange ≡ Exchange.Over }
@@ -440,6 +442,7 @@ fn part<N: BoardName + Ledger>(
     ensures exchange { result.seated.exchange ≡ exchange }
     ensures retries { outcome ≡ Outcome.Retries → result.given ≡ Given.Retries }
     ensures anew { result.given ≡ Given.Retries → outcome ≡ Outcome.Retries }
+    ensures ends { (posting : _) → result.given ≡ Given.Posts posting → (outcome ≡ Outcome.Posts posting.taken.held.pass posting.ending) ⊎ (outcome ≡ Outcome.StarvedPosts posting.taken.held.pass posting.ending) }
 {
     match outcome {
         Outcome::Quiet | Outcome::Starved => Parted {

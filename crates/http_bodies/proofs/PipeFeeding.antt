@@ -1,5 +1,6 @@
 -- A coding that is fed from a pipe: what it used is a body, a part of one, or will never be one.
-use Rattle.std.proofs.Common.{◌≡◌, ◌≢◌, ◌∙◌, ℕ, Bool, true, false, List, [], ◌∷◌, ◌++◌, take, drop, refl, sym, ap, arith, append_assoc, append-nil, subst}
+use Rattle.std.proofs.Common.{◌≡◌, ◌≢◌, ◌∙◌, ◌⊎◌, ◌+◌, ◌<◌, ℕ, Bool, true, false, List, [], ◌∷◌, ◌++◌, length, take, drop}
+use Rattle.std.proofs.Common.{refl, sym, ap, arith, append_assoc, append-nil, length-append, subst, inl, inr}
 use Rattle.std.specs.Io.KnownBytes.{IsAtEnd}
 use Rattle.std.proofs.KnownBytes.{Consumes-nil}
 use Rattle.std.proofs.lemmas.Bool.{false≢true}
@@ -17,7 +18,8 @@ use Rattle.http_bodies.specs.declared.coding.Coding.{Coding}
 use Rattle.http_bodies.specs.declared.coding.Coding.TheVariants.{ToEnd}
 use Rattle.http_bodies.proofs.Derivatives.{feeds_nil, feeds_trans}
 use Rattle.http_bodies.proofs.Running.{read_nothing, run_text, run_done, run_bad, run_early}
-use Rattle.http_bodies.specs.Steps.{Ends, ends, Moves, Breaks, LacksNothing}
+use Rattle.http_bodies.specs.Steps.{Ends, ends, Moves, Breaks, HoldsBack, LacksNothing}
+use Rattle.http_bodies.specs.declared.outbox.TheConstants.{OUTBOX_BYTES}
 use Rattle.http_bodies.specs.declared.pipe.Pipe.{Pipe}
 use Rattle.http_bodies.proofs.Stepping.{moves_none, moves_trans, moves_as, moves_breaks, breaks_as, breaks_less, breaks_end, breaks_framing}
 
@@ -51,12 +53,18 @@ feed_moves p0 p input n s w same hands rest turns =
     sym same ∙ sym (take-append-drop n input) ∙ ap (λ l. take n input ++ l) (ap (drop n) same ∙ sym rest) in
     (take n input, hands.given, hands.feeds, moves_feed p0 p s w (take n input) hands.given held hands.waits turns)
 
+-- where nothing was read, all that was given waits and nothing was written, or there was no room for more
+abbrev StillWaits : Ends → Ends → List ℕ → Type 0
+StillWaits a b text = b.source.calls ≡ a.source.calls
+    → ((b.sink ≡ a.sink) × (b.pipe.outbox ≡ a.pipe.outbox ++ text)) ⊎ (OUTBOX_BYTES < length (a.pipe.outbox ++ text) + 18)
+
 -- what a coding used of a body, from its first byte on, and the text that it gave for it
 pub record Forwarding (framing : Framing) (framed : Bool) (c : Coding) (a b : Ends) : Type 0 where
   pub used : List ℕ
   pub text : List ℕ
   pub feeds : Feeds (start_of framing framed) c used text
   pub moves : Moves a b used text
+  pub late : StillWaits a b text
 
 pub forwarding_start : (framing : Framing) (framed : Bool) (c : Coding) (e : Ends) → c ≡ start_of framing framed → Forwarding framing framed c e e
 forwarding_start framing framed c e is = record {
@@ -64,24 +72,57 @@ forwarding_start framing framed c e is = record {
   text = [];
   feeds = subst (λ (d : Coding). Feeds (start_of framing framed) d [] []) (sym is) (feeds_nil (start_of framing framed));
   moves = moves_none e;
+  late = λ same. inl (refl, sym (append-nil e.pipe.outbox));
 }
 
-pub forwarding_feed : {framing : Framing} {framed : Bool} {c d : Coding} {a b e : Ends} → Forwarding framing framed c a b
+-- where no call was made of a sink, what was given waits
+given_waits : {b e : Ends} {used text : List ℕ} → e.sink ≡ b.sink → Moves b e used text → e.pipe.outbox ≡ b.pipe.outbox ++ text
+given_waits {b} {e} sink p =
+    let none = p.writes.none (omega (arith, ap (λ (w : Stream). w.calls) sink, ap (λ (w : Stream). w.failures) sink)) in
+    sym (p.waiting ∙ ap (λ l. l ++ e.pipe.outbox) none)
+
+waits_feed : (a : Ends) (text : List ℕ) {b e : Ends} {used more : List ℕ} → e.source.calls ≡ b.source.calls → e.sink ≡ b.sink → StillWaits a b text → Moves b e used more
+    → StillWaits a e (text ++ more)
+waits_feed a text {more = more} source sink late p = λ same. elim (late (sym source ∙ same)) [
+  | inl kept ↦
+      inl (sink ∙ kept.0, given_waits sink p ∙ ap (λ l. l ++ more) kept.1 ∙ append_assoc a.pipe.outbox text more)
+  | inr full ↦
+      inr (omega (arith, full, length-append a.pipe.outbox text, length-append a.pipe.outbox (text ++ more), length-append text more))
+]
+
+waits_on : (a b e : Ends) (used text : List ℕ) → (b.pipe.inbox ≡ []) ⊎ (OUTBOX_BYTES < length b.pipe.outbox + 18)
+    → (b.pipe.inbox ≡ [] → b.source.calls < e.source.calls) → Moves a b used text → StillWaits a b text → Moves b e [] []
+    → StillWaits a e text
+waits_on a b e used text going read before late p = λ same. elim going [
+  | inl none ↦ absurd (omega (arith, read none, before.reads.reads, same))
+  | inr full ↦
+      let still : b.source.calls ≡ a.source.calls = omega (arith, before.reads.reads, p.reads.reads, same) in
+      elim (late still) [
+        | inl kept ↦ inr (subst (λ l. OUTBOX_BYTES < length l + 18) kept.1 full)
+        | inr none ↦ inr none
+      ]
+]
+
+pub forwarding_feed : {framing : Framing} {framed : Bool} {c d : Coding} {a b e : Ends} → e.source.calls ≡ b.source.calls → e.sink ≡ b.sink
+    → Forwarding framing framed c a b
     → (used : List ℕ) × (text : List ℕ) × Feeds c d used text × Moves b e used text → Forwarding framing framed d a e
-forwarding_feed p fed = record {
+forwarding_feed {a = a} source sink p fed = record {
   used = p.used ++ fed.0;
   text = p.text ++ fed.1;
   feeds = feeds_trans p.feeds fed.2;
   moves = moves_trans p.moves fed.3;
+  late = waits_feed a p.text source sink p.late fed.3;
 }
 
-pub forwarding_on : {framing : Framing} {framed : Bool} {c : Coding} {a b e : Ends} → Forwarding framing framed c a b → Moves b e [] []
+pub forwarding_on : {framing : Framing} {framed : Bool} {c : Coding} {a b e : Ends} → (b.pipe.inbox ≡ []) ⊎ (OUTBOX_BYTES < length b.pipe.outbox + 18)
+    → (b.pipe.inbox ≡ [] → b.source.calls < e.source.calls) → Forwarding framing framed c a b → Moves b e [] []
     → Forwarding framing framed c a e
-forwarding_on p moves = record {
+forwarding_on {a = a} {b = b} {e = e} going read p moves = record {
   used = p.used;
   text = p.text;
   feeds = p.feeds;
   moves = moves_as (append-nil p.used) (append-nil p.text) (moves_trans p.moves moves);
+  late = waits_on a b e p.used p.text going read p.moves p.late moves;
 }
 
 -- what goes on to the end is given as it came, and is never done
@@ -95,6 +136,21 @@ all_given c used text f =
 never_done : (c : Coding) (used text : List ℕ) → Feeds ToEnd c used text → is_done c ≡ false
 never_done c used text f =
     ap (λ (q : Reading). is_done q.coding) (sym (read_nothing c)) ∙ sym (ap (λ (q : Reading). is_done q.coding) (f.goes_on []))
+
+-- where nothing lacks, the bytes aren't at fault
+breaks_plainly : {a b : Ends} {used text : List ℕ} {fault : Fault} → fault ≡ Faulty.Framing → Breaks a b used text LacksNothing fault → ⊥
+breaks_plainly {a} {b} {used} {text} is breaks =
+    let plain = subst (λ (f : Fault). Breaks a b used text LacksNothing f) is breaks in
+    plain.blames.2 []
+
+read_is_not_framing : Faulty.Read ≡ Faulty.Framing → ⊥
+read_is_not_framing is = cc
+
+still_holds : (a b : Ends) (text : List ℕ) → StillWaits a b text → HoldsBack a b (text ++ [])
+still_holds a b text late = λ same. elim (late same) [
+  | inl kept ↦ inl kept.0
+  | inr full ↦ inr (subst (λ l. OUTBOX_BYTES < length (a.pipe.outbox ++ l) + 18) (sym (append-nil text)) full)
+]
 
 module _ {framing : Framing} {framed : Bool} {c : Coding} {a b : Ends} (p : Forwarding framing framed c a b) where
   pub never_whole : framing ≡ Framed.ToEnd → is_done c ≡ true → ⊥
@@ -113,30 +169,34 @@ module _ {framing : Framing} {framed : Bool} {c : Coding} {a b : Ends} (p : Forw
       (p.used, p.text, body, p.moves)
 
   -- a fault: the text is that of a part of a body at the front of what was used
-  part_of : {d : Ends} {fault : Fault} → Breaks a d p.used p.text (LacksBody framing) fault
+  part_of : {d : Ends} {fault : Fault} → (fault ≡ Faulty.Framing → HoldsBack a d (p.text ++ [])) → Breaks a d p.used p.text (LacksBody framing) fault
       → (used : List ℕ) × (text : List ℕ) × PartOfBody framing framed used text × Breaks a d used text (LacksBody framing) fault
-  part_of breaks =
+      × (fault ≡ Faulty.Framing → HoldsBack a d text)
+  part_of late breaks =
       let sent = run_text framing framed ((p.used, p.text) ∷ []) c (c, p.feeds, refl) in
       let front = sym (append-nil p.used) ∙ sent.input_is in (
         sent.used,
         p.text ++ [],
         sent.part,
         breaks_less (LacksBody framing) sent.used sent.rest (breaks_as (LacksBody framing) front (sym (append-nil p.text)) breaks),
+        late,
       )
 
   -- of a call that failed
   pub part_before : {d : Ends} {fault : Fault} → Breaks b d [] [] LacksNothing fault
       → (used : List ℕ) × (text : List ℕ) × PartOfBody framing framed used text × Breaks a d used text (LacksBody framing) fault
+      × (fault ≡ Faulty.Framing → HoldsBack a d text)
   part_before breaks =
-      part_of (breaks_as (LacksBody framing) (append-nil p.used) (append-nil p.text)
+      part_of (λ is. absurd (breaks_plainly is breaks)) (breaks_as (LacksBody framing) (append-nil p.used) (append-nil p.text)
       (moves_breaks LacksNothing (LacksBody framing) (λ l none. absurd none) p.moves breaks))
 
   -- of bytes that will never be a body
   pub part_of_none : is_bad c ≡ true
       → (used : List ℕ) × (text : List ℕ) × PartOfBody framing framed used text × Breaks a b used text (LacksBody framing) Faulty.Framing
+      × (Faulty.Framing ≡ Faulty.Framing → HoldsBack a b text)
   part_of_none is =
       let never = λ (more : List ℕ). run_bad framing framed ((p.used, p.text) ∷ []) c (c, p.feeds, refl) more is in
-      part_of (breaks_framing (LacksBody framing) p.moves
+      part_of (λ is. still_holds a b p.text p.late) (breaks_framing (LacksBody framing) p.moves
       (λ more. subst (LacksBody framing)
       (ap (λ l. l ++ (b.pipe.inbox ++ more)) (append-nil p.used) ∙ sym (append_assoc p.used b.pipe.inbox more))
       (never (b.pipe.inbox ++ more))))
@@ -144,6 +204,7 @@ module _ {framing : Framing} {framed : Bool} {c : Coding} {a b : Ends} (p : Forw
   -- of an input that ended too early
   pub part_at_end : is_done c ≡ false → framing ≢ Framed.ToEnd → IsAtEnd b.source.bytes → b.pipe.inbox ≡ []
       → (used : List ℕ) × (text : List ℕ) × PartOfBody framing framed used text × Breaks a b used text (LacksBody framing) Faulty.Read
+      × (Faulty.Read ≡ Faulty.Framing → HoldsBack a b text)
   part_at_end is other end none =
       let early = run_early framing framed ((p.used, p.text) ∷ []) c (c, p.feeds, refl) other is in
-      part_of (breaks_end (LacksBody framing) p.moves end (subst (LacksBody framing) (ap (λ l. p.used ++ l) (sym none)) early))
+      part_of (λ is. absurd (read_is_not_framing is)) (breaks_end (LacksBody framing) p.moves end (subst (LacksBody framing) (ap (λ l. p.used ++ l) (sym none)) early))

@@ -1,10 +1,11 @@
 -- The definitions at worked examples: what must hold, and what must not.
 use base.Fml.{GName}
-use Rattle.std.proofs.Common.{◌≡◌, ℕ, List, [], Some, true, codes, refl, arith}
+use Rattle.std.proofs.Common.{◌≡◌, ℕ, List, [], Some, true, codes, refl, ap, arith, inl, inr}
 use Rattle.base_streams.specs.Streams.{Stream}
 use Rattle.httparse.specs.Grammar.LineEnd.{lf}
 use Rattle.http_bodies.specs.Framings.{IsBody, LacksBody}
-use Rattle.http_bodies.specs.Texts.{Wrote}
+use Rattle.http_bodies.specs.Steps.{Ends, HoldsBack}
+use Rattle.http_bodies.specs.Texts.{Waits, Wrote}
 use Rattle.http_bodies.specs.declared.framing.Framing.TheVariants.{Length, ToEnd}
 use Rattle.http_bodies.specs.Trailers.{print_trailers, IsTrailer}
 
@@ -44,3 +45,36 @@ one_write end = record { bytes = refl; more = omega arith; some = omega arith; n
 not_two_writes : (end : GName) → ¬ (Wrote (stream end [] 0) (stream end (codes "a") 2) (codes "a"))
 unfolding stream
 not_two_writes end wrote = omega (arith, wrote.some)
+
+-- a text for which there is room waits, and isn't written at once
+waits : (end : GName) → Waits (stream end [] 0) (stream end [] 0) (codes "a") (codes "ab") (codes "b")
+waits end = inl (refl, refl)
+
+not_at_once : (end : GName) → ¬ (Waits (stream end [] 0) (stream end (codes "b") 1) [] [] (codes "b"))
+unfolding stream
+not_at_once end waits = elim waits [
+  | inl kept ↦ absurd (omega (arith, ap (λ (w : Stream). w.calls) kept.0))
+  | inr full ↦ absurd (omega (arith, full))
+]
+
+ends_at : GName → List ℕ → ℕ → ℕ → Ends
+ends_at end sent reads writes = record {
+  pipe = record { inbox = []; outbox = []; turns = 9 };
+  source = stream end [] reads;
+  sink = stream end sent writes;
+}
+
+-- without a read nothing is written of a text for which there is room; after one it may be
+held_back : (end : GName) → HoldsBack (ends_at end [] 1 0) (ends_at end [] 1 0) (codes "a")
+held_back end = λ same. inl refl
+
+after_a_read : (end : GName) → HoldsBack (ends_at end [] 1 0) (ends_at end (codes "a") 2 1) (codes "a")
+unfolding ends_at stream
+after_a_read end = λ same. absurd (omega (arith, same))
+
+not_before_one : (end : GName) → ¬ (HoldsBack (ends_at end [] 1 0) (ends_at end (codes "a") 1 1) (codes "a"))
+unfolding ends_at stream
+not_before_one end holds = elim (holds refl) [
+  | inl same ↦ absurd (omega (arith, ap (λ (w : Stream). w.calls) same))
+  | inr full ↦ absurd (omega (arith, full))
+]

@@ -4,6 +4,7 @@ use Rattle.std.specs.Io.KnownBytes.{Consumes, IsAtEnd}
 use Rattle.base_streams.specs.Streams.{Stream}
 use Rattle.http_bodies.specs.declared.fault.Fault.{Fault}
 use Rattle.http_bodies.specs.declared.fault.Fault.TheVariants.{Framing, Read, Write, Turns}
+use Rattle.http_bodies.specs.declared.outbox.TheConstants.{OUTBOX_BYTES}
 use Rattle.http_bodies.specs.declared.pipe.Pipe.{Pipe}
 use Rattle.http_bodies.specs.Texts.{Wrote, WritesFront}
 
@@ -62,6 +63,11 @@ pub record Breaks (old new : Ends) (used text : List ℕ) (Lacks : List ℕ → 
   pub held : old.pipe.inbox ++ taken ≡ used ++ rest
   pub writes : WritesFront old.sink new.sink (old.pipe.outbox ++ text)
   pub blames : Blames old new Lacks (old.pipe.inbox ++ taken) fault
+
+-- Where nothing was read, nothing was written either, unless there was no room for what waited, for
+-- the text, and for the longest text of one more byte of the input.
+abbrev pub HoldsBack : Ends → Ends → List ℕ → Type 0
+HoldsBack old new text = new.source.calls ≡ old.source.calls → (new.sink ≡ old.sink) ⊎ (OUTBOX_BYTES < length (old.pipe.outbox ++ text) + 18)
 
 -- the demand that nothing lacks
 abbrev pub LacksNothing : List ℕ → Type 0

@@ -1,9 +1,10 @@
 -- Texts that are written to a sink, partly later.
-use Rattle.std.specs.Prelude.{◌≡◌, ℕ, ◌+◌, ◌≤◌, List, [], ◌++◌, length}
+use Rattle.std.specs.Prelude.{◌≡◌, ◌⊎◌, ℕ, ◌+◌, ◌<◌, ◌≤◌, List, [], ◌++◌, length}
 use Rattle.std.specs.Io.KnownBytes.{Appends}
 use Rattle.base_streams.specs.Streams.{Stream}
 use Rattle.http_bodies.specs.declared.fault.Fault.{Fault}
 use Rattle.http_bodies.specs.declared.fault.Fault.TheVariants.{Framing, Read, Write, Turns}
+use Rattle.http_bodies.specs.declared.outbox.TheConstants.{OUTBOX_BYTES}
 
 -- the same end of a stream was called several times, each for one turn
 pub record Spends (s0 s : Stream) (turns0 turns : ℕ) : Type 0 where
@@ -25,6 +26,10 @@ pub record Emits (w0 w : Stream) (turns0 turns : ℕ) (waiting0 waiting text : L
   pub all : waiting0 ++ text ≡ front ++ waiting
   pub spends : Spends w0 w turns0 turns
   pub fine : w.failures ≡ w0.failures
+
+-- the text stands behind what waited, and nothing was written; or there was no room for both
+abbrev pub Waits : Stream → Stream → List ℕ → List ℕ → List ℕ → Type 0
+Waits w0 w waiting0 waiting text = ((w ≡ w0) × (waiting ≡ waiting0 ++ text)) ⊎ (OUTBOX_BYTES < length (waiting0 ++ text))
 
 -- a front of the text was written to the sink
 pub record WritesFront (w0 w : Stream) (text : List ℕ) : Type 0 where

@@ -1,11 +1,12 @@
-ghost use Rattle.std.specs.Prelude.{◌≡◌, ◌≢◌, ◌⊎◌, ◌<◌, ℕ, List, [], length, false, IfOk, OnOk, IfErr};
+ghost use Rattle.std.specs.Prelude.{◌≡◌, ◌≢◌, ◌⊎◌, ◌+◌, ◌<◌, ℕ, List, [], length, false, IfOk, OnOk, IfErr};
 ghost use Rattle.std.specs.Io.KnownBytes.{IsAtEnd};
-ghost use Rattle.http_bodies.specs.Steps.{ends, Countable, Moves, Breaks, LacksNothing};
+ghost use Rattle.http_bodies.specs.Steps.{ends, Countable, Moves, Breaks, HoldsBack, LacksNothing};
 ghost use Rattle.http_bodies.specs.Framings.{IsBody, PartOfBody, LacksBody};
 
 use crate::coding::Coding;
 use crate::fault::Fault;
 use crate::framing::Framing;
+use crate::outbox::OUTBOX_BYTES;
 use crate::pipe::Pipe;
 use base_streams::{Sink, Source};
 
@@ -24,7 +25,8 @@ impl Pipe {
         ensures end { framing ≡ Framing.ToEnd → OnOk result (IsAtEnd (S.stream source.new).bytes) }
         ensures all { framing ≡ Framing.ToEnd → OnOk result (self.new.inbox ≡ []) }
         ensures err { IfErr result (λ fault. (used : List ℕ) × (text : List ℕ) × PartOfBody framing framed used text
-            × Breaks (ends self.old (S.stream source.old) (K.stream sink.old)) (ends self.new (S.stream source.new) (K.stream sink.new)) used text (LacksBody framing) fault) }
+            × Breaks (ends self.old (S.stream source.old) (K.stream sink.old)) (ends self.new (S.stream source.new) (K.stream sink.new)) used text (LacksBody framing) fault
+            × (fault ≡ Fault.Framing → HoldsBack (ends self.old (S.stream source.old) (K.stream sink.old)) (ends self.new (S.stream source.new) (K.stream sink.new)) text)) }
     {
         let mut coding = Coding::new(framing, framed);
         'forwarding: loop {
@@ -41,10 +43,11 @@ impl Pipe {
 
     // Writes all that waits, and reads once where nothing is held. Returns false at the end of the input.
     fn advance<S: Source, K: Sink>(&mut self, source: &mut S, sink: &mut K) -> Result<bool, Fault>
-        requires some { (self.old.inbox ≡ []) ⊎ (0 < length self.old.outbox) }
+        requires some { (self.old.inbox ≡ []) ⊎ (OUTBOX_BYTES < length self.old.outbox + 18) }
         requires countable { Countable (ends self.old (S.stream source.old) (K.stream sink.old)) }
         ensures ok { OnOk result (Moves (ends self.old (S.stream source.old) (K.stream sink.old)) (ends self.new (S.stream source.new) (K.stream sink.new)) [] []) }
         ensures spent { OnOk result (self.new.turns < self.old.turns) }
+        ensures read { self.old.inbox ≡ [] → OnOk result ((S.stream source.old).calls < (S.stream source.new).calls) }
         ensures end { IfOk result (λ more. more ≡ false → IsAtEnd (S.stream source.new).bytes) }
         ensures none { IfOk result (λ more. more ≡ false → self.new.inbox ≡ []) }
         ensures err { IfErr result (Breaks (ends self.old (S.stream source.old) (K.stream sink.old)) (ends self.new (S.stream source.new) (K.stream sink.new)) [] [] LacksNothing) }

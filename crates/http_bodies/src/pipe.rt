@@ -4,13 +4,13 @@ ghost use Rattle.http_bodies.specs.Readings.{Feeds};
 ghost use Rattle.http_bodies.specs.Stops.{is_done, is_bad};
 ghost use Rattle.base_streams.specs.Streams.{Stream};
 ghost use Rattle.http_bodies.specs.Steps.{ends, Countable, Moves, Breaks, LacksNothing};
-ghost use Rattle.http_bodies.specs.Texts.{Emits, Stops};
+ghost use Rattle.http_bodies.specs.Texts.{Emits, Stops, Waits};
 
 use crate::coding::Coding;
 use crate::fault::Fault;
 use crate::feeding::State;
 use crate::inbox::{INBOX_BYTES, Inbox};
-use crate::outbox::Outbox;
+use crate::outbox::{OUTBOX_BYTES, Outbox};
 use crate::text;
 use base_streams::{Sink, Source};
 use std::alloc::{AllocError, Global};
@@ -97,6 +97,7 @@ impl Pipe {
     pub fn emit<K: Sink>(&mut self, sink: &mut K, bytes: &[u8]) -> Result<(), Fault>
         requires { (K.stream sink.old).calls + self.old.turns < 2 ^ 64 }
         ensures ok { OnOk result (Emits (K.stream sink.old) (K.stream sink.new) self.old.turns self.new.turns self.old.outbox self.new.outbox bytes.now) }
+        ensures late { OnOk result (Waits (K.stream sink.old) (K.stream sink.new) self.old.outbox self.new.outbox bytes.now) }
         ensures err { IfErr result (Stops (K.stream sink.old) (K.stream sink.new) self.old.turns self.new.turns (self.old.outbox ++ bytes.now)) }
         ensures inbox { self.new.inbox ≡ self.old.inbox }
     {
@@ -120,7 +121,7 @@ impl Pipe {
         ensures moves { (s w : Stream) → (used : List ℕ) × (text : List ℕ) × Feeds coding.old coding.new used text
             × Moves (ends self.old s w) (ends self.new s w) used text }
         ensures whole { IfOk result (λ whole. whole ≡ true → is_done coding.new ≡ true) }
-        ensures part { IfOk result (λ whole. whole ≡ false → (is_done coding.new ≡ false) × ((self.new.inbox ≡ []) ⊎ (0 < length self.new.outbox))) }
+        ensures part { IfOk result (λ whole. whole ≡ false → (is_done coding.new ≡ false) × ((self.new.inbox ≡ []) ⊎ (OUTBOX_BYTES < length self.new.outbox + 18))) }
         ensures never { IfErr result (λ fault. (fault ≡ Fault.Framing) × (is_bad coding.new ≡ true)) }
     {
         let fed = coding.feed(self.inbox.as_slice(), &mut self.outbox);
@@ -169,6 +170,7 @@ impl Pipe {
         ensures end { IfOk result (λ count. count ≡ 0 → IsAtEnd (S.stream source.new).bytes) }
         ensures none { IfOk result (λ count. count ≡ 0 → self.new.inbox ≡ self.old.inbox) }
         ensures spent { OnOk result (self.new.turns < self.old.turns) }
+        ensures read { OnOk result ((S.stream source.old).calls < (S.stream source.new).calls) }
         ensures err { IfErr result (Breaks (ends self.old (S.stream source.old) (K.stream sink.old)) (ends self.new (S.stream source.new) (K.stream sink.new)) [] [] LacksNothing) }
     {
         self.flush(sink)?;

@@ -1,22 +1,52 @@
 -- Texts put behind what waits, one after the other.
-use Rattle.std.proofs.Common.{◌≡◌, ◌∙◌, ℕ, ◌==◌, Bool, true, false, cond, List, [], ◌++◌, refl, arith, append_assoc, subst}
+use Rattle.std.proofs.Common.{◌≡◌, ◌∙◌, ◌<◌, ℕ, ◌==◌, Bool, true, false, cond, List, [], ◌++◌, length}
+use Rattle.std.proofs.Common.{refl, sym, ap, arith, append_assoc, append-nil, length-append, subst, inl, inr}
 use Rattle.std.specs.Prelude.{◌&&◌, not}
 use Rattle.std.proofs.lemmas.Bool.Decides.{nat_tests}
 use Rattle.base_streams.specs.Streams.{Stream}
 use Rattle.http_bodies.specs.declared.fault.Fault.{Fault}
 use Rattle.http_bodies.specs.declared.pipe.Pipe.{Pipe}
 use Rattle.http_bodies.proofs.Emitting.{emits_none, emits_trans, emits_stops, stops_more, stops_as}
-use Rattle.http_texts.specs.Emissions.{Puts, Halts}
+use Rattle.http_bodies.specs.Texts.{Waits}
+use Rattle.http_bodies.specs.declared.outbox.TheConstants.{OUTBOX_BYTES}
+use Rattle.http_texts.specs.Emissions.{Sends, Puts, Halts}
+
+pub sends_trans : {p q r : Pipe} {a b c : Stream} {first second : List ℕ} → Sends p q a b first → Sends q r b c second → Sends p r a c (first ++ second)
+sends_trans x y = record { emits = emits_trans x.emits y.emits; inbox = y.inbox ∙ x.inbox }
+
+pub sends_halts : {p q r : Pipe} {a b c : Stream} {first second : List ℕ} {fault : Fault} → Sends p q a b first → Halts q r b c second fault
+    → Halts p r a c (first ++ second) fault
+sends_halts {second = second} x y = record { stops = emits_stops second x.emits y.stops; inbox = y.inbox ∙ x.inbox }
+
+pub sends_as : {p q : Pipe} {a b : Stream} {text same : List ℕ} → text ≡ same → Sends p q a b text → Sends p q a b same
+sends_as {p} {q} {a} {b} e x = subst (λ (l : List ℕ). Sends p q a b l) e x
+
+waits_trans : {a b c : Stream} (p q r first second : List ℕ) → Waits a b p q first → Waits b c q r second → Waits a c p r (first ++ second)
+waits_trans p q r first second x y = elim x [
+  | inr full ↦ inr (omega (arith, full, length-append p first, length-append p (first ++ second), length-append first second))
+  | inl kept ↦
+      elim y [
+        | inl more ↦ inl (more.0 ∙ kept.0, more.1 ∙ ap (λ l. l ++ second) kept.1 ∙ append_assoc p first second)
+        | inr full ↦
+            inr (subst (λ l. OUTBOX_BYTES < length l) (ap (λ l. l ++ second) kept.1 ∙ append_assoc p first second) full)
+      ]
+]
 
 pub puts_none : (p : Pipe) (w : Stream) → Puts p p w w []
-puts_none p w = record { emits = emits_none w p.turns p.outbox; inbox = refl }
+puts_none p w = record {
+  sends = record { emits = emits_none w p.turns p.outbox; inbox = refl };
+  late = inl (refl, sym (append-nil p.outbox));
+}
 
 pub puts_trans : {p q r : Pipe} {a b c : Stream} {first second : List ℕ} → Puts p q a b first → Puts q r b c second → Puts p r a c (first ++ second)
-puts_trans x y = record { emits = emits_trans x.emits y.emits; inbox = y.inbox ∙ x.inbox }
+puts_trans {p} {q} {r} {first = first} {second = second} x y = record {
+  sends = sends_trans x.sends y.sends;
+  late = waits_trans p.outbox q.outbox r.outbox first second x.late y.late;
+}
 
 pub puts_halts : {p q r : Pipe} {a b c : Stream} {first second : List ℕ} {fault : Fault} → Puts p q a b first → Halts q r b c second fault
     → Halts p r a c (first ++ second) fault
-puts_halts {second = second} x y = record { stops = emits_stops second x.emits y.stops; inbox = y.inbox ∙ x.inbox }
+puts_halts x y = sends_halts x.sends y
 
 -- more was to follow
 pub halts_front : {p q : Pipe} {a b : Stream} {first : List ℕ} {fault : Fault} (more : List ℕ) → Halts p q a b first fault → Halts p q a b (first ++ more) fault

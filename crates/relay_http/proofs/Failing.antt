@@ -1,15 +1,17 @@
 -- Steps, and then a fault.
-use Rattle.std.proofs.Common.{◌≡◌, ◌∙◌, ℕ, ◌+◌, List, [], ◌++◌, refl, sym, ap, arith, append_assoc, append-nil, subst, inl, inr}
+use Rattle.std.proofs.Common.{◌≡◌, ◌∙◌, ◌<◌, ℕ, ◌+◌, List, [], ◌∷◌, ◌++◌, length, refl, sym, ap, arith, append_assoc, append-nil, length-append, subst, inl, inr}
 use Rattle.std.specs.Io.KnownBytes.{Appends, IsAtEnd}
 use Rattle.base_streams.specs.Streams.{Stream}
 use Rattle.http_bodies.specs.declared.fault.Fault as Body
 use Rattle.http_bodies.specs.declared.fault.Fault.TheVariants as OfBody
+use Rattle.http_bodies.specs.declared.outbox.TheConstants.{OUTBOX_BYTES}
 use Rattle.http_bodies.specs.declared.pipe.Pipe.{Pipe}
-use Rattle.http_bodies.specs.Steps.{Ends, ends, Reads, Moves, Breaks, LacksNothing}
+use Rattle.http_bodies.specs.Texts.{Wrote}
+use Rattle.http_bodies.specs.Steps.{Ends, ends, Reads, Moves, Breaks, HoldsBack, LacksNothing}
 use Rattle.http_bodies.specs.Steps as Body_steps
 use Rattle.http_bodies.proofs.Stepping.{joined, Reads-trans, moves_emit, breaks_emit}
 use Rattle.http_bodies.proofs.Writing.{Wrote-trans}
-use Rattle.http_texts.specs.Emissions.{Puts, Halts}
+use Rattle.http_texts.specs.Emissions.{Sends, Puts, Halts}
 use Rattle.relay_http.specs.Failures.{Blames, Fails, Explains, Conveys, Misses}
 use Rattle.http_texts.specs.Faults.{relayed}
 use Rattle.http_texts.specs.declared.fault.Fault.{Fault}
@@ -135,7 +137,7 @@ fails_end {a} {b} Why p end why = record {
 }
 
 -- what was put, as a step
-pub moves_put : {p q : Pipe} {a b : Stream} {text : List ℕ} (s : Stream) → Puts p q a b text → Moves (ends p s a) (ends q s b) [] text
+pub moves_put : {p q : Pipe} {a b : Stream} {text : List ℕ} (s : Stream) → Sends p q a b text → Moves (ends p s a) (ends q s b) [] text
 moves_put s x = moves_emit s [] x.emits (sym x.inbox)
 
 pub fails_put : {p q : Pipe} {a b : Stream} {text : List ℕ} {fault : Body.Fault} (s : Stream) (Why : Fault → List ℕ → Type 0) → Halts p q a b text fault
@@ -205,15 +207,14 @@ explains Turns a b Why input blame = tt
 explains Closed a b Why input blame = blame
 
 -- where nothing waits, what was put was written
+pub wrote_of : {a b : Ends} {used text : List ℕ} → a.pipe.outbox ≡ [] → b.pipe.outbox ≡ [] → Moves a b used text → Wrote a.sink b.sink text
+wrote_of {a} {b} {used} {text} none left x =
+    let whole : x.front ≡ text = sym (ap (λ l. l ++ text) (sym none) ∙ x.waiting ∙ ap (λ l. x.front ++ l) left ∙ append-nil x.front) in
+    subst (λ (l : List ℕ). Wrote a.sink b.sink l) whole x.writes
+
 pub passes_of : {a b : Ends} {used text : List ℕ} → a.pipe.outbox ≡ [] → b.pipe.outbox ≡ [] → Moves a b used text
     → Conveys a.pipe.inbox b.pipe.inbox a.source.bytes b.source.bytes a.sink.bytes b.sink.bytes used text
-passes_of {a} {b} {used} {text} none left x =
-    let whole : x.front ≡ text = sym (ap (λ l. l ++ text) (sym none) ∙ x.waiting ∙ ap (λ l. x.front ++ l) left ∙ append-nil x.front) in record {
-      taken = x.taken;
-      reads = x.reads.bytes;
-      all = x.held;
-      writes = subst (λ (l : List ℕ). Appends a.sink.bytes b.sink.bytes l) whole x.writes.bytes;
-    }
+passes_of none left x = record { taken = x.taken; reads = x.reads.bytes; all = x.held; writes = (wrote_of none left x).bytes }
 
 pub misses_of : {a b : Ends} {used text : List ℕ} {fault : Fault} (Why : Fault → List ℕ → Type 0) → a.pipe.outbox ≡ [] → Fails a b used text Why fault
     → Misses a.pipe.inbox a.source.bytes b.source.bytes a.sink.bytes b.sink.bytes used text Why fault
@@ -228,3 +229,31 @@ misses_of {a} {b} {used} {text} {fault} Why none x = record {
   text_is = ap (λ l. l ++ text) (sym none) ∙ x.writes.all;
   why = explains fault a b Why (a.pipe.inbox ++ x.taken) x.blames;
 }
+
+-- a fault of the bytes is one of a body
+pub relayed_framing : (fault : Body.Fault) → relayed fault ≡ Framing → fault ≡ OfBody.Framing
+relayed_framing OfBody.Framing is = refl
+relayed_framing OfBody.Read is = cc
+relayed_framing OfBody.Write is = cc
+relayed_framing OfBody.Turns is = cc
+
+-- and never one of a text that stopped on its way, or of a call after which nothing lacks
+pub halts_unframed : {p q : Pipe} {a b : Stream} {text : List ℕ} (fault : Body.Fault) → Halts p q a b text fault → relayed fault ≡ Framing → ⊥
+halts_unframed {p} {q} {a} {b} {text} fault x is =
+    (subst (λ (f : Body.Fault). Halts p q a b text f) (relayed_framing fault is) x).stops.cause
+
+pub breaks_unframed : {a b : Ends} {used text : List ℕ} (fault : Body.Fault) → Breaks a b used text LacksNothing fault → relayed fault ≡ Framing → ⊥
+breaks_unframed {a} {b} {used} {text} fault x is =
+    (subst (λ (f : Body.Fault). Breaks a b used text LacksNothing f) (relayed_framing fault is) x).blames.2 []
+
+-- a text that was put, and then more of which nothing was written before it had to be
+pub puts_hold : {p q : Pipe} {v w : Stream} {first : List ℕ} (s : Stream) (end : Ends) (text : List ℕ) → Puts p q v w first → HoldsBack (ends q s w) end text
+    → HoldsBack (ends p s v) end (first ++ text)
+puts_hold {p} {q} {first = first} s end text x holds = λ same. elim x.late [
+  | inr full ↦ inr (omega (arith, full, length-append p.outbox first, length-append p.outbox (first ++ text), length-append first text))
+  | inl kept ↦
+      elim (holds same) [
+        | inl still ↦ inl (still ∙ kept.0)
+        | inr full ↦ inr (subst (λ l. OUTBOX_BYTES < length l + 18) (ap (λ l. l ++ text) kept.1 ∙ append_assoc p.outbox first text) full)
+      ]
+]

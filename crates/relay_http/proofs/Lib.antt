@@ -1,4 +1,5 @@
 pub mod Failing
+mod Holding
 pub mod Keeping
 pub mod Marking
 pub mod Seeing

@@ -1,12 +1,18 @@
 -- What is read and written while a request is handed on, and while its answer is.
-use Rattle.std.specs.Prelude.{◌≡◌, ℕ, List, [], Option}
+use Rattle.std.specs.Prelude.{◌≡◌, ◌⊎◌, ◌<◌, ◌≤◌, ◌+◌, ◌++◌, ℕ, Bool, List, [], length, Option}
 use Rattle.std.specs.Io.KnownBytes.{IsAtEnd}
+use Rattle.base_streams.specs.Streams.{Stream}
+use Rattle.http_bodies.specs.Texts.{Wrote}
 use Rattle.http_bodies.specs.declared.framing.Framing.TheVariants.{ToEnd}
+use Rattle.http_bodies.specs.declared.outbox.TheConstants.{OUTBOX_BYTES}
 use Rattle.http_texts.specs.declared.fault.Fault.{Fault}
+use Rattle.http_texts.specs.declared.persistence.Persistence.{Persistence}
 use Rattle.http_texts.specs.declared.persistence.Persistence.TheVariants.{Close}
-use Rattle.http_texts.specs.Messages.{IsForwarded, PartOfForwarded, LacksForwarded, IsAnswered, PartOfAnswered, LacksAnswer}
-use Rattle.http_texts.specs.Texts.{framed_for, unnamed}
+use Rattle.http_texts.specs.Messages.{IsForwarded, PartOfForwarded, LacksForwarded, IsAnswered, PartOfAnswered, LacksAnswer, interims_text}
+use Rattle.http_texts.specs.Messages.PartOfAnswered.{some_heads, head_and_body}
+use Rattle.http_texts.specs.Texts.{answer_text, framed_for, unnamed}
 use Rattle.relay_http.specs.Failures.{Conveys, Misses}
+use Rattle.req_view.specs.Answer.{answer_of}
 use Rattle.req_view.specs.Request.{Request}
 
 -- the request was handed on: its body is what was held and read, and its text was written
@@ -30,3 +36,19 @@ abbrev pub FailsToAnswer : Request → Option (List ℕ) → Option (List ℕ) �
 FailsToAnswer view r0 r w0 w fault =
     (used : List ℕ) × (text : List ℕ) × PartOfAnswered Close view.method (framed_for view.version) used text
     × Misses [] r0 r w0 w used text (LacksAnswer view.method) fault
+
+-- what a part of an answer becomes up to the answer's own head
+abbrev pub before_head : {says : Persistence} {method : List ℕ} {framed : Bool} {used text : List ℕ} → PartOfAnswered says method framed used text → List ℕ
+before_head {framed = framed} (some_heads hs are) = interims_text framed hs
+before_head {framed = framed} (head_and_body hs h plan used sent_on are final part) = interims_text framed hs
+
+-- and from there on
+abbrev pub from_head : {says : Persistence} {method : List ℕ} {framed : Bool} {used text : List ℕ} → PartOfAnswered says method framed used text → List ℕ
+from_head (some_heads hs are) = []
+from_head {says = says} {framed = framed} (head_and_body hs h plan used sent_on are final part) = answer_text says framed (answer_of h) plan ++ sent_on
+
+-- Where all that was read of an answer came by one read, nothing was written of its own head and
+-- what follows it, unless there was no room for these.
+abbrev pub HoldsHead : Stream → Stream → Stream → Stream → {says : Persistence} {method : List ℕ} {framed : Bool} {used text : List ℕ}
+    → PartOfAnswered says method framed used text → Type 0
+HoldsHead s0 s w0 w part = s.calls ≤ s0.calls + 1 → Wrote w0 w (before_head part) ⊎ (OUTBOX_BYTES < length (from_head part) + 18)

@@ -2,8 +2,10 @@ ghost use Rattle.std.specs.Prelude.{◌≡◌, ◌<◌, ◌+◌, ◌^◌, ◌++�
 ghost use Rattle.std.specs.Io.KnownBytes.{IsAtEnd};
 ghost use Rattle.httparse.specs.Grammar.{ResponseHead, print_response};
 ghost use Rattle.http_bodies.specs.Framings.{IsBody, PartOfBody};
-ghost use Rattle.http_bodies.specs.Steps.{ends, Countable, Moves};
-ghost use Rattle.http_texts.specs.Emissions.{Puts, Halts};
+ghost use Rattle.http_bodies.specs.Steps.{ends, Countable, HoldsBack, Moves};
+ghost use Rattle.http_bodies.specs.Texts.{Wrote};
+ghost use Rattle.http_texts.specs.Emissions.{Sends, Halts};
+ghost use Rattle.relay_http.specs.Calls.{HoldsHead};
 ghost use Rattle.relay_http.specs.Failures.{Fails};
 ghost use Rattle.http_texts.specs.Messages as messages;
 ghost use Rattle.http_texts.specs.Texts.{answer_text, interim_text, framed_for, unnamed};
@@ -39,7 +41,9 @@ pub(crate) fn forward_request<S: Source, K: Sink>(
     ensures empty { OnOk result (pipe.new.outbox ≡ []) }
     ensures err { IfErr result (λ fault. (used : List ℕ) × (text : List ℕ) × messages.PartOfForwarded (unnamed Persistence.Close) view.now used text
         × Fails (ends pipe.old (S.stream source.old) (K.stream sink.old)) (ends pipe.new (S.stream source.new) (K.stream sink.new)) used text
-        (messages.LacksForwarded view.now) fault) }
+        (messages.LacksForwarded view.now) fault
+        × (fault ≡ Fault.Framing → HoldsBack (ends pipe.old (S.stream source.old) (K.stream sink.old)) (ends pipe.new (S.stream source.new) (K.stream sink.new))
+        text)) }
 {
     let Some(framing) = request_framing(view) else {
         return Err(Fault::Framing);
@@ -70,9 +74,11 @@ pub(crate) fn forward_answer<S: Source, K: Sink>(
         × (answered.plan.body ≡ Framing.ToEnd → pipe.new.inbox ≡ [])) }
     ensures empty { OnOk result (pipe.new.outbox ≡ []) }
     ensures err { IfErr result (λ fault. (used : List ℕ) × (text : List ℕ)
-        × messages.PartOfAnswered Persistence.Close view.now.method (framed_for view.now.version) used text
+        × (part : messages.PartOfAnswered Persistence.Close view.now.method (framed_for view.now.version) used text)
         × Fails (ends pipe.old (S.stream source.old) (K.stream sink.old)) (ends pipe.new (S.stream source.new) (K.stream sink.new)) used text
-        (messages.LacksAnswer view.now.method) fault) }
+        (messages.LacksAnswer view.now.method) fault
+        × (fault ≡ Fault.Framing → pipe.old.inbox ≡ [] → pipe.old.outbox ≡ []
+        → HoldsHead (S.stream source.old) (S.stream source.new) (K.stream sink.old) (K.stream sink.new) part)) }
 {
     let planned = read_answer(pipe, alloc, view, source, sink)?;
     forward_planned(pipe, &planned, is_framed(view.version()), source, sink)
@@ -95,7 +101,9 @@ fn forward_planned<S: Source, K: Sink>(
     ensures empty { OnOk result (pipe.new.outbox ≡ []) }
     ensures err { IfErr result (λ fault. (body : List ℕ) × (sent_on : List ℕ) × PartOfBody planned.now.plan.body framed body sent_on
         × Fails (ends pipe.old (S.stream source.old) (K.stream sink.old)) (ends pipe.new (S.stream source.new) (K.stream sink.new)) body
-        (answer_text Persistence.Close framed planned.now.head planned.now.plan ++ sent_on) (messages.NoBody planned.now.plan.body) fault) }
+        (answer_text Persistence.Close framed planned.now.head planned.now.plan ++ sent_on) (messages.NoBody planned.now.plan.body) fault
+        × (fault ≡ Fault.Framing → HoldsBack (ends pipe.old (S.stream source.old) (K.stream sink.old)) (ends pipe.new (S.stream source.new) (K.stream sink.new))
+        (answer_text Persistence.Close framed planned.now.head planned.now.plan ++ sent_on))) }
 {
     let plan = planned.plan;
     let wording = Wording {
@@ -123,9 +131,12 @@ fn read_answer<S: Source, K: Sink>(
         × (planned.head ≡ answer_of h)
         × Moves (ends pipe.old (S.stream source.old) (K.stream sink.old)) (ends pipe.new (S.stream source.new) (K.stream sink.new))
         (messages.print_heads hs ++ print_response h) (messages.interims_text (framed_for view.now.version) hs)) }
+    ensures empty { OnOk result (pipe.old.outbox ≡ [] → pipe.new.outbox ≡ []) }
     ensures err { IfErr result (λ fault. (hs : List ResponseHead) × messages.AreInterims view.now.method hs
         × Fails (ends pipe.old (S.stream source.old) (K.stream sink.old)) (ends pipe.new (S.stream source.new) (K.stream sink.new))
-        (messages.print_heads hs) (messages.interims_text (framed_for view.now.version) hs) (messages.LacksAnswer view.now.method) fault) }
+        (messages.print_heads hs) (messages.interims_text (framed_for view.now.version) hs) (messages.LacksAnswer view.now.method) fault
+        × (fault ≡ Fault.Framing → pipe.old.outbox ≡ []
+        → Wrote (K.stream sink.old) (K.stream sink.new) (messages.interims_text (framed_for view.now.version) hs))) }
 {
     let framed = is_framed(view.version());
     let mut count = 0;
@@ -160,7 +171,7 @@ fn forward_before<K: Sink>(
     framed: bool,
 ) -> Result<(), BodyFault>
     requires { (K.stream sink.old).calls + pipe.old.turns < 2 ^ 64 }
-    ensures ok { OnOk result (Puts pipe.old pipe.new (K.stream sink.old) (K.stream sink.new) (interim_text framed head)) }
+    ensures ok { OnOk result (Sends pipe.old pipe.new (K.stream sink.old) (K.stream sink.new) (interim_text framed head)) }
     ensures empty { OnOk result (pipe.new.outbox ≡ []) }
     ensures err { IfErr result (Halts pipe.old pipe.new (K.stream sink.old) (K.stream sink.new) (interim_text framed head)) }
 {

@@ -1,5 +1,5 @@
 ghost use Rattle.std.specs.Prelude.{◌≡◌, ◌+◌, ◌^◌, ◌<◌, [], OnOk, IfErr};
-ghost use Rattle.http_texts.specs.Emissions.{Puts, Halts};
+ghost use Rattle.http_texts.specs.Emissions.{Sends, Halts};
 ghost use Rattle.http_texts.specs.Texts as texts;
 
 use base_streams::Sink;
@@ -10,7 +10,7 @@ use req_view::AnswerHead;
 /// Writes all that waits.
 pub(crate) fn send<K: Sink>(pipe: &mut Pipe, sink: &mut K) -> Result<(), Fault>
     requires { (K.stream sink.old).calls + pipe.old.turns < 2 ^ 64 }
-    ensures ok { OnOk result (Puts pipe.old pipe.new (K.stream sink.old) (K.stream sink.new) []) }
+    ensures ok { OnOk result (Sends pipe.old pipe.new (K.stream sink.old) (K.stream sink.new) []) }
     ensures empty { OnOk result (pipe.new.outbox ≡ []) }
     ensures err { IfErr result (Halts pipe.old pipe.new (K.stream sink.old) (K.stream sink.new) []) }
 {
@@ -21,7 +21,7 @@ pub(crate) fn send<K: Sink>(pipe: &mut Pipe, sink: &mut K) -> Result<(), Fault>
 /// Writes what waits and the text.
 pub(crate) fn send_text<K: Sink>(pipe: &mut Pipe, sink: &mut K, text: &[u8]) -> Result<(), Fault>
     requires { (K.stream sink.old).calls + pipe.old.turns < 2 ^ 64 }
-    ensures ok { OnOk result (Puts pipe.old pipe.new (K.stream sink.old) (K.stream sink.new) text.now) }
+    ensures ok { OnOk result (Sends pipe.old pipe.new (K.stream sink.old) (K.stream sink.new) text.now) }
     ensures empty { OnOk result (pipe.new.outbox ≡ []) }
     ensures err { IfErr result (Halts pipe.old pipe.new (K.stream sink.old) (K.stream sink.new) text.now) }
 {
@@ -38,7 +38,7 @@ pub(crate) fn forward_interim<K: Sink>(
     framed: bool,
 ) -> Result<(), Fault>
     requires { (K.stream sink.old).calls + pipe.old.turns < 2 ^ 64 }
-    ensures ok { OnOk result (Puts pipe.old pipe.new (K.stream sink.old) (K.stream sink.new) (texts.interim_text framed head.now)) }
+    ensures ok { OnOk result (Sends pipe.old pipe.new (K.stream sink.old) (K.stream sink.new) (texts.interim_text framed head.now)) }
     ensures empty { OnOk result (pipe.new.outbox ≡ []) }
     ensures err { IfErr result (Halts pipe.old pipe.new (K.stream sink.old) (K.stream sink.new) (texts.interim_text framed head.now)) }
 {

@@ -2,7 +2,8 @@ ghost use Rattle.std.specs.Prelude.{◌≡◌, ◌≢◌, ◌+◌, ◌^◌, ◌<
 ghost use Rattle.std.specs.Io.KnownBytes.{IsAtEnd};
 ghost use Rattle.base_streams.specs.Streams.{Stream};
 ghost use Rattle.httparse.specs.Grammar.{RequestHead, print_request};
-ghost use Rattle.http_bodies.specs.Steps.{ends, Countable, Moves};
+ghost use Rattle.http_bodies.specs.Steps.{ends, Countable, HoldsBack, Moves};
+ghost use Rattle.relay_http.specs.Calls.{HoldsHead};
 ghost use Rattle.relay_http.specs.Failures.{Conveys, Fails, NoCause};
 ghost use Rattle.http_texts.specs.Framings as framings;
 ghost use Rattle.http_texts.specs.Heads.{IsRequest, LacksRequest};
@@ -127,7 +128,9 @@ impl Exchange {
         ensures err { self.old.stage ≢ Stage.Failed
             → IfErr result (λ fault. (used : List ℕ) × (text : List ℕ) × messages.PartOfForwarded (unnamed Persistence.Close) view.now used text
             × Fails (ends self.old.pipe (S.stream source.old) (K.stream sink.old)) (ends self.new.pipe (S.stream source.new) (K.stream sink.new)) used text
-            (messages.LacksForwarded view.now) fault) }
+            (messages.LacksForwarded view.now) fault
+            × (fault ≡ Fault.Framing → HoldsBack (ends self.old.pipe (S.stream source.old) (K.stream sink.old)) (ends self.new.pipe (S.stream source.new)
+            (K.stream sink.new)) text)) }
         ensures held { self.old.stage ≢ Stage.Failed → OnErr result (self.new.pipe.inbox ≡ []) }
         ensures failed { OnErr result (self.new.stage ≡ Stage.Failed) }
         ensures turns { self.new.pipe.turns ≤ self.old.pipe.turns }
@@ -181,9 +184,10 @@ impl Exchange {
         ensures untouched { self.old.stage ≡ Stage.Failed
             → (self.new ≡ self.old) × (S.stream source.new ≡ S.stream source.old) × (K.stream sink.new ≡ K.stream sink.old) }
         ensures err { self.old.stage ≢ Stage.Failed → IfErr result (λ fault. (used : List ℕ) × (text : List ℕ)
-            × messages.PartOfAnswered Persistence.Close view.now.method (framed_for view.now.version) used text
+            × (part : messages.PartOfAnswered Persistence.Close view.now.method (framed_for view.now.version) used text)
             × Fails (ends (emptied self.old.pipe) (S.stream source.old) (K.stream sink.old)) (ends self.new.pipe (S.stream source.new)
-            (K.stream sink.new)) used text (messages.LacksAnswer view.now.method) fault) }
+            (K.stream sink.new)) used text (messages.LacksAnswer view.now.method) fault
+            × (fault ≡ Fault.Framing → HoldsHead (S.stream source.old) (S.stream source.new) (K.stream sink.old) (K.stream sink.new) part)) }
         ensures held { self.old.stage ≢ Stage.Failed → OnErr result (self.new.pipe.inbox ≡ []) }
         ensures failed { OnErr result (self.new.stage ≡ Stage.Failed) }
         ensures turns { self.new.pipe.turns ≤ self.old.pipe.turns }

@@ -26,6 +26,7 @@ mod working;
 pub use admitting::{Admitted, admit, arrive, arrive_as, arrive_late};
 pub use checking::checker;
 pub use crew::serve;
+pub use finished::Finished;
 pub use finishing::finish;
 pub use gate::{Gate, Pause};
 pub use lending::{join_all, split_off};

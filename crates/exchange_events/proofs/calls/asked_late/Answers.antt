@@ -9,4 +9,4 @@ returns-then-is_silent-clause-at c h is = c.quiet.ensures.at (signed h ClientOve
 
 pub returns-else-is_silent-clause-at : goal.returns-else-is_silent-clause-at
 returns-else-is_silent-clause-at c h is = c.quiet-else-is_silent.ensures.at (signed h ClientOver)
-    (c.late.ensures (signed h ClientOver) (asking_signed c.args.asking h ClientOver is) (shows_last h.signs ClientOver))
+    (c.late.ensures.tells (signed h ClientOver) (asking_signed c.args.asking h ClientOver is) (shows_last h.signs ClientOver))

@@ -8,5 +8,5 @@ use Rattle.exchange_machine.proofs.EventLemmas.{dialing_signed, shows_last}
 use Rattle.exchange_events.proofs.calls.short.Goals as goal
 
 pub returns-clause-at : goal.returns-clause-at
-returns-clause-at c h adds is = c.refuse.ensures (posted (signed h NoMemory) c.give_up-waiting.result.1 Done) (c.give_up-waiting.ensures
+returns-clause-at c h adds is = c.refuse.ensures.tells (posted (signed h NoMemory) c.give_up-waiting.result.1 Done) (c.give_up-waiting.ensures.waits
     (signed h NoMemory) (dialing_signed c.args.dialing h NoMemory is)) (of_sign NoMemory Unavailable (shows_last h.signs NoMemory) refl)

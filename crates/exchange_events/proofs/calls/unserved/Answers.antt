@@ -6,6 +6,6 @@ use Rattle.http_texts.specs.declared.refusals.Code.TheVariants.{Unavailable}
 use Rattle.exchange_events.proofs.calls.unserved.Goals as goal
 
 pub returns-in-Waiting-clause-at : goal.returns-in-Waiting-clause-at
-returns-in-Waiting-clause-at c h is = c.quiet.ensures.at (signed h c.args.sign) (c.refuse.ensures (signed h c.args.sign)
+returns-in-Waiting-clause-at c h is = c.quiet.ensures.at (signed h c.args.sign) (c.refuse.ensures.tells (signed h c.args.sign)
     (waiting_signed c.in-Waiting.waiting h c.args.sign (at_as h c.in-Waiting.is is)) (of_sign c.args.sign Unavailable
     (shows_last h.signs c.args.sign) c.requires))

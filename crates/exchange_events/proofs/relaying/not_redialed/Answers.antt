@@ -8,7 +8,7 @@ pub returns-clause-at : goal.returns-clause-at
 returns-clause-at c h is =
     let now = signed h c.args.sign in
     c.left.ensures.at now
-    (c.refuse.ensures now (forwarding_signed c.args.forwarding h c.args.sign is) (of_sign c.args.sign Unavailable (shows_last h.signs c.args.sign) c.requires))
+    (c.refuse.ensures.leaves now (forwarding_signed c.args.forwarding h c.args.sign is) (of_sign c.args.sign Unavailable (shows_last h.signs c.args.sign) c.requires))
 
 pub returns-then-has_begun-clause-at : goal.returns-then-has_begun-clause-at
 returns-then-has_begun-clause-at c h is = c.ends.ensures.at (signed h c.args.sign) (forwarding_signed c.args.forwarding h c.args.sign is)

@@ -10,7 +10,7 @@ pub returns-clause-at : goal.returns-clause-at
 returns-clause-at c h is =
     let late = signed h ServerOver in
     c.left.ensures.at late
-    (c.refuse.ensures late (forwarding_signed c.args.forwarding h ServerOver is) (of_sign ServerOver BadGateway (shows_last h.signs ServerOver) refl))
+    (c.refuse.ensures.leaves late (forwarding_signed c.args.forwarding h ServerOver is) (of_sign ServerOver BadGateway (shows_last h.signs ServerOver) refl))
 
 pub returns-then-has_begun-clause-at : goal.returns-then-has_begun-clause-at
 returns-then-has_begun-clause-at c h is = c.ends.ensures.at (signed h ServerOver) (forwarding_signed c.args.forwarding h ServerOver is)

@@ -7,5 +7,5 @@ use Rattle.exchange_machine.specs.Histories.{signed}
 use Rattle.exchange_events.proofs.relaying.refused_short.Goals as goal
 
 pub returns-clause-at : goal.returns-clause-at
-returns-clause-at c h is = c.refuse-pass.ensures (signed h NoMemory) (forwarding_signed c.args.forwarding h NoMemory is) (of_sign NoMemory Unavailable
+returns-clause-at c h is = c.refuse-pass.ensures.leaves (signed h NoMemory) (forwarding_signed c.args.forwarding h NoMemory is) (of_sign NoMemory Unavailable
     (shows_last h.signs NoMemory) refl)

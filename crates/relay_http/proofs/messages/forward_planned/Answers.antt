@@ -1,11 +1,12 @@
 -- The head, the body and what waits, one after the other.
 use Rattle.std.proofs.Common.{◌∙◌, [], ◌++◌, refl, sym, append-nil}
 use Rattle.http_bodies.specs.Framings.{LacksBody}
+use Rattle.http_bodies.specs.Steps.{ends}
 use Rattle.http_bodies.proofs.Exits.{at_exit}
 use Rattle.http_bodies.proofs.Stepping.{moves_trans, moves_as}
 use Rattle.http_texts.specs.Messages.{NoBody}
 use Rattle.http_texts.specs.Texts.{answer_text}
-use Rattle.relay_http.proofs.Failing.{moves_fails, moves_put, moves_halts, fails_put, fails_of, fails_as}
+use Rattle.relay_http.proofs.Failing.{moves_fails, moves_put, moves_halts, fails_put, fails_of, fails_as, relayed_framing, halts_unframed, puts_hold}
 use Rattle.http_texts.proofs.Forwarding.{part_none, body_part}
 use Rattle.http_texts.specs.declared.persistence.Persistence.TheVariants.{Close}
 use Rattle.relay_http.proofs.messages.forward_planned.Goals as goal
@@ -20,12 +21,13 @@ returns-in_err-put_answer-clause-err g c =
       part_none plan.body c.args.framed,
       fails_as (NoBody plan.body) refl (sym (append-nil text))
           (fails_put (g.S.Source.stream c.args.source.now) (NoBody plan.body) c.in_err-put_answer.ensures.err),
+      λ at. absurd (halts_unframed _ c.in_err-put_answer.ensures.err at),
     )
 
 pub returns-in_err-forward_body-clause-err : goal.returns-in_err-forward_body-clause-err
 returns-in_err-forward_body-clause-err g c =
     let plan = c.args.planned.now.plan in
-    let put = moves_put (g.S.Source.stream c.args.source.now) c.in_ok-put_answer.ensures.ok in
+    let put = moves_put (g.S.Source.stream c.args.source.now) c.in_ok-put_answer.ensures.ok.sends in
     let part = c.in_err-forward_body.ensures.err in
     at_exit _ _ _ c.from_residual-in_err-forward_body.ensures.1 (
       part.0,
@@ -33,13 +35,15 @@ returns-in_err-forward_body-clause-err g c =
       part.2,
       moves_fails (NoBody plan.body) (NoBody plan.body) (λ l why. why) put
           (fails_of (LacksBody plan.body) (NoBody plan.body) (λ l lacks. lacks) (λ l lacks. lacks) part.3),
+      λ at. puts_hold (g.S.Source.stream c.args.source.now) (ends c.forward_body.new.self (g.S.Source.stream c.forward_body.new.source) (g.K.Sink.stream c.forward_body.new.sink))
+          part.1 c.in_ok-put_answer.ensures.ok (part.4 (relayed_framing _ at)),
     )
 
 pub returns-in_err-send-clause-err : goal.returns-in_err-send-clause-err
 returns-in_err-send-clause-err g c =
     let plan = c.args.planned.now.plan in
     let text = answer_text Close c.args.framed c.args.planned.now.head plan in
-    let put = moves_put (g.S.Source.stream c.args.source.now) c.in_ok-put_answer.ensures.ok in
+    let put = moves_put (g.S.Source.stream c.args.source.now) c.in_ok-put_answer.ensures.ok.sends in
     let sent_on = c.in_ok-forward_body.ensures.ok in
     at_exit _ _ _ c.from_residual-in_err-send.ensures.1 (
       sent_on.0,
@@ -47,13 +51,14 @@ returns-in_err-send-clause-err g c =
       body_part plan.body c.args.framed sent_on.0 sent_on.1 sent_on.2,
       fails_as (NoBody plan.body) refl (append-nil (text ++ sent_on.1))
           (moves_halts (NoBody plan.body) (moves_trans put sent_on.3) c.in_err-send.ensures.err),
+      λ at. absurd (halts_unframed _ c.in_err-send.ensures.err at),
     )
 
 pub returns-clause-ok : goal.returns-clause-ok
 returns-clause-ok g c =
     let plan = c.args.planned.now.plan in
     let text = answer_text Close c.args.framed c.args.planned.now.head plan in
-    let put = moves_put (g.S.Source.stream c.args.source.now) c.in_ok-put_answer.ensures.ok in
+    let put = moves_put (g.S.Source.stream c.args.source.now) c.in_ok-put_answer.ensures.ok.sends in
     let sent_on = c.in_ok-forward_body.ensures.ok in
     let sent = moves_put (g.S.Source.stream c.forward_body.new.source) c.in_ok-send.ensures.ok in (
       sent_on.0,

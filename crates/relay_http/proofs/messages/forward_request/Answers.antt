@@ -1,13 +1,14 @@
 -- The head, the body and what waits, one after the other.
-use Rattle.std.proofs.Common.{◌∙◌, None, [], ◌++◌, refl, sym, append-nil}
+use Rattle.std.proofs.Common.{◌∙◌, None, [], ◌++◌, refl, sym, append-nil, inl}
 use Rattle.http_bodies.specs.Framings.{LacksBody}
+use Rattle.http_bodies.specs.Steps.{ends}
 use Rattle.http_bodies.proofs.Exits.{at_exit}
 use Rattle.http_bodies.proofs.Stepping.{moves_none, moves_trans, moves_as, Countable-later}
 use Rattle.http_texts.specs.Messages.{NoBody, LacksForwarded}
 use Rattle.http_texts.specs.Messages.PartOfForwarded.{nothing, head_and_body}
 use Rattle.http_texts.specs.Messages.LacksForwarded.{no_framing, no_body}
 use Rattle.http_texts.specs.Texts.{request_text, unnamed}
-use Rattle.relay_http.proofs.Failing.{moves_fails, moves_put, moves_halts, fails_put, fails_of, fails_as, fails_framing}
+use Rattle.relay_http.proofs.Failing.{moves_fails, moves_put, moves_halts, fails_put, fails_of, fails_as, fails_framing, relayed_framing, halts_unframed, puts_hold}
 use Rattle.http_texts.proofs.Forwarding.{part_none, body_part}
 use Rattle.http_texts.specs.declared.persistence.Persistence.TheVariants.{Close}
 use Rattle.relay_http.proofs.messages.forward_request.Goals as goal
@@ -15,7 +16,7 @@ use Rattle.relay_http.proofs.messages.forward_request.Goals as goal
 pub returns-in_default-clause-err : goal.returns-in_default-clause-err
 returns-in_default-clause-err g c =
     let none = sym c.request_framing.ensures ∙ c.in_default.is in
-    ([], [], nothing, fails_framing (LacksForwarded c.args.view.now) (moves_none _) (no_framing refl none))
+    ([], [], nothing, fails_framing (LacksForwarded c.args.view.now) (moves_none _) (no_framing refl none), λ is same. inl refl)
 
 pub returns-in_err-put_request-clause-err : goal.returns-in_err-put_request-clause-err
 returns-in_err-put_request-clause-err g c =
@@ -28,6 +29,7 @@ returns-in_err-put_request-clause-err g c =
       head_and_body framing [] [] is (part_none framing _),
       fails_as (LacksForwarded r) refl (sym (append-nil (request_text (unnamed Close) r framing)))
           (fails_put (g.S.Source.stream c.args.source.now) (LacksForwarded r) (c.in_err-put_request.ensures.err None refl)),
+      λ at. absurd (halts_unframed _ (c.in_err-put_request.ensures.err None refl) at),
     )
 
 pub returns-in_err-forward_body-clause-err : goal.returns-in_err-forward_body-clause-err
@@ -35,7 +37,7 @@ returns-in_err-forward_body-clause-err g c =
     let r = c.args.view.now in
     let framing = c.in-Some.framing in
     let is = sym c.request_framing.ensures ∙ c.in-Some.is in
-    let put = moves_put (g.S.Source.stream c.args.source.now) (c.in_ok-put_request.ensures.ok None refl) in
+    let put = moves_put (g.S.Source.stream c.args.source.now) (c.in_ok-put_request.ensures.ok None refl).sends in
     let part = c.in_err-forward_body.ensures.err in
     at_exit _ _ _ c.from_residual-in_err-forward_body.ensures.1 (
       part.0,
@@ -43,6 +45,8 @@ returns-in_err-forward_body-clause-err g c =
       head_and_body framing part.0 part.1 is part.2,
       moves_fails (NoBody framing) (LacksForwarded r) (λ l why. no_body framing is why) put
           (fails_of (LacksBody framing) (NoBody framing) (λ l lacks. lacks) (λ l lacks. lacks) part.3),
+      λ at. puts_hold (g.S.Source.stream c.args.source.now) (ends c.forward_body.new.self (g.S.Source.stream c.forward_body.new.source) (g.K.Sink.stream c.forward_body.new.sink))
+          part.1 (c.in_ok-put_request.ensures.ok None refl) (part.4 (relayed_framing _ at)),
     )
 
 pub returns-in_err-send-clause-err : goal.returns-in_err-send-clause-err
@@ -50,7 +54,7 @@ returns-in_err-send-clause-err g c =
     let r = c.args.view.now in
     let framing = c.in-Some.framing in
     let is = sym c.request_framing.ensures ∙ c.in-Some.is in
-    let put = moves_put (g.S.Source.stream c.args.source.now) (c.in_ok-put_request.ensures.ok None refl) in
+    let put = moves_put (g.S.Source.stream c.args.source.now) (c.in_ok-put_request.ensures.ok None refl).sends in
     let sent_on = c.in_ok-forward_body.ensures.ok in
     at_exit _ _ _ c.from_residual-in_err-send.ensures.1 (
       sent_on.0,
@@ -58,6 +62,7 @@ returns-in_err-send-clause-err g c =
       head_and_body framing sent_on.0 sent_on.1 is (body_part framing _ sent_on.0 sent_on.1 sent_on.2),
       fails_as (LacksForwarded r) refl (append-nil (request_text (unnamed Close) r framing ++ sent_on.1))
           (moves_halts (LacksForwarded r) (moves_trans put sent_on.3) c.in_err-send.ensures.err),
+      λ at. absurd (halts_unframed _ c.in_err-send.ensures.err at),
     )
 
 pub returns-clause-ok : goal.returns-clause-ok
@@ -65,7 +70,7 @@ returns-clause-ok g c =
     let r = c.args.view.now in
     let framing = c.in-Some.framing in
     let is = sym c.request_framing.ensures ∙ c.in-Some.is in
-    let put = moves_put (g.S.Source.stream c.args.source.now) (c.in_ok-put_request.ensures.ok None refl) in
+    let put = moves_put (g.S.Source.stream c.args.source.now) (c.in_ok-put_request.ensures.ok None refl).sends in
     let sent_on = c.in_ok-forward_body.ensures.ok in
     let sent = moves_put (g.S.Source.stream c.forward_body.new.source) c.in_ok-send.ensures.ok in (
       sent_on.0,
@@ -76,10 +81,10 @@ returns-clause-ok g c =
 
 pub forward_body-requires : goal.forward_body-requires
 forward_body-requires g c =
-    let put = moves_put (g.S.Source.stream c.args.source.now) (c.in_ok-put_request.ensures.ok None refl) in
+    let put = moves_put (g.S.Source.stream c.args.source.now) (c.in_ok-put_request.ensures.ok None refl).sends in
     Countable-later put.reads c.requires
 
 pub send-requires : goal.send-requires
 send-requires g c =
-    let put = moves_put (g.S.Source.stream c.args.source.now) (c.in_ok-put_request.ensures.ok None refl) in
+    let put = moves_put (g.S.Source.stream c.args.source.now) (c.in_ok-put_request.ensures.ok None refl).sends in
     (Countable-later (moves_trans put c.in_ok-forward_body.ensures.ok.3).reads c.requires).writes

@@ -10,18 +10,21 @@ use Rattle.http_texts.specs.Framings.{answer_plan, is_interim}
 use Rattle.http_texts.specs.Heads.{NoAnswer}
 use Rattle.http_texts.specs.Messages.{IsInterim, AreInterims, print_heads, interims_text, LacksAnswer}
 use Rattle.http_texts.specs.Texts.{framed_for}
-use Rattle.http_texts.specs.declared.fault.Fault.TheVariants.{Read}
+use Rattle.http_texts.specs.declared.fault.Fault.TheVariants.{Framing, Read}
 use Rattle.http_texts.specs.declared.plans.Plan.{Plan}
 use Rattle.http_texts.proofs.Alone.{answer_alone}
 use Rattle.http_texts.proofs.Forwarding.{heads_then, interims_more, interims_text_more}
-use Rattle.relay_http.proofs.Failing.{moves_fails, moves_put, moves_halts, fails_as, fails_plainly, fails_end}
+use Rattle.relay_http.proofs.Failing.{moves_fails, moves_put, moves_halts, fails_as, fails_plainly, fails_end, wrote_of, halts_unframed, breaks_unframed}
 use Rattle.relay_http.proofs.Seeing.{used_front, fails_unseen}
 use Rattle.req_view.specs.Answer.{Answer, answer_of}
 use Rattle.req_view.specs.AnswerHeads.{HasNoAnswer}
 use Rattle.relay_http.proofs.messages.read_answer.Goals as goal
 
+read_not_framing : Read ≡ Framing → ⊥
+read_not_framing is = cc
+
 pub heads-init : goal.heads-init
-heads-init g c = ([], tt, refl, omega arith, moves_none _)
+heads-init g c = ([], tt, refl, omega arith, moves_none _, λ none. none)
 
 pub returns-in-Final-clause-ok : goal.returns-in-Final-clause-ok
 returns-in-Final-clause-ok g c =
@@ -59,6 +62,7 @@ returns-in-Refused-clause-err g c =
       are,
       fails_unseen method c.method.result.now hs c.heads.count c.held.result.now c.in-Refused.fault are so_far.2 c.method.ensures c.held.ensures.value
           c.in-Refused.ensures so_far.4,
+      λ at none. wrote_of none (so_far.5 none) so_far.4,
     )
 
 pub forward_before-requires : goal.forward_before-requires
@@ -96,6 +100,7 @@ returns-in_err-forward_before-in-Interim-clause-err g c =
       hs ++ h ∷ [],
       interims_more method hs h so_far.1 below is,
       fails_as (LacksAnswer method) (flat_last print_response hs h) text (moves_halts (LacksAnswer method) read c.in_err-forward_before-in-Interim.ensures.err),
+      λ at. absurd (halts_unframed _ c.in_err-forward_before-in-Interim.ensures.err at),
     )
 
 pub heads-preserved-in-Interim : goal.heads-preserved-in-Interim
@@ -130,6 +135,7 @@ heads-preserved-in-Interim g c =
       omega (arith, so_far.2, length-append hs (h ∷ [])),
       omega (arith, so_far.2, below),
       moves_as (append-nil (print_heads hs ++ print_response h) ∙ flat_last print_response hs h) text (moves_trans read sent_on),
+      λ none. c.in_ok-forward_before-in-Interim.ensures.empty,
     )
 
 pub returns-in_err-came-in-More-clause-err : goal.returns-in_err-came-in-More-clause-err
@@ -145,6 +151,7 @@ returns-in_err-came-in-More-clause-err g c =
       fails_as (LacksAnswer method) (append-nil (print_heads hs)) (append-nil (interims_text framed hs))
           (moves_fails NoAnswer (LacksAnswer method) (λ l why. heads_then method hs _ l are why) so_far.4
           (fails_plainly NoAnswer (c.in_err-came-in-More.ensures.err (g.K.Sink.stream c.heads.sink)))),
+      λ at. absurd (breaks_unframed _ (c.in_err-came-in-More.ensures.err (g.K.Sink.stream c.heads.sink)) at),
     )
 
 pub returns-then-came-eq0-clause-err : goal.returns-then-came-eq0-clause-err
@@ -162,6 +169,7 @@ returns-then-came-eq0-clause-err g c =
       are,
       fails_end (LacksAnswer method) read (came.end c.if-came-eq0.true)
           (heads_then method hs Read c.fill.new.self.inbox are (subst (λ (l : List ℕ). HasNoAnswer l) same c.in-More.ensures.none)),
+      λ at. absurd (read_not_framing at),
     )
 
 pub heads-preserved : goal.heads-preserved
@@ -175,4 +183,8 @@ heads-preserved g c =
       so_far.2,
       so_far.3,
       moves_as (append-nil (print_heads hs)) (append-nil (interims_text framed hs)) (moves_trans so_far.4 read),
+      λ none. c.in_ok-came-in-More.ensures.waiting ∙ so_far.5 none,
     )
+
+pub returns-in-Final-clause-empty : goal.returns-in-Final-clause-empty
+returns-in-Final-clause-empty g c = λ none. c.consume.ensures.outbox ∙ c.heads.invariant.5 none

@@ -1,6 +1,12 @@
-use Rattle.std.proofs.Common.{refl}
-use Rattle.exchange_machine.proofs.SideLemmas.{forwarding_told}
+use Rattle.std.proofs.Common.{◌∙◌, refl, sym}
+use Rattle.exchange_machine.proofs.SideLemmas.{forwarding_told, leave_kept}
 use Rattle.exchange_machine.proofs.forwarding.Forwarding.client_took.Goals as goal
 
-pub returns : goal.returns
-returns c h is = forwarding_told c.args.self.now _ h c.args.count is c.went.ensures.out c.went.ensures.coding c.leave_told-begun.ensures refl
+pub returns-clause-took : goal.returns-clause-took
+returns-clause-took c h is =
+    let told = c.leave_told-begun.ensures in
+    forwarding_told c.args.self.now _ h c.args.count is c.went.ensures.out c.went.ensures.coding
+    (λ none.
+    let kept = leave_kept c.args.self.now.begun c.args.self.now.leave_left c.args.count (sym told.0 ∙ none) in
+    (kept.0, kept.1, told.1))
+    refl

@@ -37,3 +37,9 @@ returns-clause-on g c linked opened before on =
     subst (λ (w : Wire). IsServedOn opened before c.linked_anew.result.linked.seated.exchange w) (sym same.0)
     (subst (λ (x : Exchange). IsServedOn opened before x c.drive-served.new.server) (sym (ap (λ t. t.exchange) anew.seated))
     (driven_on opened _ _ _ _ _ _ before _ _ d.0 s d.1 (λ is. let differ : true ≡ false = sym linked ∙ anew.retries (d.2 is) in cc))))
+
+pub returns-clause-client : goal.returns-clause-client
+returns-clause-client g c h at =
+    let anew = c.linked_anew.ensures in
+    let d = c.drive-served.ensures.at h at in
+    (d.0, c.drive-served.new.server, rw (anew.moved.0, anew.moved.1, anew.seated) d.1)

@@ -27,4 +27,5 @@ returns-clause-at g c h at = (
       (sym c.part-seated.ensures.exchange) (c.step-next.ensures.at h at),
   c.part-seated.ensures.retries,
   c.part-seated.ensures.anew,
+  c.part-seated.ensures.ends,
 )

@@ -1,5 +1,5 @@
 -- What waits is written first.
-use Rattle.std.proofs.Common.{[], sym, refl, append-nil}
+use Rattle.std.proofs.Common.{[], sym, refl, arith, append-nil}
 use Rattle.http_bodies.specs.Steps.{LacksNothing}
 use Rattle.http_bodies.proofs.Emitting.{stops_as}
 use Rattle.http_bodies.proofs.Exits.{at_exit}
@@ -22,3 +22,8 @@ pub returns-clause-ok : goal.returns-clause-ok
 returns-clause-ok g c =
     let flushed = moves_emit (g.S.Source.stream c.args.source.now) [] c.in_ok-flush.ensures.ok (sym c.in_ok-flush.ensures.inbox) in
     moves_trans flushed (c.in_ok-count.ensures.ok (g.K.Sink.stream c.flush.new.sink))
+
+pub returns-clause-read : goal.returns-clause-read
+returns-clause-read g c =
+    let filled = c.in_ok-count.ensures.ok (g.K.Sink.stream c.flush.new.sink) in
+    omega (arith, filled.reads.spent, c.in_ok-count.ensures.spent)

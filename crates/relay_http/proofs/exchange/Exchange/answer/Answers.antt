@@ -1,4 +1,5 @@
 use Rattle.std.proofs.Common.{rules, arith}
+use Rattle.std.proofs.lemmas.Result.{IfErr-weaker}
 use Rattle.http_texts.specs.Messages.{PartOfAnswered, LacksAnswer}
 use Rattle.http_texts.specs.Texts.{framed_for}
 use Rattle.std.proofs.lemmas.Grind.{common_steps}
@@ -16,7 +17,7 @@ pub returns-clause-err : goal.returns-clause-err
 returns-clause-err g c = λ open_still.
     thin_both_fault _ (PartOfAnswered Close c.args.view.now.method (framed_for c.args.view.now.version)) (LacksAnswer c.args.view.now.method) _ _ _ _ _ _
     (search rules) (search rules) (search rules) (search rules)
-    c.args.self.now.drained (c.answer_between.ensures.err open_still)
+    c.args.self.now.drained (IfErr-weaker c.answer_between.result _ _ (λ fault part. (part.0, part.1, part.2, part.3)) (c.answer_between.ensures.err open_still))
 
 pub returns-clause-untouched : goal.returns-clause-untouched
 returns-clause-untouched g c = λ failed. (

@@ -49,6 +49,7 @@ returns-in-Err-clause-err g c =
       part.1,
       part.2,
       rw (← empty) (fails_after (LacksAnswer c.args.view.now.method) c.hold-in-Err.new.self (c.hold-in-Err.ensures.turns ∙ c.forget_waiting.ensures.turns) part.3),
+      λ at. part.4 at c.hold.ensures.inbox (c.hold.ensures.outbox ∙ c.args.self.now.drained),
     )
 
 pub returns-in-Err-clause-marks : goal.returns-in-Err-clause-marks

@@ -12,6 +12,7 @@ returns-in-Err-clause-err g c =
       part.1,
       part.2,
       fails_after (LacksForwarded c.args.view.now) c.hold.new.self (c.hold.ensures.turns ∙ c.forget_waiting.ensures.turns) part.3,
+      part.4,
     )
 
 pub returns-in-Ok-clause-same_source : goal.returns-in-Ok-clause-same_source

@@ -1,0 +1,66 @@
+-- What a call changes of an exchange with both sides active, and what it leaves as it was.
+use Rattle.std.specs.Prelude.{◌≡◌, ◌≢◌, ℕ, ◌+◌, ◌-◌, ◌≤◌, nat_lt, Bool, true, false, ◌||◌, [], ◌++◌, length, take}
+use Rattle.http_bodies.specs.declared.outbox.TheConstants.{OUTBOX_BYTES}
+use Rattle.http_bodies.specs.Stops.{is_done}
+use Rattle.http_texts.specs.Replies.{leave_text, refusal_text}
+use Rattle.http_texts.specs.declared.persistence.Persistence.TheVariants.{Close}
+use Rattle.http_texts.specs.declared.refusals.Code.{Code}
+use Rattle.exchange_machine.specs.Answerings.{has_answered}
+use Rattle.exchange_machine.specs.Settlings.{is_clean}
+use Rattle.exchange_machine.specs.declared.dialing.Dialing.{Dialing}
+use Rattle.exchange_machine.specs.declared.dialing.Terms.{Terms}
+use Rattle.exchange_machine.specs.declared.ending.Ended.{Ended}
+use Rattle.exchange_machine.specs.declared.ending.Rest.{Rest}
+use Rattle.exchange_machine.specs.declared.ending.Rest.TheVariants.{Settling, Leaving}
+use Rattle.exchange_machine.specs.declared.forwarding.Forwarding.{Forwarding}
+use Rattle.exchange_machine.specs.declared.sides.Down.TheVariants.{Heads, Body}
+
+-- whether the client took a byte behind the `100`, once it took this number of bytes more, where
+-- `left` of the `100` were left; and how many of it are left then
+abbrev pub begun_after : Bool → ℕ → ℕ → Bool
+begun_after begun left count = begun || nat_lt left count
+
+abbrev pub left_after : ℕ → ℕ → ℕ
+left_after left count = left - count
+
+-- A request whose server was reached: the whole request is still to be sent, nothing came of an
+-- answer, and the client took nothing.
+pub record IsBegunOn (d : Dialing) (terms : Terms) (p : Forwarding) : Type 0 where
+  pub view : p.view ≡ d.waiting.asked.view
+  pub pass : p.pass ≡ d.pass
+  pub framing : p.framing ≡ d.waiting.asked.framing
+  pub held : p.up_held ≡ d.waiting.asked.held
+  pub reached : p.reached ≡ d.reached
+  pub terms_are : (p.adds ≡ terms.adds) × (p.willing ≡ terms.willing) × (p.fresh ≡ terms.fresh)
+  pub server : (p.cut ≡ false) × (p.ended ≡ false) × (p.well ≡ false) × (p.dialing ≡ false)
+  pub answer : (p.phase ≡ Heads 0) × (p.down_held.items ≡ []) × (p.looks ≡ false)
+  pub leave : (p.down.out ≡ leave_text d.waiting.asked.view) × (p.leave_left ≡ length p.down.out)
+  pub client : p.begun ≡ false
+
+-- It ends with this refusal in place of an answer: behind what is left of the `100`, the client is
+-- sent the refusal whole, where there is room for it.
+pub record IsRefused (p : Forwarding) (code : Code) (e : Ended) : Type 0 where
+  pub pass : e.pass ≡ p.pass
+  pub told : length (take p.leave_left p.down.out) + length (refusal_text code) ≤ OUTBOX_BYTES → e.rest.out.out ≡ take p.leave_left p.down.out ++ refusal_text code
+  pub closed : (e.rest.whole ≡ false) × (e.rest.clean ≡ false)
+
+-- the same exchange, which has taken or used bytes: nothing else changed
+abbrev pub Uses : Forwarding → Forwarding → Type 0
+Uses p q = q ≡ record p {
+  up = q.up;
+  up_held = q.up_held;
+  phase = q.phase;
+  down = q.down;
+  down_held = q.down_held;
+  says = q.says;
+  kept = q.kept;
+  looks = q.looks;
+}
+
+-- what is left of it once its pass is given away: what waits for its client, whether its answer was
+-- read whole and its server's connection is clean, and where its client may ask again, which it may
+-- where both messages were whole and it was told so, the bytes behind its request
+abbrev pub IsLeftOf : Forwarding → Rest → Type 0
+IsLeftOf p (Settling s) = (s.out ≡ p.down) × (s.behind ≡ p.up_held) × (s.clean ≡ is_clean p)
+IsLeftOf p (Leaving l) = (l.out ≡ p.down) × (l.whole ≡ has_answered p) × (l.clean ≡ is_clean p)
+    × (p.phase ≡ Body → is_done p.up.coding ≡ true → is_done p.down.coding ≡ true → p.says ≢ Close → ⊥)

@@ -1,7 +1,7 @@
 #!/usr/bin/env bash
 # bench/edits.sh [NAME..]: tries the edits bench/edits/NAME/*.edit, each of which the prover must refuse as it refuses those of
 # crates/NAME/must-fail; without names all. `rt ci` leaves these out: before it tries the edits of a crate it proves the crate once
-# more, which takes one processor more than a minute in these crates. Prints a line for each; the status is 1 where one wasn't
+# more, which takes one processor over a minute in most of these. Prints a line for each; the status is 1 where one wasn't
 # refused. Takes about six hours on one processor, and the libraries below are built first where they aren't there.
 set -u
 cd "$(dirname "$0")/.." || exit 2

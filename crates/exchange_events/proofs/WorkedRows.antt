@@ -4,7 +4,7 @@ use Rattle.base_verdict.specs.declared.Ending.TheVariants.{Done, Failed}
 use Rattle.grant_board.specs.Views.{Grant}
 use Rattle.exchange_machine.specs.declared.dialing.Dialing as dialings
 use Rattle.exchange_machine.specs.declared.waiting.Waiting as waitings
-use Rattle.exchange_events.specs.Answers.{Stays, IsLeft, IsGranted, MissesServer, IsHalfClosed}
+use Rattle.exchange_events.specs.Answers.{Stays, LosesClient, IsGranted, MissesServer, IsHalfClosed}
 use Rattle.exchange_events.specs.declared.exchange.Exchange.TheVariants.{Waiting, Dialing, Over}
 use Rattle.exchange_events.specs.declared.exchange.Outcome.{Outcome}
 use Rattle.exchange_events.specs.declared.exchange.Outcome.TheVariants.{Quiet, Posts, Returns}
@@ -21,13 +21,13 @@ returns : (pass : Grant) → IsGranted Over pass 0 (Returns pass) Over
 returns pass = (refl, refl, refl)
 
 -- a client that left: the pass goes back as done, and not with it
-goes_back : (d : dialings.Dialing) → IsLeft (Dialing d) (Posts d.pass Done) Over
+goes_back : (d : dialings.Dialing) → LosesClient (Dialing d) (Posts d.pass Done) Over
 goes_back d = record { gives = refl; over = refl }
 
 quiet_posts_none : (pass : Grant) → Quiet ≡ Posts pass Done → ⊥
 quiet_posts_none pass is = cc
 
-not_silently : (d : dialings.Dialing) → ¬ (IsLeft (Dialing d) Quiet Over)
+not_silently : (d : dialings.Dialing) → ¬ (LosesClient (Dialing d) Quiet Over)
 not_silently d left = quiet_posts_none d.pass left.gives
 
 -- no byte reached the server, which can't be reached: the request waits again

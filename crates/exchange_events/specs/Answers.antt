@@ -1,6 +1,6 @@
--- What an event makes of an exchange, where no bytes are relayed: how much of it is taken, what is
--- given away, and the next exchange.
-use Rattle.std.specs.Prelude.{◌≡◌, ◌≢◌, ◌⊎◌, ℕ, ◌+◌, ◌≤◌, Bool, true, false, [], ◌++◌, length, take}
+-- What an event makes of an exchange, beyond its history: how much of it is taken, what is given
+-- away, and the next exchange.
+use Rattle.std.specs.Prelude.{◌≡◌, ◌≢◌, ◌⊎◌, ℕ, ◌+◌, ◌≤◌, min, Bool, true, false, if◌then◌else◌, [], ◌++◌, length, take, drop}
 use Rattle.base_verdict.specs.declared.Ending.TheVariants.{Done, Failed}
 use Rattle.grant_board.specs.Views.{Grant}
 use Rattle.http_bodies.specs.Stops.{is_bad, is_done}
@@ -9,14 +9,21 @@ use Rattle.http_bodies.specs.declared.outbox.TheConstants.{OUTBOX_BYTES}
 use Rattle.http_texts.specs.Replies.{refusal_text}
 use Rattle.http_texts.specs.declared.refusals.Code.{Code}
 use Rattle.http_texts.specs.declared.refusals.Code.TheVariants.{BadGateway, BadRequest, Unavailable}
-use Rattle.exchange_machine.specs.Changes.{IsLeftOf}
-use Rattle.exchange_machine.specs.Repeatables.{IsRepeatable, IsUntouched}
+use Rattle.exchange_machine.specs.Changes.{IsBegunOn, IsLeftOf, Uses, begun_after, left_after}
+use Rattle.exchange_machine.specs.Repeatables.{IsSentAgain, IsUntouched}
+use Rattle.exchange_machine.specs.Stages.{IsChecked}
 use Rattle.exchange_machine.specs.Wants.{is_none}
+use Rattle.exchange_machine.specs.declared.asking.Turn.TheVariants as Turns
 use Rattle.exchange_machine.specs.declared.dialing.Dialing as dialings
 use Rattle.exchange_machine.specs.declared.dialing.Terms.{Terms}
 use Rattle.exchange_machine.specs.declared.ending.Rest.TheVariants as rests
 use Rattle.exchange_machine.specs.declared.forwarding.Forwarding as forwardings
+use Rattle.exchange_machine.specs.declared.leaving.Leaving as leavings
+use Rattle.exchange_machine.specs.declared.settling.Settling as settlings
+use Rattle.exchange_machine.specs.declared.signs.Sign.{Sign}
+use Rattle.exchange_machine.specs.declared.signs.Sign.TheVariants.{ServerEnded}
 use Rattle.exchange_machine.specs.declared.sides.Down.TheVariants.{Body}
+use Rattle.exchange_machine.specs.declared.telling.Telling as tellings
 use Rattle.exchange_events.specs.Steps.{is_left}
 use Rattle.exchange_events.specs.declared.event.Event.{Event}
 use Rattle.exchange_events.specs.declared.event.Event.TheVariants as Events
@@ -34,29 +41,18 @@ pub record Stays (x : Exchange) (used : ℕ) (outcome : Outcome) (next : Exchang
   pub same : next ≡ x
 
 -- its client is sent this refusal, whole, and nothing else
-abbrev pub IsTold : Code → Exchange → Type 0
-IsTold code (Asking a) = ⊥
-IsTold code (Waiting w) = ⊥
-IsTold code (Dialing d) = ⊥
-IsTold code (Forwarding p) = ⊥
-IsTold code (Settling s) = ⊥
-IsTold code (Leaving l) = ⊥
-IsTold code (Telling t) = t.rest.now ≡ refusal_text code
-IsTold code Over = ⊥
+abbrev pub IsSentRefusal : Code → Exchange → Type 0
+IsSentRefusal code (Telling t) = t.rest.now ≡ refusal_text code
+IsSentRefusal code x = ⊥
 
 -- what an exchange gives away whose client left: the pass that it holds, as done
 abbrev pub let_go : Exchange → Outcome
-let_go (Asking a) = Quiet
-let_go (Waiting w) = Quiet
 let_go (Dialing d) = Posts d.pass Done
 let_go (Forwarding p) = Posts p.pass Done
-let_go (Settling s) = Quiet
-let_go (Leaving l) = Quiet
-let_go (Telling t) = Quiet
-let_go Over = Quiet
+let_go x = Quiet
 
 -- its client left: nothing more is sent, and it gives away what it holds
-pub record IsLeft (x : Exchange) (outcome : Outcome) (next : Exchange) : Type 0 where
+pub record LosesClient (x : Exchange) (outcome : Outcome) (next : Exchange) : Type 0 where
   pub gives : outcome ≡ let_go x
   pub over : next ≡ Over
 
@@ -64,46 +60,162 @@ pub record IsLeft (x : Exchange) (outcome : Outcome) (next : Exchange) : Type 0 
 -- waits for it is still sent; else it is sent this refusal behind what is left of the `100`, where
 -- there is room for both.
 abbrev pub StopsWith : Code → forwardings.Forwarding → Outcome → Exchange → Type 0
-StopsWith code p outcome (Asking a) = ⊥
-StopsWith code p outcome (Waiting w) = ⊥
-StopsWith code p outcome (Dialing d) = ⊥
-StopsWith code p outcome (Forwarding q) = ⊥
-StopsWith code p outcome (Settling s) = ⊥
 StopsWith code p outcome (Leaving l) = (outcome ≡ Posts p.pass Done) × (l.whole ≡ false) × (l.clean ≡ false)
     × (p.begun ≡ true → l.out ≡ p.down)
     × (p.begun ≡ false → length (take p.leave_left p.down.out) + length (refusal_text code) ≤ OUTBOX_BYTES
     → l.out.out ≡ take p.leave_left p.down.out ++ refusal_text code)
-StopsWith code p outcome (Telling t) = ⊥
-StopsWith code p outcome Over = ⊥
+StopsWith code p outcome next = ⊥
+
+-- there is no memory, or never room, for a text: it stops with 503, and counts as starved where the
+-- client took no byte of the answer
+abbrev pub StarvesIn : forwardings.Forwarding → Outcome → Exchange → Type 0
+StarvesIn p outcome next =
+    StopsWith Unavailable p (Posts p.pass Done) next × (outcome ≡ (if p.begun then Posts p.pass Done else StarvedPosts p.pass Done))
+
+-- both messages may go on
+abbrev pub RelaysOn : forwardings.Forwarding → Outcome → Exchange → Type 0
+RelaysOn p outcome next = (next ≡ Forwarding p) × (outcome ≡ Quiet)
+
+-- The answer is whole, and the pass is posted as done: what waits for the client is still sent, and
+-- it may ask again where both messages were whole and it was told so.
+abbrev pub EndsWhole : forwardings.Forwarding → Outcome → Exchange → Type 0
+EndsWhole p outcome (Settling s) = (outcome ≡ Posts p.pass Done) × IsLeftOf p (rests.Settling s)
+EndsWhole p outcome (Leaving l) = (outcome ≡ Posts p.pass Done) × IsLeftOf p (rests.Leaving l)
+EndsWhole p outcome next = ⊥
+
+-- the same request is sent on another connection, anew
+abbrev pub Repeats : forwardings.Forwarding → Outcome → Exchange → Type 0
+Repeats p outcome (Dialing d) = (outcome ≡ Retries) × (d.pass ≡ p.pass) × (d.reached ≡ p.reached)
+    × (d.waiting.asked.view ≡ p.view) × (d.waiting.asked.framing ≡ p.framing) × (d.waiting.asked.held ≡ p.up_held)
+Repeats p outcome next = ⊥
+
+-- the bytes that wait for a server are sent on another connection, as they are
+abbrev pub Redials : forwardings.Forwarding → Outcome → Exchange → Type 0
+Redials p outcome next = (outcome ≡ Retries) × (next ≡ Forwarding (record p { cut = false; ended = false; well = false; dialing = true }))
+
+-- before the answer's own head, where no whole head is there: a bad request is refused; until the
+-- server's input ends both go on; then the request is sent again, where that is done, or else what
+-- waits of it; and else the client is told 502
+pub record AwaitsHead (p : forwardings.Forwarding) (outcome : Outcome) (next : Exchange) : Type 0 where
+  pub bad : is_bad p.up.coding ≡ true → StopsWith BadRequest p outcome next
+  pub more : is_bad p.up.coding ≡ false → p.ended ≡ false → RelaysOn p outcome next
+  pub again : is_bad p.up.coding ≡ false → p.ended ≡ true → IsSentAgain p → Repeats p outcome next
+  pub redials : is_bad p.up.coding ≡ false → p.ended ≡ true → ¬ (IsSentAgain p) → IsUntouched p → Redials p outcome next
+  pub ended : is_bad p.up.coding ≡ false → p.ended ≡ true → ¬ (IsSentAgain p) → ¬ (IsUntouched p) → StopsWith BadGateway p outcome next
+
+-- behind it: a bad body is cut, or told as 502 where nothing of it was taken; a whole answer settles;
+-- until the server's input ends and all its bytes are used both go on; then a body that goes on to
+-- the end is whole, and any other breaks off
+pub record AwaitsBody (p : forwardings.Forwarding) (outcome : Outcome) (next : Exchange) : Type 0 where
+  pub bad : is_bad p.down.coding ≡ true → StopsWith BadGateway p outcome next
+  pub whole : is_bad p.down.coding ≡ false → is_done p.down.coding ≡ true → EndsWhole p outcome next
+  pub more : is_bad p.down.coding ≡ false → is_done p.down.coding ≡ false → p.ended ≡ false → RelaysOn p outcome next
+  pub held : is_bad p.down.coding ≡ false → is_done p.down.coding ≡ false → p.down_held.items ≢ [] → RelaysOn p outcome next
+  pub end : is_bad p.down.coding ≡ false → is_done p.down.coding ≡ false → p.ended ≡ true → p.down_held.items ≡ [] → p.down.coding ≡ ToEnd
+      → EndsWhole p outcome next
+  pub broken : is_bad p.down.coding ≡ false → is_done p.down.coding ≡ false → p.ended ≡ true → p.down_held.items ≡ [] → p.down.coding ≢ ToEnd
+      → StopsWith BadGateway p outcome next
+
+-- before the answer's own head: none is there yet; or a head's text waits for room behind bytes for
+-- the client; or what came has no head that is handed on; or there is no memory, or never room, for it
+abbrev pub AwaitsAnswer : forwardings.Forwarding → Outcome → Exchange → Type 0
+AwaitsAnswer p outcome next = AwaitsHead p outcome next
+    ⊎ ((p.down.out ≢ []) × RelaysOn p outcome next) ⊎ StopsWith BadGateway p outcome next ⊎ StarvesIn p outcome next
+
+-- An exchange with both sides active uses the bytes that it holds, as far as there is room, and is
+-- judged then.
+pub record IsJudged (p : forwardings.Forwarding) (outcome : Outcome) (next : Exchange) : Type 0 where
+  pub now : forwardings.Forwarding
+  pub uses : Uses p now
+  pub head : now.phase ≢ Body → AwaitsAnswer now outcome next
+  pub body : now.phase ≡ Body → AwaitsBody now outcome next
+
+-- only an exchange with both sides active hears of it: it changes so, and is judged
+abbrev pub Hears : (forwardings.Forwarding → ℕ → forwardings.Forwarding → Type 0) → Exchange → ℕ → Outcome → Exchange → Type 0
+Hears Changes (Forwarding p) used outcome next = (now : forwardings.Forwarding) × Changes p used now × IsJudged now outcome next
+Hears Changes x used outcome next = Stays x used outcome next
+
+-- bytes came, and were used or held
+abbrev pub HasUsed : forwardings.Forwarding → ℕ → forwardings.Forwarding → Type 0
+HasUsed p used now = Uses p now
+
+-- the server took this number of the bytes that waited for it
+abbrev pub HasServed : ℕ → forwardings.Forwarding → ℕ → forwardings.Forwarding → Type 0
+HasServed count p used now = (used ≡ min count (length p.up.out)) × (now.up.out ≡ drop used p.up.out) × (now ≡ record p { up = now.up; reached = true })
+
+-- the client took this number of the bytes that waited for it
+abbrev pub HasTold : ℕ → forwardings.Forwarding → ℕ → forwardings.Forwarding → Type 0
+HasTold count p used now = (used ≡ min count (length p.down.out)) × (now.down.out ≡ drop used p.down.out)
+    × (now ≡ record p { down = now.down; begun = begun_after p.begun p.leave_left used; leave_left = left_after p.leave_left used })
+
+-- the sign that a server's input came to its end without an error
+abbrev pub is_end_sign : Sign → Bool
+is_end_sign ServerEnded = true
+is_end_sign sign = false
+
+-- the server's input came to its end, without an error or with one
+abbrev pub HasHeardEnd : Bool → forwardings.Forwarding → ℕ → forwardings.Forwarding → Type 0
+HasHeardEnd well p used now = (used ≡ 0) × (now ≡ record p { ended = true; well = well })
+
+-- the server takes no more
+abbrev pub IsCutOff : forwardings.Forwarding → ℕ → forwardings.Forwarding → Type 0
+IsCutOff p used now = (used ≡ 0) × (now ≡ record p { cut = true })
+
+-- while its head is read: more of it is awaited, or its request waits for a pass, behind whose head
+-- stands nothing that can't be its body; or it is refused; or memory is short
+abbrev pub HasReadOn : Outcome → Exchange → Type 0
+HasReadOn outcome (Asking a) = outcome ≡ Quiet
+HasReadOn outcome (Waiting w) = (outcome ≡ Quiet) × IsChecked (Turns.Whole w)
+HasReadOn outcome (Telling t) = ((outcome ≡ Quiet) × IsSentRefusal BadRequest (Telling t)) ⊎ ((outcome ≡ Starved) × IsSentRefusal Unavailable (Telling t))
+HasReadOn outcome x = ⊥
+
+-- the head of its request was read, as far as bytes came
+abbrev pub IsReadOn : Exchange → Type 0
+IsReadOn next = (outcome : Outcome) × HasReadOn outcome next
+
+-- bytes came from the client
+abbrev pub HearsClient : Exchange → ℕ → Outcome → Exchange → Type 0
+HearsClient (Asking a) used outcome next = HasReadOn outcome next
+HearsClient x used outcome next = Hears HasUsed x used outcome next
+
+-- once both sides are done, the client took this number of the bytes that still wait for it
+abbrev pub TellsSettling : ℕ → settlings.Settling → ℕ → Exchange → Type 0
+TellsSettling count s used (Settling t) =
+    (used ≡ min count (length s.out.out)) × (t.out.out ≡ drop used s.out.out) × (t.behind ≡ s.behind) × (t.clean ≡ s.clean)
+TellsSettling count s used next = ⊥
+
+abbrev pub TellsLeaving : ℕ → leavings.Leaving → ℕ → Exchange → Type 0
+TellsLeaving count l used (Leaving m) =
+    (used ≡ min count (length l.out.out)) × (m.out.out ≡ drop used l.out.out) × (m.whole ≡ l.whole) × (m.clean ≡ l.clean)
+TellsLeaving count l used next = ⊥
+
+abbrev pub TellsRefused : ℕ → tellings.Telling → ℕ → Exchange → Type 0
+TellsRefused count t used (Telling u) = (used ≡ min count (length t.rest.now)) × (u.rest.now ≡ drop used t.rest.now)
+TellsRefused count t used next = ⊥
+
+-- the client took this number of the bytes for it, at any stage
+abbrev pub TellsClient : ℕ → Exchange → ℕ → Outcome → Exchange → Type 0
+TellsClient count (Settling s) used outcome next = (outcome ≡ Quiet) × TellsSettling count s used next
+TellsClient count (Leaving l) used outcome next = (outcome ≡ Quiet) × TellsLeaving count l used next
+TellsClient count (Telling t) used outcome next = (outcome ≡ Quiet) × TellsRefused count t used next
+TellsClient count x used outcome next = Hears (HasTold count) x used outcome next
 
 -- a pass comes: who waits for one takes it, and everyone else returns it
 abbrev pub IsGranted : Exchange → Grant → ℕ → Outcome → Exchange → Type 0
-IsGranted (Asking a) pass used outcome next = (used ≡ 0) × (outcome ≡ Returns pass) × (next ≡ Asking a)
 IsGranted (Waiting w) pass used outcome next =
     (used ≡ 1) × (outcome ≡ Quiet) × (next ≡ Dialing (record { waiting = w; pass = pass; reached = false }))
-IsGranted (Dialing d) pass used outcome next = (used ≡ 0) × (outcome ≡ Returns pass) × (next ≡ Dialing d)
-IsGranted (Forwarding p) pass used outcome next = (used ≡ 0) × (outcome ≡ Returns pass) × (next ≡ Forwarding p)
-IsGranted (Settling s) pass used outcome next = (used ≡ 0) × (outcome ≡ Returns pass) × (next ≡ Settling s)
-IsGranted (Leaving l) pass used outcome next = (used ≡ 0) × (outcome ≡ Returns pass) × (next ≡ Leaving l)
-IsGranted (Telling t) pass used outcome next = (used ≡ 0) × (outcome ≡ Returns pass) × (next ≡ Telling t)
-IsGranted Over pass used outcome next = (used ≡ 0) × (outcome ≡ Returns pass) × (next ≡ Over)
+IsGranted x pass used outcome next = (used ≡ 0) × (outcome ≡ Returns pass) × (next ≡ x)
 
 -- no pass comes: who waits for one is told 503
 abbrev pub IsUnserved : Exchange → ℕ → Outcome → Exchange → Type 0
-IsUnserved (Asking a) used outcome next = Stays (Asking a) used outcome next
-IsUnserved (Waiting w) used outcome next = (outcome ≡ Quiet) × IsTold Unavailable next
-IsUnserved (Dialing d) used outcome next = Stays (Dialing d) used outcome next
-IsUnserved (Forwarding p) used outcome next = Stays (Forwarding p) used outcome next
-IsUnserved (Settling s) used outcome next = Stays (Settling s) used outcome next
-IsUnserved (Leaving l) used outcome next = Stays (Leaving l) used outcome next
-IsUnserved (Telling t) used outcome next = Stays (Telling t) used outcome next
-IsUnserved Over used outcome next = Stays Over used outcome next
+IsUnserved (Waiting w) used outcome next = (outcome ≡ Quiet) × IsSentRefusal Unavailable next
+IsUnserved x used outcome next = Stays x used outcome next
 
 -- A server can't be reached. Where no byte of the request reached one, the pass failed, and the
 -- request waits for another; else its client is told 503.
 pub record MissesServer (d : dialings.Dialing) (outcome : Outcome) (next : Exchange) : Type 0 where
   pub again : d.reached ≡ false → (outcome ≡ Posts d.pass Failed) × (next ≡ Waiting d.waiting)
-  pub never : d.reached ≡ true → (outcome ≡ Posts d.pass Done) × IsTold Unavailable next
+  pub never : d.reached ≡ true → (outcome ≡ Posts d.pass Done) × IsSentRefusal Unavailable next
 
 -- the same where a connection is awaited in place of one that broke
 pub record LosesServer (p : forwardings.Forwarding) (used : ℕ) (outcome : Outcome) (next : Exchange) : Type 0 where
@@ -111,38 +223,23 @@ pub record LosesServer (p : forwardings.Forwarding) (used : ℕ) (outcome : Outc
   pub stops : p.dialing ≡ true → StopsWith Unavailable p outcome next
 
 abbrev pub IsUnreached : Exchange → ℕ → Outcome → Exchange → Type 0
-IsUnreached (Asking a) used outcome next = Stays (Asking a) used outcome next
-IsUnreached (Waiting w) used outcome next = Stays (Waiting w) used outcome next
 IsUnreached (Dialing d) used outcome next = MissesServer d outcome next
 IsUnreached (Forwarding p) used outcome next = LosesServer p used outcome next
-IsUnreached (Settling s) used outcome next = Stays (Settling s) used outcome next
-IsUnreached (Leaving l) used outcome next = Stays (Leaving l) used outcome next
-IsUnreached (Telling t) used outcome next = Stays (Telling t) used outcome next
-IsUnreached Over used outcome next = Stays Over used outcome next
+IsUnreached x used outcome next = Stays x used outcome next
 
 -- The client is silent for too long: before its request is whole it is told 400, or nothing where it
 -- sent nothing; while a pass or a connection is waited for, nothing changes; else it counts as gone.
 abbrev pub IsSilent : Exchange → ℕ → Outcome → Exchange → Type 0
 IsSilent (Asking a) used outcome next = (outcome ≡ Quiet)
-    × (is_none a.held.items ≡ true → next ≡ Over) × (is_none a.held.items ≡ false → IsTold BadRequest next)
+    × (is_none a.held.items ≡ true → next ≡ Over) × (is_none a.held.items ≡ false → IsSentRefusal BadRequest next)
 IsSilent (Waiting w) used outcome next = Stays (Waiting w) used outcome next
 IsSilent (Dialing d) used outcome next = Stays (Dialing d) used outcome next
-IsSilent (Forwarding p) used outcome next = IsLeft (Forwarding p) outcome next
-IsSilent (Settling s) used outcome next = IsLeft (Settling s) outcome next
-IsSilent (Leaving l) used outcome next = IsLeft (Leaving l) outcome next
-IsSilent (Telling t) used outcome next = IsLeft (Telling t) outcome next
-IsSilent Over used outcome next = IsLeft Over outcome next
+IsSilent x used outcome next = LosesClient x outcome next
 
 -- the server is silent for too long: 502
 abbrev pub IsMute : Exchange → ℕ → Outcome → Exchange → Type 0
-IsMute (Asking a) used outcome next = Stays (Asking a) used outcome next
-IsMute (Waiting w) used outcome next = Stays (Waiting w) used outcome next
-IsMute (Dialing d) used outcome next = Stays (Dialing d) used outcome next
 IsMute (Forwarding p) used outcome next = StopsWith BadGateway p outcome next
-IsMute (Settling s) used outcome next = Stays (Settling s) used outcome next
-IsMute (Leaving l) used outcome next = Stays (Leaving l) used outcome next
-IsMute (Telling t) used outcome next = Stays (Telling t) used outcome next
-IsMute Over used outcome next = Stays Over used outcome next
+IsMute x used outcome next = Stays x used outcome next
 
 abbrev pub IsOverdue : TimeoutKind → Exchange → ℕ → Outcome → Exchange → Type 0
 IsOverdue Clocks.Client x used outcome next = IsSilent x used outcome next
@@ -152,138 +249,39 @@ IsOverdue Clocks.Server x used outcome next = IsMute x used outcome next
 
 -- the client sends no more: it is given up where the rules say so, and else nothing changes
 pub record IsHalfClosed (aborts : Bool) (x : Exchange) (used : ℕ) (outcome : Outcome) (next : Exchange) : Type 0 where
-  pub leaves : is_left aborts x ≡ true → IsLeft x outcome next
+  pub leaves : is_left aborts x ≡ true → LosesClient x outcome next
   pub stays : is_left aborts x ≡ false → Stays x used outcome next
 
--- both messages may go on
-abbrev pub GoesOn : forwardings.Forwarding → Outcome → Exchange → Type 0
-GoesOn p outcome next = (next ≡ Forwarding p) × (outcome ≡ Quiet)
+-- A request whose server was reached begins on these terms, with the first byte still to be sent; or
+-- there is no memory or no room for its head: 503.
+abbrev pub StartsOn : dialings.Dialing → Terms → ℕ → Outcome → Exchange → Type 0
+StartsOn d terms used outcome next =
+    ((used ≡ 1) × (p : forwardings.Forwarding) × IsBegunOn d terms p × IsJudged p outcome next)
+    ⊎ ((used ≡ 0) × (outcome ≡ StarvedPosts d.pass Done) × IsSentRefusal Unavailable next)
 
--- The answer is whole, and the pass is posted as done: what waits for the client is still sent, and
--- it may ask again where both messages were whole and it was told so.
-abbrev pub Settles : forwardings.Forwarding → Outcome → Exchange → Type 0
-Settles p outcome (Asking a) = ⊥
-Settles p outcome (Waiting w) = ⊥
-Settles p outcome (Dialing d) = ⊥
-Settles p outcome (Forwarding q) = ⊥
-Settles p outcome (Settling s) = (outcome ≡ Posts p.pass Done) × IsLeftOf p (rests.Settling s)
-Settles p outcome (Leaving l) = (outcome ≡ Posts p.pass Done) × IsLeftOf p (rests.Leaving l)
-Settles p outcome (Telling t) = ⊥
-Settles p outcome Over = ⊥
-
--- the same request is sent on another connection: anew, or the bytes that wait for a server as they are
-abbrev pub Repeats : forwardings.Forwarding → Outcome → Exchange → Type 0
-Repeats p outcome (Asking a) = ⊥
-Repeats p outcome (Waiting w) = ⊥
-Repeats p outcome (Dialing d) = (outcome ≡ Retries) × (d.pass ≡ p.pass) × (d.waiting.asked.view ≡ p.view) × IsRepeatable p
-Repeats p outcome (Forwarding q) = (outcome ≡ Retries) × (q ≡ record p { cut = false; ended = false; well = false; dialing = true }) × IsUntouched p
-Repeats p outcome (Settling s) = ⊥
-Repeats p outcome (Leaving l) = ⊥
-Repeats p outcome (Telling t) = ⊥
-Repeats p outcome Over = ⊥
-
--- before the answer's own head: a bad request is refused; until the server's input ends both go on;
--- then the request is sent again where it may be, and else the client is told 502
-pub record AwaitsHead (p : forwardings.Forwarding) (outcome : Outcome) (next : Exchange) : Type 0 where
-  pub bad : is_bad p.up.coding ≡ true → StopsWith BadRequest p outcome next
-  pub more : is_bad p.up.coding ≡ false → p.ended ≡ false → GoesOn p outcome next
-  pub ended : is_bad p.up.coding ≡ false → p.ended ≡ true → Repeats p outcome next ⊎ StopsWith BadGateway p outcome next
-
--- behind it: a bad body is cut, or told as 502 where nothing of it was taken; a whole answer settles;
--- until the server's input ends and all its bytes are used both go on; then a body that goes on to
--- the end is whole, and any other breaks off
-pub record AwaitsBody (p : forwardings.Forwarding) (outcome : Outcome) (next : Exchange) : Type 0 where
-  pub bad : is_bad p.down.coding ≡ true → StopsWith BadGateway p outcome next
-  pub whole : is_bad p.down.coding ≡ false → is_done p.down.coding ≡ true → Settles p outcome next
-  pub more : is_bad p.down.coding ≡ false → is_done p.down.coding ≡ false → p.ended ≡ false → GoesOn p outcome next
-  pub held : is_bad p.down.coding ≡ false → is_done p.down.coding ≡ false → p.down_held.items ≢ [] → GoesOn p outcome next
-  pub end : is_bad p.down.coding ≡ false → is_done p.down.coding ≡ false → p.ended ≡ true → p.down_held.items ≡ [] → p.down.coding ≡ ToEnd
-      → Settles p outcome next
-  pub broken : is_bad p.down.coding ≡ false → is_done p.down.coding ≡ false → p.ended ≡ true → p.down_held.items ≡ [] → p.down.coding ≢ ToEnd
-      → StopsWith BadGateway p outcome next
-
--- the same request, on the same pass, with what was said of its connection
-pub record IsOfSame (p q : forwardings.Forwarding) : Type 0 where
-  pub view : q.view ≡ p.view
-  pub pass : q.pass ≡ p.pass
-  pub terms : (q.adds ≡ p.adds) × (q.willing ≡ p.willing) × (q.fresh ≡ p.fresh)
-
--- where an exchange with both sides active goes on, or its request is sent again, these stay
-abbrev pub Keeps : forwardings.Forwarding → Exchange → Type 0
-Keeps p (Asking a) = Unit {0}
-Keeps p (Waiting w) = Unit {0}
-Keeps p (Dialing d) = (d.waiting.asked.view ≡ p.view) × (d.pass ≡ p.pass)
-Keeps p (Forwarding q) = IsOfSame p q
-Keeps p (Settling s) = Unit {0}
-Keeps p (Leaving l) = Unit {0}
-Keeps p (Telling t) = Unit {0}
-Keeps p Over = Unit {0}
-
--- where both sides are active and the answer's body is read, it is neither whole nor bad, and more of
--- it may come, or waits to be used
-abbrev pub IsRunning : Exchange → Type 0
-IsRunning (Asking a) = Unit {0}
-IsRunning (Waiting w) = Unit {0}
-IsRunning (Dialing d) = Unit {0}
-IsRunning (Forwarding p) = p.phase ≡ Body
-    → (is_bad p.down.coding ≡ false) × (is_done p.down.coding ≡ false) × ((p.ended ≡ false) ⊎ (p.down_held.items ≢ []))
-IsRunning (Settling s) = Unit {0}
-IsRunning (Leaving l) = Unit {0}
-IsRunning (Telling t) = Unit {0}
-IsRunning Over = Unit {0}
-
--- a request whose server was reached goes on as that request, on its pass, on these terms
-abbrev pub StartsOn : dialings.Dialing → Terms → Exchange → Type 0
-StartsOn d terms (Asking a) = Unit {0}
-StartsOn d terms (Waiting w) = Unit {0}
-StartsOn d terms (Dialing e) = (e.waiting.asked.view ≡ d.waiting.asked.view) × (e.pass ≡ d.pass)
-StartsOn d terms (Forwarding q) = (q.view ≡ d.waiting.asked.view) × (q.pass ≡ d.pass)
-    × (q.adds ≡ terms.adds) × (q.willing ≡ terms.willing) × (q.fresh ≡ terms.fresh)
-StartsOn d terms (Settling s) = Unit {0}
-StartsOn d terms (Leaving l) = Unit {0}
-StartsOn d terms (Telling t) = Unit {0}
-StartsOn d terms Over = Unit {0}
-
--- the same where a connection is awaited in place of one that broke
+-- one for which a connection is awaited in place of one that broke goes on as it is
 pub record GoesOnOn (p : forwardings.Forwarding) (terms : Terms) (used : ℕ) (outcome : Outcome) (next : Exchange) : Type 0 where
   pub other : p.dialing ≡ false → Stays (Forwarding p) used outcome next
-  pub goes : p.dialing ≡ true → Keeps (record p { fresh = terms.fresh }) next
+  pub goes : p.dialing ≡ true → (used ≡ 0) × IsJudged (record p { fresh = terms.fresh; dialing = false }) outcome next
 
 abbrev pub IsConnected : Exchange → Terms → ℕ → Outcome → Exchange → Type 0
-IsConnected (Asking a) terms used outcome next = Stays (Asking a) used outcome next
-IsConnected (Waiting w) terms used outcome next = Stays (Waiting w) used outcome next
-IsConnected (Dialing d) terms used outcome next = StartsOn d terms next
+IsConnected (Dialing d) terms used outcome next = StartsOn d terms used outcome next
 IsConnected (Forwarding p) terms used outcome next = GoesOnOn p terms used outcome next
-IsConnected (Settling s) terms used outcome next = Stays (Settling s) used outcome next
-IsConnected (Leaving l) terms used outcome next = Stays (Leaving l) used outcome next
-IsConnected (Telling t) terms used outcome next = Stays (Telling t) used outcome next
-IsConnected Over terms used outcome next = Stays Over used outcome next
+IsConnected x terms used outcome next = Stays x used outcome next
 
--- of a server's side only an exchange with both sides active hears
-abbrev pub HearsAlone : Exchange → ℕ → Outcome → Exchange → Type 0
-HearsAlone (Asking a) used outcome next = Stays (Asking a) used outcome next
-HearsAlone (Waiting w) used outcome next = Stays (Waiting w) used outcome next
-HearsAlone (Dialing d) used outcome next = Stays (Dialing d) used outcome next
-HearsAlone (Forwarding p) used outcome next = Keeps p next × IsRunning next
-HearsAlone (Settling s) used outcome next = Stays (Settling s) used outcome next
-HearsAlone (Leaving l) used outcome next = Stays (Leaving l) used outcome next
-HearsAlone (Telling t) used outcome next = Stays (Telling t) used outcome next
-HearsAlone Over used outcome next = Stays Over used outcome next
-
--- What an event makes of an exchange. Of the client's bytes, and of those that it took, the history
--- alone tells; of a new connection and of a server's side, beyond the history, what goes on.
+-- what an event makes of an exchange
 abbrev pub Does : Bool → Exchange → Event → ℕ → Outcome → Exchange → Type 0
-Does aborts x (Events.ClientBytes input) used outcome next = Unit {0}
-Does aborts x (Events.ServerBytes input) used outcome next = HearsAlone x used outcome next
-Does aborts x (Events.ClientTook count) used outcome next = Unit {0}
-Does aborts x (Events.ServerTook count) used outcome next = HearsAlone x used outcome next
+Does aborts x (Events.ClientBytes input) used outcome next = HearsClient x used outcome next
+Does aborts x (Events.ServerBytes input) used outcome next = Hears HasUsed x used outcome next
+Does aborts x (Events.ClientTook count) used outcome next = TellsClient count x used outcome next
+Does aborts x (Events.ServerTook count) used outcome next = Hears (HasServed count) x used outcome next
 Does aborts x (Events.Granted pass) used outcome next = IsGranted x pass used outcome next
 Does aborts x Events.Unserved used outcome next = IsUnserved x used outcome next
 Does aborts x (Events.Connected terms) used outcome next = IsConnected x terms used outcome next
 Does aborts x Events.Unreachable used outcome next = IsUnreached x used outcome next
 Does aborts x Events.ClientEnd used outcome next = IsHalfClosed aborts x used outcome next
-Does aborts x Events.ClientFailed used outcome next = IsLeft x outcome next
-Does aborts x Events.ServerEnd used outcome next = HearsAlone x used outcome next
-Does aborts x Events.ServerFailed used outcome next = HearsAlone x used outcome next
-Does aborts x Events.ServerDeaf used outcome next = HearsAlone x used outcome next
+Does aborts x Events.ClientFailed used outcome next = LosesClient x outcome next
+Does aborts x Events.ServerEnd used outcome next = Hears (HasHeardEnd true) x used outcome next
+Does aborts x Events.ServerFailed used outcome next = Hears (HasHeardEnd false) x used outcome next
+Does aborts x Events.ServerDeaf used outcome next = Hears IsCutOff x used outcome next
 Does aborts x (Events.TimeOver clock) used outcome next = IsOverdue clock x used outcome next

@@ -1,9 +1,10 @@
-ghost use Rattle.std.specs.Prelude.{◌≡◌, ◌≤◌, ℕ, List, [], false, true, Some, IsTrue, length, take};
+ghost use Rattle.std.specs.Prelude.{◌≡◌, ◌≤◌, ℕ, List, [], true, false, Some, IsTrue, length, min, take};
+ghost use Rattle.exchange_machine.specs.Changes.{Uses};
 ghost use Rattle.exchange_machine.specs.Histories.{ExchangeHistory, client_came, server_came, server_got, client_got, signed};
 ghost use Rattle.exchange_machine.specs.Reasons.{told_for};
 ghost use Rattle.exchange_machine.specs.declared.dialing.Terms.{Terms};
 ghost use Rattle.exchange_machine.specs.declared.signs.Sign.{Sign};
-ghost use Rattle.exchange_machine.specs.Stages.{IsAsking, IsDialing, IsForwarding, IsTurn, IsUnread};
+ghost use Rattle.exchange_machine.specs.Stages.{IsAsking, IsChecked, IsDialing, IsForwarding, IsTurn, IsUnread};
 ghost use Rattle.exchange_events.specs.Answers as answers;
 ghost use Rattle.exchange_events.specs.Steps as steps;
 ghost use Rattle.http_texts.specs.declared.additions.Additions as additions;
@@ -60,6 +61,7 @@ fn unmoved(exchange: Exchange) -> Step
 pub(crate) fn client_bytes(exchange: Exchange, alloc: Global, input: &[u8]) -> Step
     ensures within { result.used ≤ length input.now }
     ensures at { (h : ExchangeHistory) → steps.IsAtItsStage exchange h → steps.IsAtItsStage result.next (steps.ended result.outcome (client_came h (take result.used input.now))) }
+    ensures does { answers.HearsClient exchange result.used result.outcome result.next }
     ensures fails { steps.FailsInTurn result.outcome result.next }
 {
     match exchange {
@@ -72,6 +74,7 @@ pub(crate) fn client_bytes(exchange: Exchange, alloc: Global, input: &[u8]) -> S
 fn asking_bytes(asking: Asking, alloc: Global, input: &[u8]) -> Step
     ensures within { result.used ≤ length input.now }
     ensures at { (h : ExchangeHistory) → IsAsking asking h → steps.IsAtItsStage result.next (steps.ended result.outcome (client_came h (take result.used input.now))) }
+    ensures does { answers.HasReadOn result.outcome result.next }
     ensures fails { steps.FailsInTurn result.outcome result.next }
 {
     let (used, turn) = asking.client_bytes(alloc, input);
@@ -85,6 +88,7 @@ fn asking_bytes(asking: Asking, alloc: Global, input: &[u8]) -> Step
 
 fn begun(turn: Turn) -> Turned
     ensures at { (h : ExchangeHistory) → IsTurn turn h → steps.IsAtItsStage result.next (steps.ended result.outcome h) }
+    ensures does { IsChecked turn → answers.HasReadOn result.outcome result.next }
     ensures fails { steps.FailsInTurn result.outcome result.next }
 {
     match turn {
@@ -102,6 +106,7 @@ fn begun(turn: Turn) -> Turned
 
 fn unread(why: Fault) -> Turned
     ensures at { (h : ExchangeHistory) → IsUnread why h → steps.IsAtItsStage result.next (steps.ended result.outcome h) }
+    ensures does { answers.HasReadOn result.outcome result.next }
     ensures fails { steps.FailsInTurn result.outcome result.next }
 {
     if why == Fault::NoMemory {
@@ -119,8 +124,7 @@ fn unread(why: Fault) -> Turned
 fn request_bytes(mut forwarding: Forwarding, alloc: Global, input: &[u8]) -> Step
     ensures within { result.used ≤ length input.now }
     ensures at { (h : ExchangeHistory) → IsForwarding forwarding h → steps.IsAtItsStage result.next (steps.ended result.outcome (client_came h (take result.used input.now))) }
-    ensures keeps { answers.Keeps forwarding result.next }
-    ensures runs { answers.IsRunning result.next }
+    ensures does { answers.Hears answers.HasUsed (Exchange.Forwarding forwarding) result.used result.outcome result.next }
     ensures fails { steps.FailsInTurn result.outcome result.next }
 {
     let used = take_request(&mut forwarding, input);
@@ -134,7 +138,7 @@ fn request_bytes(mut forwarding: Forwarding, alloc: Global, input: &[u8]) -> Ste
 
 fn take_request(forwarding: &mut Forwarding, input: &[u8]) -> usize
     ensures within { result ≤ length input.now }
-    ensures same { answers.IsOfSame forwarding.old forwarding.new }
+    ensures uses { Uses forwarding.old forwarding.new }
     ensures passes { (h : ExchangeHistory) → IsForwarding forwarding.old h → IsForwarding forwarding.new (client_came h (take result input.now)) }
 {
     forwarding.use_held();
@@ -147,7 +151,7 @@ fn take_request(forwarding: &mut Forwarding, input: &[u8]) -> usize
 pub(crate) fn server_bytes(exchange: Exchange, alloc: Global, input: &[u8]) -> Step
     ensures within { result.used ≤ length input.now }
     ensures at { (h : ExchangeHistory) → steps.IsAtItsStage exchange h → steps.IsAtItsStage result.next (steps.ended result.outcome (server_came h (take result.used input.now))) }
-    ensures does { answers.HearsAlone exchange result.used result.outcome result.next }
+    ensures does { answers.Hears answers.HasUsed exchange result.used result.outcome result.next }
     ensures fails { steps.FailsInTurn result.outcome result.next }
 {
     match exchange {
@@ -159,8 +163,7 @@ pub(crate) fn server_bytes(exchange: Exchange, alloc: Global, input: &[u8]) -> S
 fn answer_bytes(mut forwarding: Forwarding, alloc: Global, input: &[u8]) -> Step
     ensures within { result.used ≤ length input.now }
     ensures at { (h : ExchangeHistory) → IsForwarding forwarding h → steps.IsAtItsStage result.next (steps.ended result.outcome (server_came h (take result.used input.now))) }
-    ensures keeps { answers.Keeps forwarding result.next }
-    ensures runs { answers.IsRunning result.next }
+    ensures does { answers.Hears answers.HasUsed (Exchange.Forwarding forwarding) result.used result.outcome result.next }
     ensures fails { steps.FailsInTurn result.outcome result.next }
 {
     let used = take_answer(&mut forwarding, input);
@@ -174,7 +177,7 @@ fn answer_bytes(mut forwarding: Forwarding, alloc: Global, input: &[u8]) -> Step
 
 fn take_answer(forwarding: &mut Forwarding, input: &[u8]) -> usize
     ensures within { result ≤ length input.now }
-    ensures same { answers.IsOfSame forwarding.old forwarding.new }
+    ensures uses { Uses forwarding.old forwarding.new }
     ensures passes { (h : ExchangeHistory) → IsForwarding forwarding.old h → IsForwarding forwarding.new (server_came h (take result input.now)) }
 {
     if forwarding.is_at_body() && forwarding.holds_no_answer() {
@@ -188,6 +191,7 @@ fn take_answer(forwarding: &mut Forwarding, input: &[u8]) -> usize
 
 // Returns `count`, or the number of waiting bytes where that is less.
 fn fitting(count: usize, waiting: &[u8]) -> usize
+    ensures least { result ≡ min count (length waiting.now) }
     ensures within { result ≤ length waiting.now }
     ensures same { take result waiting.now ≡ take count waiting.now }
 {
@@ -201,6 +205,7 @@ fn fitting(count: usize, waiting: &[u8]) -> usize
 pub(crate) fn client_took(exchange: Exchange, alloc: Global, count: usize) -> Step
     ensures at { (h : ExchangeHistory) → steps.IsAtItsStage exchange h
         → steps.IsAtItsStage result.next (steps.ended result.outcome (client_got h (take count (steps.to_client exchange)))) }
+    ensures does { answers.TellsClient count exchange result.used result.outcome result.next }
     ensures fails { steps.FailsInTurn result.outcome result.next }
 {
     match exchange {
@@ -239,7 +244,7 @@ pub(crate) fn client_took(exchange: Exchange, alloc: Global, count: usize) -> St
 pub(crate) fn server_took(exchange: Exchange, alloc: Global, count: usize) -> Step
     ensures at { (h : ExchangeHistory) → steps.IsAtItsStage exchange h
         → steps.IsAtItsStage result.next (steps.ended result.outcome (server_got h (take count (steps.to_server exchange)))) }
-    ensures does { answers.HearsAlone exchange result.used result.outcome result.next }
+    ensures does { answers.Hears (answers.HasServed count) exchange result.used result.outcome result.next }
     ensures fails { steps.FailsInTurn result.outcome result.next }
 {
     match exchange {
@@ -327,7 +332,7 @@ fn reconnected(mut forwarding: Forwarding, alloc: Global, terms: Terms) -> Step
 fn begin(dialing: Dialing, alloc: Global, terms: Terms) -> Step
     ensures at { (h : ExchangeHistory) → IsDialing dialing h
         → steps.IsAtItsStage result.next (steps.ended result.outcome (steps.connected_with result.used terms.adds h)) }
-    ensures does { answers.StartsOn dialing terms result.next }
+    ensures does { answers.StartsOn dialing terms result.used result.outcome result.next }
     ensures fails { steps.FailsInTurn result.outcome result.next }
 {
     let Ok(up) = Way::new(alloc) else {
@@ -352,7 +357,7 @@ fn begin(dialing: Dialing, alloc: Global, terms: Terms) -> Step
 fn short(dialing: Dialing) -> Step
     ensures at { (h : ExchangeHistory) (adds : additions.Additions) → IsDialing dialing h
         → steps.IsAtItsStage result.next (steps.ended result.outcome (steps.connected_with result.used adds h)) }
-    ensures does { (terms : Terms) → answers.StartsOn dialing terms result.next }
+    ensures does { (result.used ≡ 0) × (result.outcome ≡ Outcome.StarvedPosts dialing.pass Ending.Done) × answers.IsSentRefusal codes.Code.Unavailable result.next }
     ensures fails { steps.FailsInTurn result.outcome result.next }
 {
     let (waiting, pass) = dialing.give_up();
@@ -420,7 +425,7 @@ fn unreached(forwarding: Forwarding, sign: Sign) -> Step
 pub(crate) fn gone(exchange: Exchange, sign: Sign) -> Step
     ensures over { result.next ≡ Exchange.Over }
     ensures at { (h : ExchangeHistory) → steps.IsAtItsStage exchange h → steps.IsAtItsStage result.next (steps.ended result.outcome (signed h sign)) }
-    ensures does { answers.IsLeft exchange result.outcome result.next }
+    ensures does { answers.LosesClient exchange result.outcome result.next }
     ensures fails { steps.FailsInTurn result.outcome result.next }
 {
     match exchange {
@@ -482,7 +487,7 @@ fn is_left(exchange: &Exchange, aborts: bool) -> bool
 pub(crate) fn server_ended(exchange: Exchange, alloc: Global, sign: Sign) -> Step
     requires { told_for sign ≡ Some codes.Code.BadGateway }
     ensures at { (h : ExchangeHistory) → steps.IsAtItsStage exchange h → steps.IsAtItsStage result.next (steps.ended result.outcome (signed h sign)) }
-    ensures does { answers.HearsAlone exchange result.used result.outcome result.next }
+    ensures does { answers.Hears (answers.HasHeardEnd (answers.is_end_sign sign)) exchange result.used result.outcome result.next }
     ensures fails { steps.FailsInTurn result.outcome result.next }
 {
     match exchange {
@@ -501,8 +506,8 @@ pub(crate) fn server_ended(exchange: Exchange, alloc: Global, sign: Sign) -> Ste
 
 // Says whether the server's input came to its end without an error.
 fn is_end(sign: Sign) -> bool
+    ensures same { result ≡ answers.is_end_sign sign }
     ensures end { IsTrue result → sign ≡ Sign.ServerEnded }
-    ensures each { sign ≡ Sign.ServerEnded → IsTrue result }
 {
     match sign {
         Sign::ServerEnded => true,
@@ -512,7 +517,7 @@ fn is_end(sign: Sign) -> bool
 
 pub(crate) fn server_deaf(exchange: Exchange, alloc: Global) -> Step
     ensures at { (h : ExchangeHistory) → steps.IsAtItsStage exchange h → steps.IsAtItsStage result.next (steps.ended result.outcome (signed h Sign.ServerDeaf)) }
-    ensures does { answers.HearsAlone exchange result.used result.outcome result.next }
+    ensures does { answers.Hears answers.IsCutOff exchange result.used result.outcome result.next }
     ensures fails { steps.FailsInTurn result.outcome result.next }
 {
     match exchange {

@@ -3,8 +3,9 @@
 ghost use Rattle.std.specs.Prelude.{◌≡◌, ◌++◌, ℕ, List, [], true, false, IfOk, IfErr, IsTrue};
 ghost use Rattle.exchange_machine.specs.Answerings.{TellsAnswer};
 ghost use Rattle.exchange_machine.specs.Histories.{ExchangeHistory};
-ghost use Rattle.exchange_machine.specs.Stages.{IsTurn, IsUnread};
+ghost use Rattle.exchange_machine.specs.Stages.{IsChecked, IsTurn, IsUnread};
 ghost use Rattle.exchange_machine.specs.Wholes.{EndsClean, begun};
+ghost use Rattle.exchange_events.specs.Answers as answers;
 ghost use Rattle.exchange_events.specs.Chains as chains;
 ghost use Rattle.exchange_events.specs.Passes.{held_by};
 ghost use Rattle.exchange_events.specs.Steps as steps;
@@ -110,6 +111,7 @@ impl Exchange {
         ensures next { IfOk result (λ next. (h : ExchangeHistory) → steps.IsAtItsStage self h → chains.IsNext h next) }
         ensures history { IfOk result (λ next. steps.HasHistory next) }
         ensures none { IfOk result (λ next. held_by next ≡ []) }
+        ensures reads { IfOk result (λ next. answers.IsReadOn next) }
         ensures may { IfOk result (λ next. chains.may_ask_again self ≡ true) }
         ensures same { IfErr result (λ exchange. (exchange ≡ self) × (chains.may_ask_again self ≡ false)) }
     {
@@ -129,6 +131,7 @@ impl Exchange {
 fn turned(turn: Turn) -> Exchange
     ensures begun { (behind : List ℕ) → IsTurn turn (begun behind) → chains.IsBegun result behind }
     ensures none { held_by result ≡ [] }
+    ensures reads { IsChecked turn → answers.IsReadOn result }
 {
     match turn {
         Turn::More(asking) => Exchange::Asking(asking),
@@ -140,6 +143,7 @@ fn turned(turn: Turn) -> Exchange
 fn unread(why: Fault) -> Exchange
     ensures begun { (behind : List ℕ) → IsUnread why (begun behind) → chains.IsBegun result behind }
     ensures none { held_by result ≡ [] }
+    ensures reads { answers.IsReadOn result }
 {
     if why == Fault::NoMemory {
         Exchange::Telling(Telling::starved())

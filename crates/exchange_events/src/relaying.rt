@@ -1,4 +1,4 @@
-ghost use Rattle.std.specs.Prelude.{◌≡◌, ◌≢◌, Some, true, false};
+ghost use Rattle.std.specs.Prelude.{◌≡◌, ◌≢◌, ◌⊎◌, Some, true, false, []};
 ghost use Rattle.http_bodies.specs.Stops.{is_bad};
 ghost use Rattle.exchange_machine.specs.Changes.{Uses};
 ghost use Rattle.exchange_machine.specs.declared.forwarding.Forwarding as forwardings;
@@ -27,15 +27,14 @@ pub(crate) struct Turned {
 /// Uses the held bytes as far as it may, and judges the server's side where it is over.
 pub(crate) fn go_on(mut forwarding: Forwarding, alloc: Global) -> Turned
     ensures at { (h : ExchangeHistory) → IsForwarding forwarding h → steps.IsAtItsStage result.next (steps.ended result.outcome h) }
-    ensures keeps { answers.Keeps forwarding result.next }
-    ensures runs { answers.IsRunning result.next }
+    ensures judged { answers.IsJudged forwarding result.outcome result.next }
     ensures fails { steps.FailsInTurn result.outcome result.next }
 {
     forwarding.use_held();
     match read_heads(&mut forwarding, alloc, 9) {
         Headed::Answer => body_goes_on(forwarding),
         Headed::More => head_goes_on(forwarding),
-        Headed::Interim => still_forwarding(forwarding),
+        Headed::Interim => no_room(forwarding),
         Headed::Full => no_room(forwarding),
         Headed::Short => refused_short(forwarding),
         Headed::Refused => refused_badly(forwarding),
@@ -45,7 +44,7 @@ pub(crate) fn go_on(mut forwarding: Forwarding, alloc: Global) -> Turned
 fn read_heads(forwarding: &mut Forwarding, alloc: Global, left: u8) -> Headed
     ensures body { result ≡ Headed.Answer → forwarding.new.phase ≡ Down.Body }
     ensures heads { result ≢ Headed.Answer → forwarding.new.phase ≢ Down.Body }
-    ensures same { answers.IsOfSame forwarding.old forwarding.new }
+    ensures uses { Uses forwarding.old forwarding.new }
     ensures passes { (h : ExchangeHistory) → IsForwarding forwarding.old h → IsForwarding forwarding.new h }
     ensures refused { result ≡ Headed.Refused → (h : ExchangeHistory) → IsForwarding forwarding.old h → LacksAnswer forwarding.new.view.method h.server_in }
 {
@@ -70,8 +69,7 @@ fn still_forwarding(forwarding: Forwarding) -> Turned
 // A head's text waits for room, where bytes are to be sent before it; otherwise there is never room for it.
 fn no_room(forwarding: Forwarding) -> Turned
     ensures at { (h : ExchangeHistory) → IsForwarding forwarding h → steps.IsAtItsStage result.next (steps.ended result.outcome h) }
-    ensures keeps { answers.Keeps forwarding result.next }
-    ensures runs { forwarding.phase ≢ Down.Body → answers.IsRunning result.next }
+    ensures does { ((forwarding.down.out ≢ []) × answers.RelaysOn forwarding result.outcome result.next) ⊎ answers.StarvesIn forwarding result.outcome result.next }
     ensures fails { steps.FailsInTurn result.outcome result.next }
 {
     if forwarding.to_client().is_empty() {
@@ -84,8 +82,6 @@ fn no_room(forwarding: Forwarding) -> Turned
 fn head_goes_on(forwarding: Forwarding) -> Turned
     ensures at { (h : ExchangeHistory) → IsForwarding forwarding h → steps.IsAtItsStage result.next (steps.ended result.outcome h) }
     ensures does { answers.AwaitsHead forwarding result.outcome result.next }
-    ensures keeps { answers.Keeps forwarding result.next }
-    ensures runs { forwarding.phase ≢ Down.Body → answers.IsRunning result.next }
     ensures fails { steps.FailsInTurn result.outcome result.next }
 {
     if forwarding.is_asked_badly() {
@@ -107,7 +103,7 @@ fn head_goes_on(forwarding: Forwarding) -> Turned
 fn redials(mut forwarding: Forwarding) -> Turned
     requires { IsUntouched forwarding }
     ensures at { (h : ExchangeHistory) → IsForwarding forwarding h → steps.IsAtItsStage result.next (steps.ended result.outcome h) }
-    ensures does { (result.next ≡ Exchange.Forwarding (record forwarding { cut = false; ended = false; well = false; dialing = true })) × (result.outcome ≡ Outcome.Retries) }
+    ensures does { answers.Redials forwarding result.outcome result.next }
     ensures fails { steps.FailsInTurn result.outcome result.next }
 {
     forwarding.redial();
@@ -169,9 +165,8 @@ fn again(forwarding: Forwarding) -> Turned
 
 fn body_goes_on(mut forwarding: Forwarding) -> Turned
     ensures at { (h : ExchangeHistory) → IsForwarding forwarding h → steps.IsAtItsStage result.next (steps.ended result.outcome h) }
-    ensures does { forwarding.phase ≡ Down.Body → (used : forwardings.Forwarding) × Uses forwarding used × answers.AwaitsBody used result.outcome result.next }
-    ensures keeps { answers.Keeps forwarding result.next }
-    ensures runs { answers.IsRunning result.next }
+    ensures does { forwarding.phase ≡ Down.Body
+        → (now : forwardings.Forwarding) × Uses forwarding now × (now.phase ≡ Down.Body) × answers.AwaitsBody now result.outcome result.next }
     ensures fails { steps.FailsInTurn result.outcome result.next }
 {
     if !forwarding.is_at_body() {
@@ -186,8 +181,6 @@ fn body_is_used(forwarding: Forwarding) -> Turned
     requires { forwarding.phase ≡ Down.Body }
     ensures at { (h : ExchangeHistory) → IsForwarding forwarding h → steps.IsAtItsStage result.next (steps.ended result.outcome h) }
     ensures does { answers.AwaitsBody forwarding result.outcome result.next }
-    ensures keeps { answers.Keeps forwarding result.next }
-    ensures runs { answers.IsRunning result.next }
     ensures fails { steps.FailsInTurn result.outcome result.next }
 {
     if forwarding.is_answered_badly() {
@@ -221,7 +214,7 @@ fn answered_badly(forwarding: Forwarding) -> Turned
 
 fn settles(forwarding: Forwarding) -> Turned
     ensures at { (h : ExchangeHistory) → IsForwarding forwarding h → steps.IsAtItsStage result.next (steps.ended result.outcome h) }
-    ensures does { answers.Settles forwarding result.outcome result.next }
+    ensures does { answers.EndsWhole forwarding result.outcome result.next }
     ensures fails { steps.FailsInTurn result.outcome result.next }
 {
     let Settled { pass, rest } = forwarding.settle();
@@ -249,8 +242,7 @@ pub(crate) fn ends(forwarding: Forwarding) -> Turned
 
 fn refused_short(forwarding: Forwarding) -> Turned
     ensures at { (h : ExchangeHistory) → IsForwarding forwarding h → steps.IsAtItsStage result.next (steps.ended result.outcome h) }
-    ensures keeps { answers.Keeps forwarding result.next }
-    ensures runs { answers.IsRunning result.next }
+    ensures does { answers.StarvesIn forwarding result.outcome result.next }
     ensures fails { steps.FailsInTurn result.outcome result.next }
 {
     if forwarding.has_begun() {
@@ -266,8 +258,6 @@ fn refused_short(forwarding: Forwarding) -> Turned
 fn refused_badly(forwarding: Forwarding) -> Turned
     ensures at { (h : ExchangeHistory) → IsForwarding forwarding h → LacksAnswer forwarding.view.method h.server_in → steps.IsAtItsStage result.next (steps.ended result.outcome h) }
     ensures does { answers.StopsWith codes.Code.BadGateway forwarding result.outcome result.next }
-    ensures keeps { answers.Keeps forwarding result.next }
-    ensures runs { answers.IsRunning result.next }
     ensures fails { steps.FailsInTurn result.outcome result.next }
 {
     if forwarding.has_begun() {

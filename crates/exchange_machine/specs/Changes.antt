@@ -39,7 +39,7 @@ pub record IsBegunOn (d : Dialing) (terms : Terms) (p : Forwarding) : Type 0 whe
 
 -- It ends with this refusal in place of an answer: behind what is left of the `100`, the client is
 -- sent the refusal whole, where there is room for it.
-pub record IsRefused (p : Forwarding) (code : Code) (e : Ended) : Type 0 where
+pub record EndsRefused (p : Forwarding) (code : Code) (e : Ended) : Type 0 where
   pub pass : e.pass ≡ p.pass
   pub told : length (take p.leave_left p.down.out) + length (refusal_text code) ≤ OUTBOX_BYTES → e.rest.out.out ≡ take p.leave_left p.down.out ++ refusal_text code
   pub closed : (e.rest.whole ≡ false) × (e.rest.clean ≡ false)

@@ -12,6 +12,12 @@ pub record IsRepeatable (p : Forwarding) : Type 0 where
   pub bare : is_bare p.framing ≡ true
   pub safe : (is_idempotent p.view.method ≡ true) ⊎ (p.reached ≡ false)
 
+-- once its connection broke it is sent again: it may be, and no byte of it reached that connection, or
+-- another request had gone over it before
+pub record IsSentAgain (p : Forwarding) : Type 0 where
+  pub may : IsRepeatable p
+  pub used : (p.fresh ≡ false) ⊎ (p.reached ≡ false)
+
 -- no byte of it reached a server, and no byte of an answer came: the bytes that wait for the server
 -- may go to another connection as they are
 pub record IsUntouched (p : Forwarding) : Type 0 where

@@ -3,7 +3,7 @@
 ghost use Rattle.std.specs.Prelude.{◌≡◌, ◌≢◌, ◌⊎◌, [], true, false, IsTrue};
 ghost use Rattle.http_bodies.specs.Stops.{is_bad, is_done};
 ghost use Rattle.exchange_machine.specs.Answerings.{has_answered};
-ghost use Rattle.exchange_machine.specs.Changes.{IsLeftOf, IsRefused};
+ghost use Rattle.exchange_machine.specs.Changes.{IsLeftOf, EndsRefused};
 ghost use Rattle.exchange_machine.specs.Histories.{ExchangeHistory, posted, retried};
 ghost use Rattle.exchange_machine.specs.Reasons.{Reason};
 ghost use Rattle.exchange_machine.specs.Repeatables as repeats;
@@ -48,7 +48,7 @@ impl Forwarding {
     /// it took of the `100`.
     pub fn refuse(self, code: Code) -> Ended
         requires { self.begun ≡ false }
-        ensures refused { IsRefused self code result }
+        ensures refused { EndsRefused self code result }
         ensures leaves { (h : ExchangeHistory) → (is : stages.IsForwarding self h) → Reason h.signs self.view is.behind h.server_in code
             → stages.IsLeaving result.rest (posted h result.pass ending.Done) }
     {
@@ -71,7 +71,7 @@ impl Forwarding {
     pub fn refuse_unanswered(self) -> Ended
         requires none { self.begun ≡ false }
         requires ended { self.ended ≡ true }
-        ensures refused { IsRefused self Code.BadGateway result }
+        ensures refused { EndsRefused self Code.BadGateway result }
         ensures leaves { (h : ExchangeHistory) → stages.IsForwarding self h → stages.IsLeaving result.rest (posted h result.pass ending.Done) }
     {
         self.refuse(Code::BadGateway)
@@ -82,7 +82,7 @@ impl Forwarding {
         requires none { self.begun ≡ false }
         requires body { self.phase ≡ Down.Body }
         requires bad { is_bad self.down.coding ≡ true }
-        ensures refused { IsRefused self Code.BadGateway result }
+        ensures refused { EndsRefused self Code.BadGateway result }
         ensures leaves { (h : ExchangeHistory) → stages.IsForwarding self h → stages.IsLeaving result.rest (posted h result.pass ending.Done) }
     {
         self.refuse(Code::BadGateway)
@@ -92,7 +92,7 @@ impl Forwarding {
     pub fn refuse_request(self) -> Ended
         requires none { self.begun ≡ false }
         requires bad { is_bad self.up.coding ≡ true }
-        ensures refused { IsRefused self Code.BadRequest result }
+        ensures refused { EndsRefused self Code.BadRequest result }
         ensures leaves { (h : ExchangeHistory) → stages.IsForwarding self h → stages.IsLeaving result.rest (posted h result.pass ending.Done) }
     {
         self.refuse(Code::BadRequest)
@@ -112,8 +112,8 @@ impl Forwarding {
     /// and it has no body; and no byte of it reached a server, or the present connection was used
     /// before and the request is idempotent.
     pub fn can_repeat(&self) -> bool
-        ensures may { IsTrue result → repeats.IsRepeatable self.now }
-        ensures each { repeats.IsRepeatable self.now → (self.now.fresh ≡ false) ⊎ (self.now.reached ≡ false) → IsTrue result }
+        ensures may { IsTrue result → repeats.IsSentAgain self.now }
+        ensures each { repeats.IsSentAgain self.now → IsTrue result }
     {
         (!self.reached || !self.fresh && is_idempotent(self.view.method()))
             && self.phase == Down::Heads(0)

@@ -5,7 +5,7 @@ use Rattle.base_streams.specs.Streams.{Stream}
 use Rattle.httparse.specs.Grammar.LineEnd.{lf}
 use Rattle.http_bodies.specs.Framings.{IsBody, LacksBody}
 use Rattle.http_bodies.specs.Steps.{Ends, HoldsBack}
-use Rattle.http_bodies.specs.Texts.{Waits, Wrote}
+use Rattle.http_bodies.specs.Texts.{WaitsBehind, Wrote}
 use Rattle.http_bodies.specs.declared.framing.Framing.TheVariants.{Length, ToEnd}
 use Rattle.http_bodies.specs.Trailers.{print_trailers, IsTrailer}
 
@@ -47,10 +47,10 @@ unfolding stream
 not_two_writes end wrote = omega (arith, wrote.some)
 
 -- a text for which there is room waits, and isn't written at once
-waits : (end : GName) → Waits (stream end [] 0) (stream end [] 0) (codes "a") (codes "ab") (codes "b")
+waits : (end : GName) → WaitsBehind (stream end [] 0) (stream end [] 0) (codes "a") (codes "ab") (codes "b")
 waits end = inl (refl, refl)
 
-not_at_once : (end : GName) → ¬ (Waits (stream end [] 0) (stream end (codes "b") 1) [] [] (codes "b"))
+not_at_once : (end : GName) → ¬ (WaitsBehind (stream end [] 0) (stream end (codes "b") 1) [] [] (codes "b"))
 unfolding stream
 not_at_once end waits = elim waits [
   | inl kept ↦ absurd (omega (arith, ap (λ (w : Stream). w.calls) kept.0))

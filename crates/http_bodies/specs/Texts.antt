@@ -28,8 +28,8 @@ pub record Emits (w0 w : Stream) (turns0 turns : ℕ) (waiting0 waiting text : L
   pub fine : w.failures ≡ w0.failures
 
 -- the text stands behind what waited, and nothing was written; or there was no room for both
-abbrev pub Waits : Stream → Stream → List ℕ → List ℕ → List ℕ → Type 0
-Waits w0 w waiting0 waiting text = ((w ≡ w0) × (waiting ≡ waiting0 ++ text)) ⊎ (OUTBOX_BYTES < length (waiting0 ++ text))
+abbrev pub WaitsBehind : Stream → Stream → List ℕ → List ℕ → List ℕ → Type 0
+WaitsBehind w0 w waiting0 waiting text = ((w ≡ w0) × (waiting ≡ waiting0 ++ text)) ⊎ (OUTBOX_BYTES < length (waiting0 ++ text))
 
 -- a front of the text was written to the sink
 pub record WritesFront (w0 w : Stream) (text : List ℕ) : Type 0 where

@@ -1,6 +1,6 @@
 ghost use Rattle.std.specs.Prelude.{◌≡◌, ◌+◌, ◌^◌, ◌<◌, ◌++◌, OnOk, IfErr};
 ghost use Rattle.http_bodies.specs.declared.pipe.Pipe as pipes;
-ghost use Rattle.http_bodies.specs.Texts.{Emits, Stops, Waits};
+ghost use Rattle.http_bodies.specs.Texts.{Emits, Stops, WaitsBehind};
 
 use crate::fault::Fault;
 use crate::pipe::Pipe;
@@ -16,7 +16,7 @@ pub trait Page {
     fn put<K: Sink>(&mut self, sink: &mut K, bytes: &[u8]) -> Result<(), Fault>
         requires { (K.stream sink.old).calls + (pipe self.old).turns < 2 ^ 64 }
         ensures ok { OnOk result (Emits (K.stream sink.old) (K.stream sink.new) (pipe self.old).turns (pipe self.new).turns (pipe self.old).outbox (pipe self.new).outbox bytes.now) }
-        ensures late { OnOk result (Waits (K.stream sink.old) (K.stream sink.new) (pipe self.old).outbox (pipe self.new).outbox bytes.now) }
+        ensures late { OnOk result (WaitsBehind (K.stream sink.old) (K.stream sink.new) (pipe self.old).outbox (pipe self.new).outbox bytes.now) }
         ensures err { IfErr result (Stops (K.stream sink.old) (K.stream sink.new) (pipe self.old).turns (pipe self.new).turns ((pipe self.old).outbox ++ bytes.now)) }
         ensures inbox { (pipe self.new).inbox ≡ (pipe self.old).inbox };
 }

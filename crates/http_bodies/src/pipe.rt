@@ -4,7 +4,7 @@ ghost use Rattle.http_bodies.specs.Readings.{Feeds};
 ghost use Rattle.http_bodies.specs.Stops.{is_done, is_bad};
 ghost use Rattle.base_streams.specs.Streams.{Stream};
 ghost use Rattle.http_bodies.specs.Steps.{ends, Countable, Moves, Breaks, LacksNothing};
-ghost use Rattle.http_bodies.specs.Texts.{Emits, Stops, Waits};
+ghost use Rattle.http_bodies.specs.Texts.{Emits, Stops, WaitsBehind};
 
 use crate::coding::Coding;
 use crate::fault::Fault;
@@ -97,7 +97,7 @@ impl Pipe {
     pub fn emit<K: Sink>(&mut self, sink: &mut K, bytes: &[u8]) -> Result<(), Fault>
         requires { (K.stream sink.old).calls + self.old.turns < 2 ^ 64 }
         ensures ok { OnOk result (Emits (K.stream sink.old) (K.stream sink.new) self.old.turns self.new.turns self.old.outbox self.new.outbox bytes.now) }
-        ensures late { OnOk result (Waits (K.stream sink.old) (K.stream sink.new) self.old.outbox self.new.outbox bytes.now) }
+        ensures late { OnOk result (WaitsBehind (K.stream sink.old) (K.stream sink.new) self.old.outbox self.new.outbox bytes.now) }
         ensures err { IfErr result (Stops (K.stream sink.old) (K.stream sink.new) self.old.turns self.new.turns (self.old.outbox ++ bytes.now)) }
         ensures inbox { self.new.inbox ≡ self.old.inbox }
     {

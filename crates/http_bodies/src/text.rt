@@ -1,5 +1,5 @@
 ghost use Rattle.std.specs.Prelude.{◌≡◌, ◌+◌, ◌^◌, ◌<◌, ◌≤◌, ◌++◌, [], length, take, OnOk, IfOk, IfErr};
-ghost use Rattle.http_bodies.specs.Texts.{Emits, Stops, Waits};
+ghost use Rattle.http_bodies.specs.Texts.{Emits, Stops, WaitsBehind};
 
 use crate::fault::Fault;
 use crate::outbox::Outbox;
@@ -45,7 +45,7 @@ pub(crate) fn emit<K: Sink>(
 ) -> Result<(), Fault>
     requires { (K.stream sink.old).calls + turns.old < 2 ^ 64 }
     ensures ok { OnOk result (Emits (K.stream sink.old) (K.stream sink.new) turns.old turns.new outbox.old outbox.new bytes.now) }
-    ensures late { OnOk result (Waits (K.stream sink.old) (K.stream sink.new) outbox.old outbox.new bytes.now) }
+    ensures late { OnOk result (WaitsBehind (K.stream sink.old) (K.stream sink.new) outbox.old outbox.new bytes.now) }
     ensures err { IfErr result (Stops (K.stream sink.old) (K.stream sink.new) turns.old turns.new (outbox.old ++ bytes.now)) }
 {
     if bytes.len() <= outbox.room() {

@@ -7,7 +7,7 @@ use Rattle.base_streams.specs.Streams.{Stream}
 use Rattle.http_bodies.specs.declared.fault.Fault.{Fault}
 use Rattle.http_bodies.specs.declared.pipe.Pipe.{Pipe}
 use Rattle.http_bodies.proofs.Emitting.{emits_none, emits_trans, emits_stops, stops_more, stops_as}
-use Rattle.http_bodies.specs.Texts.{Waits}
+use Rattle.http_bodies.specs.Texts.{WaitsBehind}
 use Rattle.http_bodies.specs.declared.outbox.TheConstants.{OUTBOX_BYTES}
 use Rattle.http_texts.specs.Emissions.{Sends, Puts, Halts}
 
@@ -21,7 +21,7 @@ sends_halts {second = second} x y = record { stops = emits_stops second x.emits 
 pub sends_as : {p q : Pipe} {a b : Stream} {text same : List ℕ} → text ≡ same → Sends p q a b text → Sends p q a b same
 sends_as {p} {q} {a} {b} e x = subst (λ (l : List ℕ). Sends p q a b l) e x
 
-waits_trans : {a b c : Stream} (p q r first second : List ℕ) → Waits a b p q first → Waits b c q r second → Waits a c p r (first ++ second)
+waits_trans : {a b c : Stream} (p q r first second : List ℕ) → WaitsBehind a b p q first → WaitsBehind b c q r second → WaitsBehind a c p r (first ++ second)
 waits_trans p q r first second x y = elim x [
   | inr full ↦ inr (omega (arith, full, length-append p first, length-append p (first ++ second), length-append first second))
   | inl kept ↦

@@ -1,7 +1,7 @@
 -- Texts that a pipe puts on their way, and bytes that it holds for later.
 use Rattle.std.specs.Prelude.{◌≡◌, ℕ, List, ◌++◌}
 use Rattle.base_streams.specs.Streams.{Stream}
-use Rattle.http_bodies.specs.Texts.{Emits, Stops, Waits}
+use Rattle.http_bodies.specs.Texts.{Emits, Stops, WaitsBehind}
 use Rattle.http_bodies.specs.declared.fault.Fault.{Fault}
 use Rattle.http_bodies.specs.declared.pipe.Pipe.{Pipe}
 
@@ -13,7 +13,7 @@ pub record Sends (p0 p : Pipe) (w0 w : Stream) (text : List ℕ) : Type 0 where
 -- so it was, and nothing was written, unless there was no room
 pub record Puts (p0 p : Pipe) (w0 w : Stream) (text : List ℕ) : Type 0 where
   pub sends : Sends p0 p w0 w text
-  pub late : Waits w0 w p0.outbox p.outbox text
+  pub late : WaitsBehind w0 w p0.outbox p.outbox text
 
 -- a front of what waited and of the text was written, and a fault was met
 pub record Halts (p0 p : Pipe) (w0 w : Stream) (text : List ℕ) (fault : Fault) : Type 0 where

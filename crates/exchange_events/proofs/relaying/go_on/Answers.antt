@@ -1,10 +1,59 @@
--- Where a head has no room, the answer's own wasn't read.
-use Rattle.std.proofs.Common.{◌≡◌, ◌∙◌, sym}
-use Rattle.exchange_machine.specs.declared.heading.Headed.TheVariants.{Full, Answer}
+-- What a look for the answer's head finds, and how the exchange is judged by it.
+use Rattle.std.proofs.Common.{◌≡◌, ◌≢◌, ◌∙◌, ◌⊎◌, inl, inr, [], sym}
+use Rattle.exchange_machine.specs.declared.forwarding.Forwarding.{Forwarding}
+use Rattle.exchange_machine.specs.declared.heading.Headed.TheVariants.{More, Interim, Full, Short, Refused, Answer}
+use Rattle.exchange_events.specs.Answers.{AwaitsAnswer, RelaysOn, StarvesIn}
+use Rattle.exchange_events.specs.declared.exchange.Exchange.{Exchange}
+use Rattle.exchange_events.specs.declared.exchange.Outcome.{Outcome}
+use Rattle.exchange_events.proofs.Judging.{judged_at_body, judged_at_head}
 use Rattle.exchange_events.proofs.relaying.go_on.Goals as goal
+
+more_is_no_answer : More ≡ Answer → ⊥
+more_is_no_answer is = cc
+
+interim_is_no_answer : Interim ≡ Answer → ⊥
+interim_is_no_answer is = cc
 
 full_is_no_answer : Full ≡ Answer → ⊥
 full_is_no_answer is = cc
 
-pub returns-in-Full-clause-runs : goal.returns-in-Full-clause-runs
-returns-in-Full-clause-runs c = c.no_room.ensures.runs (c.read_heads.ensures.heads (λ answered. full_is_no_answer (sym c.in-Full.is ∙ answered)))
+short_is_no_answer : Short ≡ Answer → ⊥
+short_is_no_answer is = cc
+
+refused_is_no_answer : Refused ≡ Answer → ⊥
+refused_is_no_answer is = cc
+
+without_room : (p : Forwarding) (outcome : Outcome) (next : Exchange) → ((p.down.out ≢ []) × RelaysOn p outcome next) ⊎ StarvesIn p outcome next
+    → AwaitsAnswer p outcome next
+without_room p outcome next (inl waits) = inr (inl waits)
+without_room p outcome next (inr starves) = inr (inr (inr starves))
+
+pub returns-in-Answer-clause-judged : goal.returns-in-Answer-clause-judged
+returns-in-Answer-clause-judged c =
+    let (now, uses, at, awaits) = c.body_goes_on.ensures.does (c.read_heads.ensures.body c.in-Answer.is) in
+    judged_at_body _ _ _ now _ _ c.use_held.ensures.uses c.read_heads.ensures.uses uses at awaits
+
+pub returns-in-More-clause-judged : goal.returns-in-More-clause-judged
+returns-in-More-clause-judged c =
+    judged_at_head _ _ _ _ _ c.use_held.ensures.uses c.read_heads.ensures.uses (c.read_heads.ensures.heads (λ answered. more_is_no_answer (sym c.in-More.is ∙ answered)))
+    (inl c.head_goes_on.ensures.does)
+
+pub returns-in-Interim-clause-judged : goal.returns-in-Interim-clause-judged
+returns-in-Interim-clause-judged c =
+    judged_at_head _ _ _ _ _ c.use_held.ensures.uses c.read_heads.ensures.uses (c.read_heads.ensures.heads (λ answered. interim_is_no_answer (sym c.in-Interim.is ∙ answered)))
+    (without_room _ _ _ c.no_room.ensures.does)
+
+pub returns-in-Full-clause-judged : goal.returns-in-Full-clause-judged
+returns-in-Full-clause-judged c =
+    judged_at_head _ _ _ _ _ c.use_held.ensures.uses c.read_heads.ensures.uses (c.read_heads.ensures.heads (λ answered. full_is_no_answer (sym c.in-Full.is ∙ answered)))
+    (without_room _ _ _ c.no_room-in-Full.ensures.does)
+
+pub returns-in-Short-clause-judged : goal.returns-in-Short-clause-judged
+returns-in-Short-clause-judged c =
+    judged_at_head _ _ _ _ _ c.use_held.ensures.uses c.read_heads.ensures.uses (c.read_heads.ensures.heads (λ answered. short_is_no_answer (sym c.in-Short.is ∙ answered)))
+    (inr (inr (inr c.refused_short.ensures.does)))
+
+pub returns-in-Refused-clause-judged : goal.returns-in-Refused-clause-judged
+returns-in-Refused-clause-judged c =
+    judged_at_head _ _ _ _ _ c.use_held.ensures.uses c.read_heads.ensures.uses (c.read_heads.ensures.heads (λ answered. refused_is_no_answer (sym c.in-Refused.is ∙ answered)))
+    (inr (inr (inl c.refused_badly.ensures.does)))

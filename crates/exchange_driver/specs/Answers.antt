@@ -1,7 +1,7 @@
 -- The answers of reads and writes.
-use Rattle.std.specs.Prelude.{ℕ, Bool, true, false, ◌&&◌, not}
+use Rattle.std.specs.Prelude.{◌≡◌, ◌⊎◌, ℕ, Bool, true, false, ◌&&◌, not, List, [], ◌∷◌, ◌++◌, Option, None, Some}
 use Rattle.exchange_driver.specs.declared.socket.ReadResult.{ReadResult}
-use Rattle.exchange_driver.specs.declared.socket.ReadResult.TheVariants.{Bytes, Nothing}
+use Rattle.exchange_driver.specs.declared.socket.ReadResult.TheVariants.{Bytes, Nothing, Ended}
 use Rattle.exchange_driver.specs.declared.socket.WriteResult.{WriteResult}
 use Rattle.exchange_driver.specs.declared.socket.WriteResult.TheVariants as said
 
@@ -26,3 +26,17 @@ is_full _ = false
 -- the last answer still stands, since nothing was reported since
 abbrev pub is_still : Bool → Bool → Bool
 is_still answered told = answered && not told
+
+-- an answer of a socket, to a read or to a write
+pub data Answer : Type 0 where
+  Heard : ReadResult → Answer
+  Said : WriteResult → Answer
+
+-- the answers of a socket with these behind them; one that remembers none says nothing
+abbrev pub with_answers : List Answer → Option (List Answer) → Option (List Answer)
+with_answers answers None = None
+with_answers answers (Some before) = Some (before ++ answers)
+
+-- it gave this answer to a read; or there was no memory to read, which counts as a failure
+abbrev pub HasHeard : ReadResult → Option (List Answer) → Option (List Answer) → Type 0
+HasHeard result old new = (new ≡ with_answers (Heard result ∷ []) old) ⊎ ((new ≡ old) × (result ≡ Ended false))

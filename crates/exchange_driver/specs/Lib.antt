@@ -1,3 +1,4 @@
 pub mod Answers
 pub mod Drives
+pub mod Moves
 pub mod Wires

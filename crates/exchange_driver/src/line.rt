@@ -1,6 +1,6 @@
-ghost use Rattle.std.specs.Prelude.{◌≡◌, ◌≤◌, ◌<◌, ◌+◌, ◌++◌, ℕ, [], length, take, drop, None, true, false, is_some, IfSome};
+ghost use Rattle.std.specs.Prelude.{◌≡◌, ◌≤◌, ◌<◌, ◌+◌, ◌∷◌, ◌++◌, ℕ, [], length, take, drop, None, true, false, is_some, IfSome};
 ghost use Rattle.std.specs.Io.KnownBytes.{Consumes, Appends};
-ghost use Rattle.exchange_driver.specs.Answers.{came, went};
+ghost use Rattle.exchange_driver.specs.Answers.{HasHeard, Said, came, went, with_answers};
 ghost use Rattle.exchange_driver.specs.Wires.{is_still_at};
 
 use crate::socket::{ReadResult, Socket, WriteResult};
@@ -30,6 +30,7 @@ impl<S: Socket> Model for Line<S> {
       room = vec_capacity line.waits;
       dry = told_of S.dry line.socket;
       full = told_of S.full line.socket;
+      answers = known_of S.answers line.socket;
     } };
 }
 
@@ -54,6 +55,7 @@ impl<S: Socket> Line<S> {
         ensures taken { result.taken ≡ S.taken socket }
         ensures waits { result.waits ≡ [] }
         ensures told { (result.dry ≡ S.dry socket) × (result.full ≡ S.full socket) }
+        ensures answers { result.answers ≡ S.answers socket }
     {
         Line {
             socket: Some(socket),
@@ -73,6 +75,7 @@ impl<S: Socket> Line<S> {
         ensures there { is_some result ≡ self.there }
         ensures left { IfSome result (λ socket. S.left socket ≡ self.left) }
         ensures taken { IfSome result (λ socket. S.taken socket ≡ self.taken) }
+        ensures answers { IfSome result (λ socket. S.answers socket ≡ self.answers) }
     {
         let Line { socket, waits: _ } = self;
         socket
@@ -83,6 +86,7 @@ impl<S: Socket> Line<S> {
         ensures left { (self.new.left ≡ self.old.left) × (self.new.taken ≡ self.old.taken) }
         ensures waits { self.new.waits ≡ self.old.waits }
         ensures told { (self.new.there ≡ self.old.there) × (self.new.dry ≡ self.old.dry) × (self.new.full ≡ self.old.full) }
+        ensures answers { self.new.answers ≡ self.old.answers }
     {
         if self.waits.is_empty() {
             self.waits.shrink_to_fit();
@@ -96,6 +100,7 @@ impl<S: Socket> Line<S> {
         ensures there { self.new.there ≡ self.old.there }
         ensures left { (self.new.left ≡ self.old.left) × (self.new.taken ≡ self.old.taken) }
         ensures waits { (self.new.waits ≡ self.old.waits) × (self.new.room ≡ self.old.room) }
+        ensures answers { self.new.answers ≡ self.old.answers }
     {
         if let Some(socket) = &mut self.socket {
             socket.wake(reads, writes);
@@ -135,6 +140,7 @@ impl<S: Socket> Line<S> {
         ensures waits { self.new.waits ≡ drop count self.old.waits }
         ensures told { (self.new.dry ≡ self.old.dry) × (self.new.full ≡ self.old.full) }
         ensures there { self.new.there ≡ self.old.there }
+        ensures answers { self.new.answers ≡ self.old.answers }
     {
         forget(&mut self.waits, count);
     }
@@ -153,6 +159,7 @@ impl<S: Socket> Line<S> {
         ensures taken { (self.new.taken ≡ self.old.taken) × (self.new.full ≡ self.old.full) }
         ensures there { self.new.there ≡ self.old.there }
         ensures none { self.old.there ≡ false → came result ≡ 0 }
+        ensures heard { HasHeard result self.old.answers self.new.answers }
     {
         if self.waits.reserve(buffer.len()).is_err() {
             return ReadResult::Ended { well: false };
@@ -170,6 +177,7 @@ impl<S: Socket> Line<S> {
         ensures waits { self.new.waits ≡ self.old.waits ++ bytes.now }
         ensures told { (self.new.dry ≡ self.old.dry) × (self.new.full ≡ self.old.full) }
         ensures there { self.new.there ≡ self.old.there }
+        ensures answers { self.new.answers ≡ self.old.answers }
     {
         match self.waits.extend_from_slice(bytes) {
             Ok(()) => {}
@@ -188,6 +196,7 @@ impl<S: Socket> Line<S> {
         ensures waits { (self.new.waits ≡ self.old.waits) × (self.new.room ≡ self.old.room) }
         ensures there { self.new.there ≡ self.old.there }
         ensures none { self.old.there ≡ false → went result ≡ 0 }
+        ensures said { self.new.answers ≡ with_answers (Said result ∷ []) self.old.answers }
     {
         match &mut self.socket {
             None => WriteResult::Full,

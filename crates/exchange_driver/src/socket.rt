@@ -1,6 +1,6 @@
-ghost use Rattle.std.specs.Prelude.{◌≡◌, ◌≤◌, ◌<◌, ℕ, List, Option, Bool, length, take};
+ghost use Rattle.std.specs.Prelude.{◌≡◌, ◌≤◌, ◌<◌, ◌∷◌, ℕ, List, [], Option, Bool, length, take};
 ghost use Rattle.std.specs.Io.KnownBytes.{Consumes, Appends};
-ghost use Rattle.exchange_driver.specs.Answers.{came, went, is_nothing, is_full, is_still};
+ghost use Rattle.exchange_driver.specs.Answers.{Answer, Heard, Said, came, went, is_nothing, is_full, is_still, with_answers};
 
 /// The result of a read.
 #[derive(Clone, Copy, Debug, PartialEq, Eq)]
@@ -38,6 +38,9 @@ pub trait Socket: Drop {
     /// Its last write answered that it is full, and nothing was reported since.
     ghost full: { Self → Bool };
 
+    /// The answers that it gave, where it remembers them.
+    ghost answers: { Self → Option (List Answer) };
+
     fn read_now(&mut self, buffer: &mut [u8]) -> ReadResult
         requires { 0 < length buffer.old }
         ensures within { came result ≤ length buffer.new }
@@ -46,7 +49,8 @@ pub trait Socket: Drop {
         ensures left { Consumes (left self.old) (left self.new) (take (came result) buffer.new) }
         ensures dry { dry self.new ≡ is_nothing result }
         ensures taken { taken self.new ≡ taken self.old }
-        ensures full { full self.new ≡ full self.old };
+        ensures full { full self.new ≡ full self.old }
+        ensures answers { answers self.new ≡ with_answers (Heard result ∷ []) (answers self.old) };
 
     fn write_now(&mut self, bytes: &[u8]) -> WriteResult
         requires { 0 < length bytes.now }
@@ -55,14 +59,16 @@ pub trait Socket: Drop {
         ensures taken { Appends (taken self.old) (taken self.new) (take (went result) bytes.now) }
         ensures full { full self.new ≡ is_full result }
         ensures left { left self.new ≡ left self.old }
-        ensures dry { dry self.new ≡ dry self.old };
+        ensures dry { dry self.new ≡ dry self.old }
+        ensures answers { answers self.new ≡ with_answers (Said result ∷ []) (answers self.old) };
 
     /// The poll reports it as ready to read or to write: the last answer of that kind no longer stands.
     fn wake(&mut self, reads: bool, writes: bool)
         ensures dry { dry self.new ≡ is_still (dry self.old) reads }
         ensures full { full self.new ≡ is_still (full self.old) writes }
         ensures left { left self.new ≡ left self.old }
-        ensures taken { taken self.new ≡ taken self.old };
+        ensures taken { taken self.new ≡ taken self.old }
+        ensures answers { answers self.new ≡ answers self.old };
 
     fn is_dry(&self) -> bool
         ensures { result ≡ dry self.now };

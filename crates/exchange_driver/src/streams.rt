@@ -1,4 +1,4 @@
-ghost use Rattle.std.specs.Prelude.{◌≡◌, ◌≤◌, ◌<◌, ℕ, length, take};
+ghost use Rattle.std.specs.Prelude.{◌≡◌, ◌≤◌, ◌<◌, ℕ, false, length, take};
 ghost use Rattle.std.specs.Io.KnownBytes.{Consumes, Appends};
 ghost use Rattle.exchange_driver.specs.Answers.{came, went, is_nothing, is_full};
 
@@ -34,6 +34,7 @@ impl<R: Read + Drop, W: Write + Drop> Duplex<R, W> {
     pub fn new(reads: R, writes: W) -> Duplex<R, W>
         ensures reads { result.reads ≡ reads }
         ensures writes { result.writes ≡ writes }
+        ensures untried { (result.is_dry ≡ false) × (result.is_full ≡ false) }
     {
         Duplex {
             reads,
@@ -45,7 +46,9 @@ impl<R: Read + Drop, W: Write + Drop> Duplex<R, W> {
 }
 
 impl Live {
-    pub fn new(stream: TcpStream) -> Live {
+    pub fn new(stream: TcpStream) -> Live
+        ensures untried { (result.is_dry ≡ false) × (result.is_full ≡ false) }
+    {
         Live {
             stream,
             is_dry: false,
@@ -85,6 +88,8 @@ impl Live {
 }
 
 impl<R: Read + Drop, W: Write + Drop> Socket for Duplex<R, W> {
+    ghost use Rattle.std.specs.Prelude.{None};
+
     ghost left = { λ side. R.remaining side.reads };
 
     ghost taken = { λ side. W.contents side.writes };
@@ -92,6 +97,8 @@ impl<R: Read + Drop, W: Write + Drop> Socket for Duplex<R, W> {
     ghost dry = { λ side. side.is_dry };
 
     ghost full = { λ side. side.is_full };
+
+    ghost answers = { λ _. None };
 
     fn read_now(&mut self, buffer: &mut [u8]) -> ReadResult {
         let heard = read_ready(&mut self.reads, buffer);
@@ -129,6 +136,8 @@ impl Socket for Live {
     ghost dry = { λ live. live.is_dry };
 
     ghost full = { λ live. live.is_full };
+
+    ghost answers = { λ _. None };
 
     fn read_now(&mut self, buffer: &mut [u8]) -> ReadResult {
         let heard = read_ready(&mut self.stream, buffer);

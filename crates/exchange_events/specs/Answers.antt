@@ -10,6 +10,7 @@ use Rattle.http_texts.specs.Replies.{refusal_text}
 use Rattle.http_texts.specs.declared.refusals.Code.{Code}
 use Rattle.http_texts.specs.declared.refusals.Code.TheVariants.{BadGateway, BadRequest, Unavailable}
 use Rattle.exchange_machine.specs.Changes.{IsBegunOn, IsLeftOf, Uses, begun_after, left_after}
+use Rattle.exchange_machine.specs.Reasons.{NoneFollows}
 use Rattle.exchange_machine.specs.Repeatables.{IsSentAgain, IsUntouched}
 use Rattle.exchange_machine.specs.Stages.{IsChecked}
 use Rattle.exchange_machine.specs.Wants.{is_none}
@@ -22,7 +23,7 @@ use Rattle.exchange_machine.specs.declared.leaving.Leaving as leavings
 use Rattle.exchange_machine.specs.declared.settling.Settling as settlings
 use Rattle.exchange_machine.specs.declared.signs.Sign.{Sign}
 use Rattle.exchange_machine.specs.declared.signs.Sign.TheVariants.{ServerEnded}
-use Rattle.exchange_machine.specs.declared.sides.Down.TheVariants.{Body}
+use Rattle.exchange_machine.specs.declared.sides.Down.TheVariants.{Body, Heads}
 use Rattle.exchange_machine.specs.declared.telling.Telling as tellings
 use Rattle.exchange_events.specs.Steps.{is_left}
 use Rattle.exchange_events.specs.declared.event.Event.{Event}
@@ -116,11 +117,19 @@ pub record AwaitsBody (p : forwardings.Forwarding) (outcome : Outcome) (next : E
   pub broken : is_bad p.down.coding ≡ false → is_done p.down.coding ≡ false → p.ended ≡ true → p.down_held.items ≡ [] → p.down.coding ≢ ToEnd
       → StopsWith BadGateway p outcome next
 
--- before the answer's own head: none is there yet; or a head's text waits for room behind bytes for
--- the client; or what came has no head that is handed on; or there is no memory, or never room, for it
+-- what came has no head that is handed on: 502
+pub record LacksHead (p : forwardings.Forwarding) (outcome : Outcome) (next : Exchange) : Type 0 where
+  pub count : ℕ
+  pub heads : p.phase ≡ Heads count
+  pub none : NoneFollows p.view.method count p.down_held.items
+  pub stops : StopsWith BadGateway p outcome next
+
+-- before the answer's own head: no line has ended since a look that found none; or a head's text waits
+-- for room behind bytes for the client; or what came has none; or there is no memory, or never room,
+-- for its text
 abbrev pub AwaitsAnswer : forwardings.Forwarding → Outcome → Exchange → Type 0
-AwaitsAnswer p outcome next = AwaitsHead p outcome next
-    ⊎ ((p.down.out ≢ []) × RelaysOn p outcome next) ⊎ StopsWith BadGateway p outcome next ⊎ StarvesIn p outcome next
+AwaitsAnswer p outcome next = ((p.looks ≡ false) × AwaitsHead p outcome next)
+    ⊎ ((p.down.out ≢ []) × RelaysOn p outcome next) ⊎ LacksHead p outcome next ⊎ StarvesIn p outcome next
 
 -- An exchange with both sides active uses the bytes that it holds, as far as there is room, and is
 -- judged then.

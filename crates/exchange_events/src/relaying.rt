@@ -1,9 +1,9 @@
-ghost use Rattle.std.specs.Prelude.{◌≡◌, ◌≢◌, ◌⊎◌, Some, true, false, []};
+ghost use Rattle.std.specs.Prelude.{◌≡◌, ◌≢◌, ◌⊎◌, ℕ, Some, true, false, []};
 ghost use Rattle.http_bodies.specs.Stops.{is_bad};
 ghost use Rattle.exchange_machine.specs.Changes.{Uses};
 ghost use Rattle.exchange_machine.specs.declared.forwarding.Forwarding as forwardings;
 ghost use Rattle.exchange_machine.specs.Histories.{ExchangeHistory, posted, signed};
-ghost use Rattle.exchange_machine.specs.Reasons.{LacksAnswer, told_for};
+ghost use Rattle.exchange_machine.specs.Reasons.{LacksAnswer, NoneFollows, told_for};
 ghost use Rattle.exchange_machine.specs.Repeatables.{IsRepeatable, IsUntouched};
 ghost use Rattle.exchange_machine.specs.Settlings.{IsRest};
 ghost use Rattle.exchange_machine.specs.Stages.{IsLeaving, IsForwarding};
@@ -44,6 +44,8 @@ pub(crate) fn go_on(mut forwarding: Forwarding, alloc: Global) -> Turned
 fn read_heads(forwarding: &mut Forwarding, alloc: Global, left: u8) -> Headed
     ensures body { result ≡ Headed.Answer → forwarding.new.phase ≡ Down.Body }
     ensures heads { result ≢ Headed.Answer → forwarding.new.phase ≢ Down.Body }
+    ensures more { result ≡ Headed.More → forwarding.new.looks ≡ false }
+    ensures none { result ≡ Headed.Refused → (count : ℕ) × (forwarding.new.phase ≡ Down.Heads count) × NoneFollows forwarding.new.view.method count forwarding.new.down_held.items }
     ensures uses { Uses forwarding.old forwarding.new }
     ensures passes { (h : ExchangeHistory) → IsForwarding forwarding.old h → IsForwarding forwarding.new h }
     ensures refused { result ≡ Headed.Refused → (h : ExchangeHistory) → IsForwarding forwarding.old h → LacksAnswer forwarding.new.view.method h.server_in }

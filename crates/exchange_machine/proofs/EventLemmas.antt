@@ -398,22 +398,25 @@ forwarding_lacks p h count is phase none =
       lacks = subst (λ (n : ℕ). NoneFollows p.view.method n p.down_held.items) at.count_is none;
     }
 
+pub none_follows : (method : List ℕ) (count : ℕ) (held : List ℕ) (why : Fault) → NoneStands method count held why → why ≢ Faulty.NoMemory → NoneFollows method count held
+none_follows method count held Faulty.Head none other = never none
+none_follows method count held Faulty.Framing none other =
+    elim none.role [
+      | inl unread ↦ unplanned none.answer none.len none.says unread
+      | inr more ↦ ninth none.answer none.len none.says more.1 more.2
+    ]
+none_follows method count held Faulty.NoMemory none other = absurd (other refl)
+none_follows method count held Faulty.Read none other = absurd none
+none_follows method count held Faulty.Write none other = absurd none
+none_follows method count held Faulty.Turns none other = absurd none
+none_follows method count held Faulty.Closed none other = absurd none
+
 pub head_refused : (p : Forwarding) (h : ExchangeHistory) (count : ℕ) (held method : List ℕ) (why : Fault) → method ≡ p.view.method → held ≡ p.down_held.items
     → IsForwarding p h → p.phase ≡ Heads count
     → NoneStands method count held why → why ≢ Faulty.NoMemory → LacksAnswer p.view.method h.server_in
-head_refused p h count held method Faulty.Head same all is phase none other =
-    forwarding_lacks p h count is phase (never (subst (λ (l : List ℕ). NeverHasAnswer l) all none))
-head_refused p h count held method Faulty.Framing same all is phase none other =
-    let says = subst (λ (l : List ℕ). SaysAnswer l none.answer none.len) all none.says in
-    elim none.role [
-      | inl unread ↦ forwarding_lacks p h count is phase (unplanned none.answer none.len says (ap (λ m. answer_plan m none.answer) (sym same) ∙ unread))
-      | inr more ↦ forwarding_lacks p h count is phase (ninth none.answer none.len says more.1 more.2)
-    ]
-head_refused p h count held method Faulty.NoMemory same all is phase none other = absurd (other refl)
-head_refused p h count held method Faulty.Read same all is phase none other = absurd none
-head_refused p h count held method Faulty.Write same all is phase none other = absurd none
-head_refused p h count held method Faulty.Turns same all is phase none other = absurd none
-head_refused p h count held method Faulty.Closed same all is phase none other = absurd none
+head_refused p h count held method why same all is phase none other =
+    forwarding_lacks p h count is phase
+    (subst (λ (l : List ℕ). NoneFollows p.view.method count l) all (subst (λ (m : List ℕ). NoneFollows m count held) same (none_follows method count held why none other)))
 
 pub ended_reason : (signs : List Sign) (r : Request) (behind answer : List ℕ) → HasEnded signs → Reason signs r behind answer BadGateway
 ended_reason signs r behind answer is = of_sign is.sign BadGateway is.shows is.tells

@@ -164,7 +164,7 @@ down_whole says kept method framed c held came given a done =
         text_is = a.given_is;
       },
       a.delimits,
-      a.keeps,
+      (λ on. sym a.keeps ∙ on),
     )
 
 -- more of a request's body came, and its way took it
@@ -563,7 +563,7 @@ forwarding_answer p way h bytes is body none step grows =
 heads_final : (says : Persistence) (kept : Bool) (method : List ℕ) (framed : Bool) (count : ℕ) (held came given : List ℕ) (a : Answer) (len : ℕ)
     (plan : Plan) → AtHeads method framed count held came given
     → SaysAnswer held a len → answer_plan method a ≡ Some plan → is_interim a.status ≡ false → (says ≢ Close → is_delimited framed plan.body ≡ true)
-    → (kept ≡ true → is_kept_by_server a plan ≡ true)
+    → kept ≡ is_kept_by_server a plan
     → AtBody says kept method framed (start_of plan.body framed) (drop len held) came (given ++ answer_text says framed a plan)
 heads_final says kept method framed count held came given a len plan at stood planned final delimits keeps =
     let h = stood.head in
@@ -579,7 +579,7 @@ heads_final says kept method framed count held came given a len plan at stood pl
         final = ap (λ (q : Answer). is_interim q.status) (sym stood.answer) ∙ final;
       };
       delimits = delimits;
-      keeps = λ on. ap (λ (q : Answer). is_kept_by_server q plan) (sym stood.answer) ∙ keeps on;
+      keeps = keeps ∙ ap (λ (q : Answer). is_kept_by_server q plan) stood.answer;
       taken = [];
       sent_on = [];
       feeds = feeds_nil (start_of plan.body framed);
@@ -658,7 +658,7 @@ forwarding_final p way held h count a len plan q is phase stood planned final to
     let text = answer_text q.says framed a plan in
     let at = heads_final q.says q.kept p.view.method framed count p.down_held.items h.server_in is.answer a len plan (down_as
     (Heads count) phase is) stood planned final
-    (said_delimits p.willing p.view plan q.says told) (λ on. sym kept ∙ on) in
+    (said_delimits p.willing p.view plan q.says told) kept in
     let down : AtBody q.says q.kept p.view.method framed way.coding q.down_held.items h.server_in (is.answer ++ text) =
     subst (λ (l : List ℕ). AtBody q.says q.kept p.view.method framed way.coding l h.server_in (is.answer ++ text)) (sym rest ∙ sym here)
     (subst (λ (c : Coding). AtBody q.says q.kept p.view.method framed c (drop len p.down_held.items) h.server_in (is.answer ++ text)) (sym coding) at) in

@@ -1,10 +1,16 @@
 -- What a call changes of an exchange with both sides active, and what it leaves as it was.
-use Rattle.std.specs.Prelude.{◌≡◌, ◌≢◌, ℕ, ◌+◌, ◌-◌, ◌≤◌, nat_lt, Bool, true, false, ◌||◌, [], ◌++◌, length, take}
+use Rattle.std.specs.Prelude.{◌≡◌, ◌≢◌, ℕ, ◌+◌, ◌-◌, ◌≤◌, ◌==◌, nat_lt, Bool, true, false, ◌||◌, not, List, [], ◌++◌, length, take, drop, Some}
+use Rattle.std.specs.List.{list_any}
 use Rattle.http_bodies.specs.declared.outbox.TheConstants.{OUTBOX_BYTES}
 use Rattle.http_bodies.specs.Stops.{is_done}
+use Rattle.http_texts.specs.Framings.{answer_plan, is_interim}
+use Rattle.http_texts.specs.Persistences.{answer_says, is_kept_by_server}
 use Rattle.http_texts.specs.Replies.{leave_text, refusal_text}
+use Rattle.http_texts.specs.declared.plans.Plan.{Plan}
 use Rattle.http_texts.specs.declared.persistence.Persistence.TheVariants.{Close}
 use Rattle.http_texts.specs.declared.refusals.Code.{Code}
+use Rattle.req_view.specs.Answer.{Answer}
+use Rattle.req_view.specs.AnswerHeads.{SaysAnswer}
 use Rattle.exchange_machine.specs.Answerings.{has_answered}
 use Rattle.exchange_machine.specs.Settlings.{is_clean}
 use Rattle.exchange_machine.specs.declared.dialing.Dialing.{Dialing}
@@ -22,6 +28,24 @@ begun_after begun left count = begun || nat_lt left count
 
 abbrev pub left_after : ℕ → ℕ → ℕ
 left_after left count = left - count
+
+-- whether a head is looked for in the held bytes, now that these came: one was to be looked for, or a
+-- line has ended in them, or no more bytes are held than these
+abbrev pub looks_again : Bool → List ℕ → ℕ → Bool
+looks_again looks came held = looks || (list_any (λ byte. byte == 10) came || not (nat_lt held 16384))
+
+-- The answer's own head stood at the front of what was held: from it follows what the client is told
+-- of its connection, and whether the server keeps its own.
+pub record HasHeaded (p q : Forwarding) : Type 0 where
+  pub answer : Answer
+  pub len : ℕ
+  pub plan : Plan
+  pub stands : SaysAnswer p.down_held.items answer len
+  pub planned : answer_plan p.view.method answer ≡ Some plan
+  pub final : is_interim answer.status ≡ false
+  pub says : q.says ≡ answer_says p.willing p.view plan
+  pub kept : q.kept ≡ is_kept_by_server answer plan
+  pub behind : q.down_held.items ≡ drop len p.down_held.items
 
 -- A request whose server was reached: the whole request is still to be sent, nothing came of an
 -- answer, and the client took nothing.

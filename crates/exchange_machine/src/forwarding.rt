@@ -1,7 +1,7 @@
 ghost use Rattle.std.specs.Prelude.{◌≡◌, ◌-◌, ◌≤◌, ◌++◌, [], length, take, drop, IfOk, OnErr, false, true, IsTrue};
 ghost use Rattle.http_bodies.specs.Stops.{is_bad, is_done};
 ghost use Rattle.http_bodies.specs.declared.coding.Coding as codings;
-ghost use Rattle.exchange_machine.specs.Changes.{Uses, begun_after, left_after};
+ghost use Rattle.exchange_machine.specs.Changes.{Uses, begun_after, left_after, looks_again};
 ghost use Rattle.exchange_machine.specs.Histories.{ExchangeHistory, client_came, server_came, server_got, client_got};
 ghost use Rattle.exchange_machine.specs.Answerings.{has_answered};
 ghost use Rattle.exchange_machine.specs.Reasons.{HasEnded, Shows};
@@ -279,6 +279,8 @@ impl Forwarding {
     pub fn server_head_bytes(&mut self, input: &[u8]) -> Result<usize, AllocError>
         ensures uses { Uses self.old self.new }
         ensures within { IfOk result (λ used. used ≤ length input.now) }
+        ensures held { IfOk result (λ used. self.new.down_held.items ≡ self.old.down_held.items ++ take used input.now) }
+        ensures looks { IfOk result (λ used. self.new.looks ≡ looks_again self.old.looks (take used input.now) (length self.new.down_held.items)) }
         ensures passes { IfOk result (λ used. (h : ExchangeHistory) → stages.IsForwarding self.old h → stages.IsForwarding self.new (server_came h (take used input.now))) }
         ensures err { OnErr result ((h : ExchangeHistory) → stages.IsForwarding self.old h → stages.IsForwarding self.new h) }
     {

@@ -1,14 +1,13 @@
 //! The heads that a server sends: they are found in its bytes, and handed on.
 
-ghost use Rattle.std.specs.Prelude.{◌≡◌, ◌≢◌, ◌<◌, ◌+◌, ℕ, true, false, Some, IsSome};
-ghost use Rattle.exchange_machine.specs.Changes.{Uses};
+ghost use Rattle.std.specs.Prelude.{◌≡◌, ◌≢◌, ◌<◌, ◌+◌, ◌⊎◌, ℕ, true, false, Some, IsSome};
+ghost use Rattle.exchange_machine.specs.Changes.{HasHeaded, Uses};
 ghost use Rattle.exchange_machine.specs.Histories.{ExchangeHistory};
-ghost use Rattle.exchange_machine.specs.Reasons.{LacksAnswer};
+ghost use Rattle.exchange_machine.specs.Reasons.{LacksAnswer, NoneFollows};
 ghost use Rattle.exchange_machine.specs.Findings.{IsSeen};
 ghost use Rattle.exchange_machine.specs.Stages as stages;
 ghost use Rattle.http_texts.specs.Framings.{answer_plan, is_interim};
-ghost use Rattle.http_texts.specs.Persistences.{answer_says, is_kept_by_server};
-ghost use Rattle.req_view.specs.AnswerHeads.{SaysAnswer};
+ghost use Rattle.req_view.specs.AnswerHeads.{SaysAnswer, WaitsForAnswer};
 
 use crate::forwarding::Forwarding;
 use crate::held::forget;
@@ -72,6 +71,10 @@ impl Forwarding {
         ensures uses { Uses self.old self.new }
         ensures body { result ≡ Headed.Answer → self.new.phase ≡ Down.Body }
         ensures heads { result ≢ Headed.Answer → self.new.phase ≢ Down.Body }
+        ensures more { result ≡ Headed.More → (self.new.looks ≡ false) × ((self.old.looks ≡ false) ⊎ WaitsForAnswer self.new.down_held.items) }
+        ensures looks { result ≢ Headed.More → self.new.looks ≡ self.old.looks }
+        ensures headed { result ≡ Headed.Answer → (self.new ≡ self.old) ⊎ HasHeaded self.old self.new }
+        ensures none { result ≡ Headed.Refused → (count : ℕ) × (self.new.phase ≡ Down.Heads count) × NoneFollows self.new.view.method count self.new.down_held.items }
         ensures refused { result ≡ Headed.Refused → (h : ExchangeHistory) → stages.IsForwarding self.old h → LacksAnswer self.new.view.method h.server_in }
     {
         let Down::Heads(count) = self.phase else {
@@ -104,11 +107,12 @@ impl Forwarding {
         requires interim { is_interim head.now.status ≡ true }
         requires few { count < 8 }
         ensures one { result ≡ Headed.Interim → self.new.phase ≡ Down.Heads (count + 1) }
-        ensures answered { result ≢ Headed.Refused }
+        ensures answered { (result ≢ Headed.Refused) × (result ≢ Headed.More) × (result ≢ Headed.Answer) }
         ensures body { result ≡ Headed.Answer → self.new.phase ≡ Down.Body }
         ensures heads { result ≢ Headed.Answer → self.new.phase ≢ Down.Body }
         ensures passes { (h : ExchangeHistory) → stages.IsForwarding self.old h → stages.IsForwarding self.new h }
         ensures uses { Uses self.old self.new }
+        ensures looks { self.new.looks ≡ self.old.looks }
     {
         let framed = is_framed(self.view.version());
         let Ok(text) = interim_head(alloc, head, framed) else {
@@ -127,12 +131,13 @@ impl Forwarding {
         requires says { SaysAnswer self.old.down_held.items head.now len }
         requires planned { answer_plan self.old.view.method head.now ≡ Some plan }
         requires last { is_interim head.now.status ≡ false }
-        ensures says { result ≡ Headed.Answer → (self.new.says ≡ answer_says self.old.willing self.old.view plan) × (self.new.kept ≡ is_kept_by_server head.now plan) }
-        ensures answered { result ≢ Headed.Refused }
+        ensures headed { result ≡ Headed.Answer → HasHeaded self.old self.new }
+        ensures answered { (result ≢ Headed.Refused) × (result ≢ Headed.More) }
         ensures body { result ≡ Headed.Answer → self.new.phase ≡ Down.Body }
         ensures heads { result ≢ Headed.Answer → self.new.phase ≢ Down.Body }
         ensures passes { (h : ExchangeHistory) → stages.IsForwarding self.old h → stages.IsForwarding self.new h }
         ensures uses { Uses self.old self.new }
+        ensures looks { self.new.looks ≡ self.old.looks }
     {
         let framed = is_framed(self.view.version());
         let says = answer_says(self.willing, &self.view, plan);
@@ -154,7 +159,7 @@ impl Forwarding {
 
 fn headed_for(why: Fault) -> Headed
     ensures memory { result ≡ Headed.Refused → why ≢ Fault.NoMemory }
-    ensures unanswered { result ≢ Headed.Answer }
+    ensures unanswered { (result ≢ Headed.Answer) × (result ≢ Headed.More) }
 {
     if why == Fault::NoMemory {
         Headed::Short

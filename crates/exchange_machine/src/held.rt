@@ -1,5 +1,6 @@
-ghost use Rattle.std.specs.Prelude.{◌≡◌, ◌==◌, ◌||◌, not, nat_lt, drop};
+ghost use Rattle.std.specs.Prelude.{◌≡◌, ◌==◌, drop};
 ghost use Rattle.std.specs.List.{list_any};
+ghost use Rattle.exchange_machine.specs.Changes.{looks_again};
 
 use req_view::HEAD_BYTES;
 /// Says whether a line ends in the bytes.
@@ -24,7 +25,7 @@ pub fn forget(held: &mut Vec<u8>, count: usize)
 
 /// Says whether to look for a head in the held bytes, now that these came.
 pub(crate) fn looks_again(looks: bool, came: &[u8], held: usize) -> bool
-    ensures { result ≡ (looks || (list_any (λ byte. byte == 10) came.now || not (nat_lt held HEAD_BYTES))) }
+    ensures { result ≡ looks_again looks came.now held }
 {
     looks || has_feed(came) || held >= HEAD_BYTES
 }

@@ -1,6 +1,6 @@
 -- An exchange and its server's connection (RFC 9112, section 9.3): the exchanges that owned it
 -- before, and the bytes that went over it.
-use Rattle.std.specs.Prelude.{◌≡◌, ◌≢◌, ◌⊎◌, ℕ, true, List, [], ◌∷◌, ◌++◌, Option, Some, None}
+use Rattle.std.specs.Prelude.{◌≡◌, ◌≢◌, ◌⊎◌, ℕ, true, false, List, [], ◌∷◌, ◌++◌, Option, Some, None}
 use Rattle.std.specs.Io.KnownBytes.{Appends, Consumes}
 use Rattle.std.specs.List.{flat_map, AllByRecursion}
 use Rattle.grant_board.specs.Views.{Grant}
@@ -9,10 +9,14 @@ use Rattle.exchange_machine.specs.Headline.{ToServer}
 use Rattle.exchange_machine.specs.Histories.{ExchangeHistory}
 use Rattle.exchange_machine.specs.Stages.{IsUnsent}
 use Rattle.exchange_machine.specs.Wholes.{Whole, IsWhole, EndsClean, forwarded_of, answer_of_server}
+use Rattle.exchange_events.specs.Chains.{takes_used}
 use Rattle.exchange_events.specs.Passes.{held_by}
 use Rattle.exchange_events.specs.Steps.{IsAtItsStage}
 use Rattle.exchange_events.specs.declared.exchange.Exchange.{Exchange}
+use Rattle.exchange_driver.specs.Answers.{Answer, Heard, with_answers}
 use Rattle.exchange_driver.specs.Wires.{Wire}
+use Rattle.exchange_driver.specs.declared.socket.ReadResult.{ReadResult}
+use Rattle.exchange_driver.specs.declared.socket.ReadResult.TheVariants.{Nothing}
 use Rattle.exchange_seated.specs.Seats.{server_of}
 
 -- the server may be asked again afterwards: it was asked to keep its connection open, and does
@@ -81,3 +85,12 @@ StillHolds old new = (new ≡ []) ⊎ (new ≡ old)
 -- it has a connection already, or holds no pass for a server
 abbrev pub WantsNone : Exchange → Wire → Type 0
 WantsNone x line = (line.there ≡ true) ⊎ (server_of (held_by x) ≡ None)
+
+-- it wants no used connection to this server: none at all, or one to another server, or its request
+-- may not go out on a used one
+abbrev pub WantsNoUsed : ℕ → Exchange → Wire → Type 0
+WantsNoUsed server x line = WantsNone x line ⊎ (server_of (held_by x) ≢ Some server) ⊎ (takes_used x ≡ false)
+
+-- a read found something: bytes, or an end
+abbrev pub HasSpoken : Option (List Answer) → Option (List Answer) → Type 0
+HasSpoken before behind = (answer : ReadResult) × (answer ≢ Nothing) × (behind ≡ with_answers (Heard answer ∷ []) before)

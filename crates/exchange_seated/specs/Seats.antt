@@ -1,5 +1,5 @@
 -- The passes and the seat of an exchange.
-use Rattle.std.specs.Prelude.{◌≡◌, ℕ, Bool, true, false, if◌then◌else◌, ◌&&◌, List, [], ◌∷◌, Option, Some, None}
+use Rattle.std.specs.Prelude.{◌≡◌, ◌⊎◌, ℕ, Bool, true, false, if◌then◌else◌, ◌&&◌, List, [], ◌∷◌, Option, Some, None}
 use Rattle.atomic_table.specs.Seated.{TableId}
 use Rattle.exchange_machine.specs.Histories.{ExchangeHistory}
 use Rattle.exchange_machine.specs.Stages.{IsWaiting, IsDialing}
@@ -9,6 +9,8 @@ use Rattle.grant_board.specs.RelayCalls.{Relay}
 use Rattle.grant_board.specs.Views.{Grant, Terms}
 use Rattle.exchange_events.specs.declared.exchange.Exchange.{Exchange}
 use Rattle.exchange_events.specs.declared.exchange.Exchange.TheVariants.{Asking, Waiting, Dialing, Forwarding, Settling, Leaving, Telling, Over}
+use Rattle.exchange_events.specs.declared.exchange.Outcome.{Outcome}
+use Rattle.exchange_events.specs.declared.exchange.Outcome.TheVariants.{Posts, StarvedPosts}
 use Rattle.exchange_seated.specs.declared.seated.Stage.{Stage}
 use Rattle.exchange_seated.specs.declared.seated.Stage.TheVariants as stages
 use Rattle.http_bodies.specs.Stops.{is_done}
@@ -68,6 +70,10 @@ abbrev pub may_end : Verdict → Ending → Bool
 may_end (Serve server) ending = true
 may_end (Told cause) Done = true
 may_end (Told cause) Failed = false
+
+-- this pass is to be posted, with this ending
+abbrev pub IsPosted : Outcome → Grant → Ending → Type 0
+IsPosted outcome pass ending = (outcome ≡ Posts pass ending) ⊎ (outcome ≡ StarvedPosts pass ending)
 
 -- it waits for a pass
 abbrev pub is_waiting : Exchange → Bool

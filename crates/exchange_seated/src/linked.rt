@@ -1,18 +1,22 @@
-ghost use Rattle.std.specs.Prelude.{◌≡◌, ◌≢◌, ◌<◌, ◌∷◌, ℕ, List, [], true, false, length, Some, IfOk, IfErr, IfSome, IfNone, MatchOption, is_some};
+ghost use Rattle.std.specs.Prelude.{◌≡◌, ◌≢◌, ◌<◌, ◌∷◌, ◌⊎◌, ℕ, List, Option, [], true, false, length, Some, IfOk, IfErr, IfSome, IfNone, MatchOption, is_some};
 ghost use Rattle.std.specs.Bool.{OnTrue, OnFalse};
+ghost use Rattle.exchange_driver.specs.Answers.{Answer, Heard, with_answers};
 ghost use Rattle.exchange_driver.specs.Drives.{Drives, IsDownAtRest, IsUpAtRest};
+ghost use Rattle.exchange_driver.specs.Moves.{IsDriven};
 ghost use Rattle.exchange_driver.specs.Wires.{Wire, is_still_at};
+ghost use Rattle.exchange_driver.specs.declared.socket.ReadResult.TheVariants.{Nothing};
 ghost use Rattle.exchange_machine.specs.Histories.{ExchangeHistory, granted};
 ghost use Rattle.exchange_machine.specs.Stages.{IsWaiting};
 ghost use Rattle.exchange_machine.specs.Wholes.{Whole};
+ghost use Rattle.exchange_events.specs.Answers as answers;
 ghost use Rattle.exchange_events.specs.Chains as chains;
 ghost use Rattle.exchange_events.specs.Passes.{held_by};
 ghost use Rattle.exchange_events.specs.Steps as steps;
 ghost use Rattle.exchange_events.specs.declared.exchange.Exchange.{Exchange};
 ghost use Rattle.exchange_events.specs.declared.exchange.Outcome as outcomes;
-ghost use Rattle.exchange_seated.specs.Connections.{IsOn, IsBehind, IsLeft, IsFor, IsUnsentYet, WantsNone};
+ghost use Rattle.exchange_seated.specs.Connections.{IsOn, IsBehind, IsLeft, IsFor, IsUnsentYet, HasSpoken, WantsNone, WantsNoUsed};
 ghost use Rattle.relay_http.specs.States.{Serves};
-ghost use Rattle.exchange_seated.specs.Seats.{is_waiting, server_of, IsDialingAt};
+ghost use Rattle.exchange_seated.specs.Seats.{is_waiting, server_of, IsDialingAt, IsPosted};
 ghost use Rattle.exchange_seated.specs.Notices.{event_of};
 ghost use Rattle.exchange_seated.specs.declared.notice.Notice.{Notice};
 
@@ -137,32 +141,43 @@ impl<N: BoardName + Ledger, S: Socket> Linked<N, S> {
     }
 
     /// Makes a used connection its own, where that goes to the server of its pass, its request may
-    /// go out on a used one, and nothing came on it meanwhile. Otherwise the connection is closed,
-    /// and this returns false.
-    pub fn take_up(&mut self, alloc: Global, unused: Unused<S>, buffer: &mut [u8]) -> bool
+    /// go out on a used one, and nothing came on it meanwhile. Otherwise the connection comes back,
+    /// to be closed.
+    pub fn take_up(
+        &mut self,
+        alloc: Global,
+        unused: Unused<S>,
+        buffer: &mut [u8],
+    ) -> Result<(), Unused<S>>
         requires { 0 < length buffer.old }
         ensures length { length buffer.new ≡ length buffer.old }
-        ensures linked { OnTrue result (self.new.line.there ≡ true) }
+        ensures linked { IfOk result (λ _. self.new.line.there ≡ true) }
         ensures seated { self.new.seated ≡ self.old.seated }
-        ensures its { OnTrue result ((self.new.server ≡ unused.server) × (server_of (held_by self.old.seated.exchange) ≡ Some unused.server)) }
-        ensures may { OnTrue result (chains.takes_used self.old.seated.exchange ≡ true) }
-        ensures dry { OnTrue result ((self.new.line.dry ≡ true) × (self.new.line.waits ≡ [])) }
-        ensures on { OnTrue result ((opened : Wire) (before : List Whole) → IsBehind opened before (S.taken unused.socket) (S.left unused.socket)
+        ensures its { IfOk result (λ _. (self.new.server ≡ unused.server) × (server_of (held_by self.old.seated.exchange) ≡ Some unused.server)) }
+        ensures may { IfOk result (λ _. chains.takes_used self.old.seated.exchange ≡ true) }
+        ensures dry { IfOk result (λ _. (self.new.line.dry ≡ true) × (self.new.line.waits ≡ [])) }
+        ensures quiet { IfOk result (λ _. self.new.line.answers ≡ with_answers (Heard Nothing ∷ []) (S.answers unused.socket)) }
+        ensures on { IfOk result (λ _. (opened : Wire) (before : List Whole) → IsBehind opened before (S.taken unused.socket) (S.left unused.socket)
             → IsOn opened before self.new.seated.exchange self.new.line) }
-        ensures refused { OnFalse result (self.new ≡ self.old) }
+        ensures refused { IfErr result (λ _. self.new ≡ self.old) }
+        ensures cause { IfErr result (λ back. WantsNoUsed unused.server self.old.seated.exchange self.old.line ⊎ HasSpoken (S.answers unused.socket) (S.answers back.socket)) }
     {
         let Some(server) = self.wanted() else {
-            return false;
+            return Err(unused);
         };
-        if server != unused.server() || !self.seated.takes_used() {
-            return false;
+        if server != unused.server() {
+            return Err(unused);
         }
-        let Some(socket) = unused.into_quiet(buffer) else {
-            return false;
-        };
+        if !self.seated.takes_used() {
+            return Err(unused);
+        }
+        let mut unused = unused;
+        if !unused.is_quiet(buffer) {
+            return Err(unused);
+        }
         self.server = server;
-        self.line = Line::new(alloc, socket);
-        true
+        self.line = Line::new(alloc, unused.into_socket());
+        Ok(())
     }
 
     // Returns the server that it waits for a connection to.
@@ -183,6 +198,7 @@ impl<N: BoardName + Ledger, S: Socket> Linked<N, S> {
         ensures gone { held_by self.old.seated.exchange ≡ [] → self.new.line.there ≡ false }
         ensures held { held_by self.old.seated.exchange ≢ [] → self.new ≡ self.old }
         ensures server { IfSome result (λ unused. unused.server ≡ self.old.server) }
+        ensures answers { IfSome result (λ unused. S.answers unused.socket ≡ self.old.line.answers) }
         ensures clean { IfSome result (λ unused. chains.is_clean self.old.seated.exchange ≡ true) }
         ensures left { IfSome result (λ unused. (opened : Wire) (before : List Whole) → IsOn opened before self.old.seated.exchange self.old.line
             → IsLeft opened before self.old.seated.exchange (S.taken unused.socket) (S.left unused.socket)) }
@@ -215,6 +231,11 @@ impl<N: BoardName + Ledger, S: Socket> Linked<N, S> {
         ensures stays { result.given ≢ Given.Retries → result.linked.line.there ≡ self.line.there }
         ensures down { result.rest ≡ Rest.Waits → IsDownAtRest result.linked.seated.exchange client.new result.linked.line }
         ensures up { result.rest ≡ Rest.Waits → IsUpAtRest result.linked.seated.exchange client.new result.linked.line }
+        ensures driven { (outcome : outcomes.Outcome) × (server : Option (List Answer))
+            × IsDriven settings.rules.aborts client.old.answers client.new.answers self.line.answers server self.seated.exchange outcome result.linked.seated.exchange
+            × (result.given ≢ Given.Retries → result.linked.line.answers ≡ server)
+            × (outcome ≡ outcomes.Outcome.Retries → result.given ≡ Given.Retries)
+            × ((posting : _) → result.given ≡ Given.Posts posting → IsPosted outcome posting.taken.held.pass posting.ending) }
         ensures client { (h : ExchangeHistory) → steps.IsAtItsStage self.seated.exchange h → (outcome : outcomes.Outcome) × (server : Wire)
             × Drives client.old client.new self.line server (is_some result.client) (is_some result.server) h result.linked.seated.exchange outcome }
     {
@@ -232,6 +253,9 @@ impl<N: BoardName + Ledger, S: Socket> Linked<N, S> {
     pub fn notify(self, settings: Settings, notice: Notice) -> Carried<N, S>
         ensures event { (h : ExchangeHistory) → steps.IsAtItsStage self.seated.exchange h → (used : ℕ) × (outcome : outcomes.Outcome)
             × steps.IsAtItsStage result.linked.seated.exchange (steps.history_after self.seated.exchange (event_of notice) used outcome h) }
+        ensures does { (used : ℕ) × (outcome : outcomes.Outcome) × answers.Does settings.rules.aborts self.seated.exchange (event_of notice) used outcome result.linked.seated.exchange
+            × (outcome ≡ outcomes.Outcome.Retries → result.given ≡ Given.Retries)
+            × ((posting : _) → result.given ≡ Given.Posts posting → IsPosted outcome posting.taken.held.pass posting.ending) }
         ensures leaves { notice ≡ Notice.ClientEnd → steps.is_left settings.rules.aborts self.seated.exchange ≡ true → result.linked.seated.exchange ≡ Exchange.Over }
         ensures same { notice ≡ Notice.ClientEnd → steps.is_left settings.rules.aborts self.seated.exchange ≡ false → result.linked.seated.exchange ≡ self.seated.exchange }
         ensures rest { result.rest ≡ Rest.Again }
@@ -274,6 +298,7 @@ impl<N: BoardName + Ledger, S: Socket> Linked<N, S> {
     pub fn ask_again(self, alloc: Global) -> Result<Linked<N, S>, Linked<N, S>>
         ensures next { IfOk result (λ next. (h : ExchangeHistory) → steps.IsAtItsStage self.seated.exchange h → chains.IsNext h next.seated.exchange) }
         ensures none { IfOk result (λ next. held_by next.seated.exchange ≡ []) }
+        ensures reads { IfOk result (λ next. answers.IsReadOn next.seated.exchange) }
         ensures unlinked { IfOk result (λ next. next.line.there ≡ false) }
         ensures may { IfOk result (λ next. chains.may_ask_again self.seated.exchange ≡ true) }
         ensures same { IfErr result (λ linked. (linked ≡ self) × (chains.may_ask_again self.seated.exchange ≡ false)) }

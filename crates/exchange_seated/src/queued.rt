@@ -30,7 +30,9 @@ impl WaitingExchange {
     }
 
     /// Returns its request.
-    pub fn view(&self) -> &View {
+    pub fn view(&self) -> &View
+        ensures { result.now ≡ self.now.waiting.asked.view }
+    {
         self.waiting.view()
     }
 

@@ -1,8 +1,10 @@
-ghost use Rattle.std.specs.Prelude.{◌≡◌, ◌⊎◌, ◌↔◌, ℕ, None, ◌<◌, ◌≤◌, ◌++◌, ◌∷◌, [], true, false, length, is_some, IfOk, IfErr, IfSome, IsTrue, MatchOption};
+ghost use Rattle.std.specs.Prelude.{◌≡◌, ◌↔◌, ℕ, None, ◌<◌, ◌≤◌, ◌++◌, ◌∷◌, [], true, false, length, is_some, IfOk, IfErr, IfSome, IsTrue, MatchOption};
 ghost use Rattle.exchange_driver.specs.Drives.{Drives, IsDownAtRest, IsUpAtRest};
+ghost use Rattle.exchange_driver.specs.Moves.{IsDriven};
 ghost use Rattle.grant_board.specs.RelayCalls.{post_after};
 ghost use Rattle.exchange_machine.specs.Histories.{ExchangeHistory};
 ghost use Rattle.exchange_machine.specs.Wholes.{EndsClean};
+ghost use Rattle.exchange_events.specs.Answers as answers;
 ghost use Rattle.exchange_events.specs.Chains as chains;
 ghost use Rattle.exchange_events.specs.Passes.{held_by, gone_with};
 ghost use Rattle.exchange_events.specs.Steps as steps;
@@ -10,7 +12,7 @@ ghost use Rattle.exchange_events.specs.declared.exchange.Exchange.{Exchange};
 ghost use Rattle.exchange_events.specs.declared.exchange.Outcome as outcomes;
 ghost use Rattle.exchange_events.specs.Steps.{HasHistory};
 ghost use Rattle.exchange_seated.specs.Connections.{StillHolds};
-ghost use Rattle.exchange_seated.specs.Seats.{is_waiting, passes_at, board_at, terms_at, is_taken, all_serve, server_of, served_by, may_end, stage_of, has_asked};
+ghost use Rattle.exchange_seated.specs.Seats.{is_waiting, passes_at, board_at, terms_at, is_taken, all_serve, server_of, served_by, may_end, IsPosted, stage_of, has_asked};
 ghost use Rattle.exchange_seated.specs.Notices.{event_of};
 ghost use Rattle.exchange_seated.specs.declared.notice.Notice.{Notice};
 
@@ -247,6 +249,7 @@ impl<N: BoardName + Ledger> Seated<N> {
     pub fn ask_again(self, alloc: Global) -> Result<Seated<N>, Seated<N>>
         ensures next { IfOk result (λ next. (h : ExchangeHistory) → steps.IsAtItsStage self.exchange h → chains.IsNext h next.exchange) }
         ensures none { IfOk result (λ next. held_by next.exchange ≡ []) }
+        ensures reads { IfOk result (λ next. answers.IsReadOn next.exchange) }
         ensures may { IfOk result (λ next. chains.may_ask_again self.exchange ≡ true) }
         ensures same { IfErr result (λ seated. (seated ≡ self) × (chains.may_ask_again self.exchange ≡ false)) }
     {
@@ -321,7 +324,11 @@ impl<N: BoardName + Ledger> Seated<N> {
             × Drives client.old client.new server.old server.new (is_some result.client) (is_some result.server) h result.seated.exchange outcome
             × (outcome ≡ outcomes.Outcome.Retries → result.given ≡ Given.Retries)
             × (result.given ≡ Given.Retries → outcome ≡ outcomes.Outcome.Retries)
-            × ((posting : _) → result.given ≡ Given.Posts posting → (outcome ≡ outcomes.Outcome.Posts posting.taken.held.pass posting.ending) ⊎ (outcome ≡ outcomes.Outcome.StarvedPosts posting.taken.held.pass posting.ending)) }
+            × ((posting : _) → result.given ≡ Given.Posts posting → IsPosted outcome posting.taken.held.pass posting.ending) }
+        ensures driven { (outcome : outcomes.Outcome)
+            × IsDriven settings.rules.aborts client.old.answers client.new.answers server.old.answers server.new.answers self.exchange outcome result.seated.exchange
+            × (outcome ≡ outcomes.Outcome.Retries → result.given ≡ Given.Retries)
+            × ((posting : _) → result.given ≡ Given.Posts posting → IsPosted outcome posting.taken.held.pass posting.ending) }
         ensures holds { StillHolds (held_by self.exchange) (held_by result.seated.exchange) }
         ensures there { server.new.there ≡ server.old.there }
         ensures down { result.rest ≡ Rest.Waits → IsDownAtRest result.seated.exchange client.new server.new }
@@ -356,9 +363,12 @@ impl<N: BoardName + Ledger> Seated<N> {
             × (now.to_server ≡ h.to_server) × (now.server_in ≡ h.server_in) × steps.IsAtItsStage result.seated.exchange (steps.ended outcome now)
             × (outcome ≡ outcomes.Outcome.Retries → result.given ≡ Given.Retries)
             × (result.given ≡ Given.Retries → outcome ≡ outcomes.Outcome.Retries)
-            × ((posting : _) → result.given ≡ Given.Posts posting → (outcome ≡ outcomes.Outcome.Posts posting.taken.held.pass posting.ending) ⊎ (outcome ≡ outcomes.Outcome.StarvedPosts posting.taken.held.pass posting.ending)) }
+            × ((posting : _) → result.given ≡ Given.Posts posting → IsPosted outcome posting.taken.held.pass posting.ending) }
         ensures event { (h : ExchangeHistory) → steps.IsAtItsStage self.exchange h → (used : ℕ) × (outcome : outcomes.Outcome)
             × steps.IsAtItsStage result.seated.exchange (steps.history_after self.exchange (event_of notice) used outcome h) }
+        ensures does { (used : ℕ) × (outcome : outcomes.Outcome) × answers.Does settings.rules.aborts self.exchange (event_of notice) used outcome result.seated.exchange
+            × (outcome ≡ outcomes.Outcome.Retries → result.given ≡ Given.Retries)
+            × ((posting : _) → result.given ≡ Given.Posts posting → IsPosted outcome posting.taken.held.pass posting.ending) }
         ensures leaves { notice ≡ Notice.ClientEnd → steps.is_left settings.rules.aborts self.exchange ≡ true → result.seated.exchange ≡ Exchange.Over }
         ensures stays { notice ≡ Notice.ClientEnd → steps.is_left settings.rules.aborts self.exchange ≡ false → result.seated.exchange ≡ self.exchange }
         ensures rest { (result.rest ≡ Rest.Again) × (result.client ≡ None) × (result.server ≡ None) }
@@ -442,7 +452,7 @@ fn part<N: BoardName + Ledger>(
     ensures exchange { result.seated.exchange ≡ exchange }
     ensures retries { outcome ≡ Outcome.Retries → result.given ≡ Given.Retries }
     ensures anew { result.given ≡ Given.Retries → outcome ≡ Outcome.Retries }
-    ensures ends { (posting : _) → result.given ≡ Given.Posts posting → (outcome ≡ Outcome.Posts posting.taken.held.pass posting.ending) ⊎ (outcome ≡ Outcome.StarvedPosts posting.taken.held.pass posting.ending) }
+    ensures ends { (posting : _) → result.given ≡ Given.Posts posting → IsPosted outcome posting.taken.held.pass posting.ending }
 {
     match outcome {
         Outcome::Quiet | Outcome::Starved => Parted {

@@ -1,5 +1,9 @@
-ghost use Rattle.std.specs.Prelude.{◌≡◌, ◌<◌, [], true, length, IfSome};
+ghost use Rattle.std.specs.Prelude.{◌≡◌, ◌<◌, ◌∷◌, [], true, length};
+ghost use Rattle.std.specs.Bool.{OnTrue, OnFalse};
 ghost use Rattle.std.specs.Io.KnownBytes.{Consumes};
+ghost use Rattle.exchange_driver.specs.Answers.{Heard, with_answers};
+ghost use Rattle.exchange_driver.specs.declared.socket.ReadResult.TheVariants.{Nothing};
+ghost use Rattle.exchange_seated.specs.Connections.{HasSpoken};
 
 use exchange_driver::{ReadResult, Socket};
 
@@ -34,20 +38,28 @@ impl<S: Socket> Unused<S> {
         &self.socket
     }
 
-    // Returns its socket, where nothing came on it. `None`: a byte came that no exchange asked for,
-    // or its end, so it is closed.
-    pub(crate) fn into_quiet(self, buffer: &mut [u8]) -> Option<S>
+    // Reads once. True where nothing was there: no byte that no exchange asked for, and no end.
+    pub(crate) fn is_quiet(&mut self, buffer: &mut [u8]) -> bool
         requires { 0 < length buffer.old }
         ensures length { length buffer.new ≡ length buffer.old }
-        ensures left { IfSome result (λ it. Consumes (S.left self.socket) (S.left it) []) }
-        ensures taken { IfSome result (λ it. S.taken it ≡ S.taken self.socket) }
-        ensures dry { IfSome result (λ it. S.dry it ≡ true) }
+        ensures server { self.new.server ≡ self.old.server }
+        ensures left { OnTrue result (Consumes (S.left self.old.socket) (S.left self.new.socket) []) }
+        ensures taken { S.taken self.new.socket ≡ S.taken self.old.socket }
+        ensures dry { OnTrue result (S.dry self.new.socket ≡ true) }
+        ensures quiet { OnTrue result (S.answers self.new.socket ≡ with_answers (Heard Nothing ∷ []) (S.answers self.old.socket)) }
+        ensures spoke { OnFalse result (HasSpoken (S.answers self.old.socket) (S.answers self.new.socket)) }
+    {
+        match self.socket.read_now(buffer) {
+            ReadResult::Nothing => true,
+            ReadResult::Bytes(_) => false,
+            ReadResult::Ended { well: _ } => false,
+        }
+    }
+
+    pub(crate) fn into_socket(self) -> S
+        ensures { result ≡ self.socket }
     {
         let Unused { server: _, socket } = self;
-        let mut socket = socket;
-        match socket.read_now(buffer) {
-            ReadResult::Nothing => Some(socket),
-            ReadResult::Bytes(_) | ReadResult::Ended { well: _ } => None,
-        }
+        socket
     }
 }

@@ -153,10 +153,8 @@ impl<
                 let Some(unused) = self.take_unused(server) else {
                     break;
                 };
-                if guest
-                    .linked
-                    .take_up(self.settings.alloc, unused, self.buffer.as_mut_slice())
-                {
+                let buffer = self.buffer.as_mut_slice();
+                if let Ok(()) = guest.linked.take_up(self.settings.alloc, unused, buffer) {
                     return true;
                 }
             }

@@ -15,7 +15,7 @@ use Rattle.proxy_config.specs.declared.parts.Server.{Server}
 use Rattle.relay_http.specs.declared.closing.Closing.TheVariants.{Reading, Forwarding, Breaking}
 use Rattle.relay_http.specs.declared.exchange.Exchange.{Exchange}
 use Rattle.relay_http.specs.declared.exchange.Stage.TheVariants.{New, Answered}
-use Rattle.relay_workers.specs.Carrying.{IsTold, IsUntouched}
+use Rattle.relay_workers.specs.Carrying.{IsToldOutcome, IsUntouched}
 use Rattle.relay_workers.specs.Checks.{later_by, IsDue, Looks, HasChecked}
 use Rattle.relay_workers.specs.Checks.HasChecked.{began as began_checks}
 use Rattle.relay_workers.specs.Crews.{EndsAs, of_all}
@@ -43,10 +43,10 @@ broken_off : after_closing (Breaking Write) ≡ Cut
 broken_off = refl
 
 -- a client that is told nothing is as it was; one that was written a byte isn't
-told_nothing : (exchange : Exchange) → IsTold {C = List ℕ} Some exchange Cut [] []
+told_nothing : (exchange : Exchange) → IsToldOutcome {C = List ℕ} Some exchange Cut [] []
 told_nothing exchange = refl
 
-told_a_byte : (exchange : Exchange) → ¬ (IsTold {C = List ℕ} Some exchange Cut [] (65 ∷ []))
+told_a_byte : (exchange : Exchange) → ¬ (IsToldOutcome {C = List ℕ} Some exchange Cut [] (65 ∷ []))
 told_a_byte exchange told = omega (arith, ap (length {A = ℕ}) told)
 
 many : {A : Type 0} → Option (List A) → ℕ

@@ -20,12 +20,12 @@ use Rattle.req_view.specs.Request.{Request}
 -- what was written to it, where they are known.
 module _ {C : Type 0} (told : C → Option (List ℕ)) where
   -- the client was told a refusal, whole or, where its write failed, a front of it; else it is as it was
-  abbrev pub IsTold : Exchange → Outcome → C → C → Type 0
-  IsTold exchange (Refused code) client client_then =
+  abbrev pub IsToldOutcome : Exchange → Outcome → C → C → Type 0
+  IsToldOutcome exchange (Refused code) client client_then =
       WrotePrefix (told client) (told client_then) (refusal_text code)
       × (exchange.reached ≡ true → Appends (told client) (told client_then) (refusal_text code))
-  IsTold exchange Answered client client_then = client_then ≡ client
-  IsTold exchange Cut client client_then = client_then ≡ client
+  IsToldOutcome exchange Answered client client_then = client_then ≡ client
+  IsToldOutcome exchange Cut client client_then = client_then ≡ client
 
 module _ {C : Type 0} (left told : C → Option (List ℕ)) where
   -- nothing was read from it or written to it
@@ -63,7 +63,7 @@ module _ {C S : Type 0} (left told : C → Option (List ℕ)) (left_there told_t
   -- it was relayed between the client and the server, and then the client was told the refusal that the outcome is
   abbrev pub IsHandedOn : Exchange → Outcome → Request → List ℕ → C → C → S → S → Type 0
   IsHandedOn exchange outcome view held client client_then server server_then =
-      (ended : C) × IsRelayed exchange.closing view held client ended server server_then × IsTold told exchange outcome ended client_then
+      (ended : C) × IsRelayed exchange.closing view held client ended server server_then × IsToldOutcome told exchange outcome ended client_then
 
   -- A request was served under a pass: the gate gave a connection for the pass, the request was handed
   -- on to it, and the gate took the connection back; or the client was told why it has no slot.
@@ -72,4 +72,4 @@ module _ {C S : Type 0} (left told : C → Option (List ℕ)) (left_there told_t
       (there : S) × (there_then : S) × IsHandedOn exchange outcome view held client client_then there there_then
       × (after ≡ noted (Disconnected there_then) (noted (Connected pass there) before))
   IsServed (Told cause) pass exchange outcome view held client client_then before after =
-      IsTold told exchange outcome client client_then × (after ≡ before)
+      IsToldOutcome told exchange outcome client client_then × (after ≡ before)

@@ -19,7 +19,7 @@ use Rattle.relay_http.specs.Askings.{HasReadHead}
 use Rattle.relay_http.specs.Failures.{Misses}
 use Rattle.relay_workers.specs.Admissions.{arrival, WishIsTurnedAway}
 use Rattle.shared_desk.specs.Answers.{AnswersArrival}
-use Rattle.relay_workers.specs.Carrying.{IsTold}
+use Rattle.relay_workers.specs.Carrying.{IsToldOutcome}
 use Rattle.relay_workers.specs.Gates.{Notice, noted}
 use Rattle.relay_workers.specs.Gates.Notice.{Released}
 use Rattle.relay_workers.specs.Turning.{IsAnswered}
@@ -71,5 +71,5 @@ module _ {C : Type 0} (left told : C → Option (List ℕ)) where
         × WishIsTurnedAway terms setup config request refusal
         × IsAnswered terms setup (AnswersArrival terms setup (arrival (wish config request)) (wish config request).pin) (Err refusal) before between))
     pub client_then : C
-    pub is_told : IsTold told exchange outcome read client_then
+    pub is_told : IsToldOutcome told exchange outcome read client_then
     pub released : after ≡ noted (Released client_then) between

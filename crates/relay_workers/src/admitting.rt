@@ -8,7 +8,7 @@ ghost use Rattle.relay_workers.specs.Admissions.{arrival, late_arrival, IsAdmitt
 ghost use Rattle.shared_desk.specs.Answers.{AnswersArrival};
 ghost use Rattle.relay_workers.specs.declared.outcome.Outcome.TheVariants.{Answered, Cut, Refused};
 ghost use Rattle.prio_rules.specs.Wishes.{wish};
-ghost use Rattle.relay_workers.specs.Carrying.{IsTold};
+ghost use Rattle.relay_workers.specs.Carrying.{IsToldOutcome};
 ghost use Rattle.relay_workers.specs.Turning.{IsAnswered};
 ghost use Rattle.relay_workers.specs.Endings.{IsTurnedAway, IsSent};
 ghost use Rattle.relay_workers.specs.Gates.{noted};
@@ -105,7 +105,7 @@ fn turn_away<G: Gate + Drop>(runner: &mut Runner<G>, client: G::Client, outcome:
     ensures same { result ≡ outcome }
     ensures unanswered { result ≢ Answered }
     ensures sent { IsSent runner.new.exchange result }
-    ensures told { (client_then : G.Client) × IsTold G.Client.contents runner.new.exchange result client client_then
+    ensures told { (client_then : G.Client) × IsToldOutcome G.Client.contents runner.new.exchange result client client_then
         × (G.notes runner.new.gate ≡ noted (Released client_then) (G.notes runner.old.gate)) }
     ensures closing { runner.new.exchange.closing ≡ runner.old.exchange.closing }
     ensures most { runner.new.exchange.most ≡ runner.old.exchange.most }
@@ -198,7 +198,7 @@ pub(crate) fn answer_refusal<W: Write>(
     ensures unanswered { (result ≢ Answered) × (exchange.new.stage ≢ stage.Answered) }
     ensures sent { IsSent exchange.new result }
     ensures cut { outcome ≡ Cut → exchange.new ≡ exchange.old }
-    ensures told { IsTold W.contents exchange.new result client.old client.new }
+    ensures told { IsToldOutcome W.contents exchange.new result client.old client.new }
     ensures closing { exchange.new.closing ≡ exchange.old.closing }
     ensures most { exchange.new.most ≡ exchange.old.most }
 {

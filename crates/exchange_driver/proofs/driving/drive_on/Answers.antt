@@ -2,13 +2,16 @@ use Rattle.std.proofs.Common.{◌≡◌, ◌∙◌, ◌<◌, sym, subst}
 use Rattle.exchange_events.specs.declared.exchange.Outcome.{Outcome}
 use Rattle.exchange_events.specs.Steps.{IsOwn}
 use Rattle.exchange_driver.specs.Drives.{Drives, at_client, at_server}
+use Rattle.exchange_driver.specs.Moves.{IsDriven}
 use Rattle.exchange_driver.specs.declared.driving.Rest.TheVariants.{Waits, Again}
 use Rattle.exchange_driver.proofs.Moving.{drives_none, drives_on}
+use Rattle.exchange_driver.proofs.Telling.{driven_none, driven_on}
 use Rattle.exchange_driver.proofs.driving.drive_on.Goals as goal
 
 pub loop-turn-init : goal.loop-turn-init
 loop-turn-init g c = record {
   at = λ h is. rw (c.none-moves.ensures.0, c.none-moves.ensures.1) (drives_none _ _ h c.args.exchange is);
+  driven = driven_none _ _ _ c.args.exchange;
   buffer = c.requires;
 }
 
@@ -19,6 +22,7 @@ returns-in_default g c =
     record {
       at = λ h is. rw (gave.moves.0, gave.moves.1, moved.0, moved.1, gave.exchange, gave.outcome)
           (drives_on _ _ _ _ _ _ _ _ _ _ h _ _ _ (c.loop-turn.invariant.at h is) c.move_down-between.ensures.at);
+      driven = rw (gave.exchange, gave.outcome) (driven_on _ _ _ _ _ _ _ _ _ _ _ c.loop-turn.invariant.driven c.move_down-between.ensures.driven);
       own = subst IsOwn (sym gave.outcome) c.move_down-between.ensures.own;
       down = λ e. let no : Again ≡ Waits = sym gave.rest ∙ e in cc;
       up = λ e. let no : Again ≡ Waits = sym gave.rest ∙ e in cc;
@@ -35,6 +39,9 @@ returns-in_default-outcome g c =
           (drives_on _ _ _ _ _ _ _ _ _ _ h _ _ _ (drives_on _ _ _ _ _ _ _ _ _ _ h _ _ _ (c.loop-turn.invariant.at h is)
           (λ k at. subst (λ (o : Outcome). Drives c.loop-turn.client down.new.client c.loop-turn.server down.new.server (at_client down.result.did)
           (at_server down.result.did) k down.result.exchange o) c.in-Quiet.is (down.ensures.at k at))) c.move_up-behind.ensures.at);
+      driven = rw (gave.exchange, gave.outcome) (driven_on _ _ _ _ _ _ _ _ _ _ _ (driven_on _ _ _ _ _ _ _ _ _ _ _ c.loop-turn.invariant.driven
+          (subst (λ (o : Outcome). IsDriven c.args.settings.rules.aborts c.loop-turn.client.answers down.new.client.answers c.loop-turn.server.answers down.new.server.answers
+          c.loop-turn.exchange o down.result.exchange) c.in-Quiet.is down.ensures.driven)) c.move_up-behind.ensures.driven);
       own = subst IsOwn (sym gave.outcome) c.move_up-behind.ensures.own;
       down = λ e. let no : Again ≡ Waits = sym gave.rest ∙ e in cc;
       up = λ e. let no : Again ≡ Waits = sym gave.rest ∙ e in cc;
@@ -53,5 +60,10 @@ loop-turn-preserved g c =
           (at_server down.result.did) k down.result.exchange o) c.in-Quiet.is (down.ensures.at k at)))
           (λ k at. subst (λ (o : Outcome). Drives down.new.client up.new.client down.new.server up.new.server (at_client up.result.did)
           (at_server up.result.did) k up.result.exchange o) c.in-Quiet-outcome.is (up.ensures.at k at)));
+      driven = driven_on _ _ _ _ _ _ _ _ _ _ _ (driven_on _ _ _ _ _ _ _ _ _ _ _ c.loop-turn.invariant.driven
+          (subst (λ (o : Outcome). IsDriven c.args.settings.rules.aborts c.loop-turn.client.answers down.new.client.answers c.loop-turn.server.answers down.new.server.answers
+          c.loop-turn.exchange o down.result.exchange) c.in-Quiet.is down.ensures.driven))
+          (subst (λ (o : Outcome). IsDriven c.args.settings.rules.aborts down.new.client.answers up.new.client.answers down.new.server.answers up.new.server.answers
+          down.result.exchange o up.result.exchange) c.in-Quiet-outcome.is up.ensures.driven);
       buffer = subst (λ n. 0 < n) (sym (up.ensures.buffer ∙ down.ensures.buffer)) c.loop-turn.invariant.buffer;
     }

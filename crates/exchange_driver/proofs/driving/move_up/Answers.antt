@@ -1,4 +1,5 @@
 use Rattle.exchange_driver.proofs.Moving.{drives_none}
+use Rattle.exchange_driver.proofs.Telling.{driven_none}
 use Rattle.exchange_driver.proofs.driving.move_up.Goals as goal
 
 pub returns-then-not-is_full-clause-rests : goal.returns-then-not-is_full-clause-rests
@@ -26,3 +27,9 @@ returns-clause-rests g c e = absurd (c.read_client.ensures.moves e)
 
 pub returns-clause-quiet : goal.returns-clause-quiet
 returns-clause-quiet g c e = absurd (c.read_client.ensures.moves e)
+
+pub returns-then-not-wants-clause-driven : goal.returns-then-not-wants-clause-driven
+returns-then-not-wants-clause-driven g c = rw (c.rests.ensures.exchange, c.rests.ensures.outcome) (driven_none _ _ _ c.args.exchange)
+
+pub returns-then-is_dry-clause-driven : goal.returns-then-is_dry-clause-driven
+returns-then-is_dry-clause-driven g c = rw (c.rests-then-is_dry.ensures.exchange, c.rests-then-is_dry.ensures.outcome) (driven_none _ _ _ c.args.exchange)

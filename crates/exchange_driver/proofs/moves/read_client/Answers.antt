@@ -1,8 +1,11 @@
-use Rattle.std.proofs.Common.{◌≡◌, ◌∙◌, false, ◌<◌, List, ℕ, ◌++◌, ◌-◌, Option, refl, ap, sym, length, take, drop, subst, arith, length-take}
+use Rattle.std.proofs.Common.{◌≡◌, ◌∙◌, Bool, true, false, ◌<◌, List, ℕ, ◌++◌, ◌-◌, Option, refl, ap, sym, length, take, drop, subst, arith, length-take}
 use Rattle.std.proofs.lemmas.List.{take_rest}
 use Rattle.std.specs.Io.KnownBytes.{Consumes}
 use Rattle.exchange_machine.specs.declared.signs.Sign.TheVariants.{ClientEnded, ClientFailed}
 use Rattle.exchange_driver.proofs.Moving.{nothing_taken, client_kept, client_signed, client_heard}
+use Rattle.exchange_driver.specs.Answers.{Heard, HasHeard}
+use Rattle.exchange_driver.specs.declared.socket.ReadResult.TheVariants.{Bytes, Nothing, Ended}
+use Rattle.exchange_driver.proofs.Telling.{heard_nothing, heard_bytes, heard_end, client_answered, client_failed}
 use Rattle.exchange_driver.proofs.moves.read_client.Goals as goal
 
 pub returns-in-Nothing-clause-at : goal.returns-in-Nothing-clause-at
@@ -38,3 +41,20 @@ returns-in-Bytes-clause-at g c h is =
     let left = subst (λ (l : Option (List ℕ)). Consumes c.args.client.now.left l bytes) (sym kept.left.0) heard.left in
     rw (c.behind-in-Bytes.ensures.exchange, c.behind-in-Bytes.ensures.outcome, c.behind-in-Bytes.ensures.did)
     (client_heard _ _ _ h bytes c.step-step.result.used _ _ left (kept.left.1 ∙ heard.taken.0) c.requires.first waits some (kept.there ∙ heard.there) none (c.step-step.ensures.at h is))
+
+pub returns-in-Nothing-clause-driven : goal.returns-in-Nothing-clause-driven
+returns-in-Nothing-clause-driven g c = rw (c.unmoved.ensures.exchange, c.unmoved.ensures.outcome)
+    (client_answered _ _ _ _ _ _ _ (Heard Nothing) (heard_nothing _ _ c.in-Nothing.ensures.heard) (refl, refl))
+
+pub returns-in-Ended-true-clause-driven : goal.returns-in-Ended-true-clause-driven
+returns-in-Ended-true-clause-driven g c = rw (c.behind.ensures.exchange, c.behind.ensures.outcome)
+    (client_answered _ _ _ _ _ _ _ (Heard (Ended true)) (heard_end _ _ (subst (λ (well : Bool). HasHeard (Ended well) c.args.client.now.answers c.read_now.new.self.answers) c.in-Ended-true.well-test c.in-Ended-true.ensures.heard)) (c.step.result.used, c.step.ensures.does))
+
+pub returns-in-Ended-false-clause-driven : goal.returns-in-Ended-false-clause-driven
+returns-in-Ended-false-clause-driven g c = rw (c.behind-in-Ended-false.ensures.exchange, c.behind-in-Ended-false.ensures.outcome)
+    (client_failed _ _ _ _ _ _ _ (subst (λ (well : Bool). HasHeard (Ended well) c.args.client.now.answers c.read_now.new.self.answers) c.in-Ended-false.well-test c.in-Ended-false.ensures.heard) c.step-in-Ended-false.ensures.does)
+
+pub returns-in-Bytes-clause-driven : goal.returns-in-Bytes-clause-driven
+returns-in-Bytes-clause-driven g c = rw (c.behind-in-Bytes.ensures.exchange, c.behind-in-Bytes.ensures.outcome)
+    (client_answered _ _ _ _ _ _ _ (Heard (Bytes c.in-Bytes.count)) (c.keep.ensures.answers ∙ heard_bytes _ _ c.in-Bytes.count c.in-Bytes.ensures.heard)
+    (c.step-step.result.used, c.step-step.ensures.does))

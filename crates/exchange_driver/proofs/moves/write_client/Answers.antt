@@ -2,6 +2,9 @@ use Rattle.std.proofs.Common.{◌≤◌, List, ℕ, refl, length, take, subst}
 use Rattle.std.specs.Io.KnownBytes.{Appends}
 use Rattle.exchange_machine.specs.declared.signs.Sign.TheVariants.{ClientFailed}
 use Rattle.exchange_driver.proofs.Moving.{nothing_left, client_kept, client_signed, client_sent}
+use Rattle.exchange_driver.specs.Answers.{Said}
+use Rattle.exchange_driver.specs.declared.socket.WriteResult.TheVariants.{Bytes, Full, Failed}
+use Rattle.exchange_driver.proofs.Telling.{client_answered}
 use Rattle.exchange_driver.proofs.moves.write_client.Goals as goal
 
 pub returns-in-Full-clause-at : goal.returns-in-Full-clause-at
@@ -19,3 +22,15 @@ returns-in-Bytes-clause-at g c h is =
     let within = subst (λ (l : List ℕ). c.in-Bytes.count ≤ length l) c.to_client.ensures said.within in
     rw (c.behind-in-Bytes.ensures.exchange, c.behind-in-Bytes.ensures.outcome, c.behind-in-Bytes.ensures.did)
     (client_sent _ _ _ h _ c.in-Bytes.count _ _ said.left.0 taken said.waits.0 (said.some c.in-Bytes.count refl) within said.there said.none (c.step-in-Bytes.ensures.at h is))
+
+pub returns-in-Full-clause-driven : goal.returns-in-Full-clause-driven
+returns-in-Full-clause-driven g c = rw (c.unmoved.ensures.exchange, c.unmoved.ensures.outcome)
+    (client_answered _ _ _ _ _ _ _ (Said Full) c.in-Full.ensures.said (refl, refl))
+
+pub returns-in-Failed-clause-driven : goal.returns-in-Failed-clause-driven
+returns-in-Failed-clause-driven g c = rw (c.behind.ensures.exchange, c.behind.ensures.outcome)
+    (client_answered _ _ _ _ _ _ _ (Said Failed) c.in-Failed.ensures.said c.step.ensures.does)
+
+pub returns-in-Bytes-clause-driven : goal.returns-in-Bytes-clause-driven
+returns-in-Bytes-clause-driven g c = rw (c.behind-in-Bytes.ensures.exchange, c.behind-in-Bytes.ensures.outcome)
+    (client_answered _ _ _ _ _ _ _ (Said (Bytes c.in-Bytes.count)) c.in-Bytes.ensures.said (c.step-in-Bytes.result.used, c.step-in-Bytes.ensures.does))

@@ -36,7 +36,7 @@ returns-in-Answer-clause-judged c =
 pub returns-in-More-clause-judged : goal.returns-in-More-clause-judged
 returns-in-More-clause-judged c =
     judged_at_head _ _ _ _ _ c.use_held.ensures.uses c.read_heads.ensures.uses (c.read_heads.ensures.heads (λ answered. more_is_no_answer (sym c.in-More.is ∙ answered)))
-    (inl c.head_goes_on.ensures.does)
+    (inl (c.read_heads.ensures.more c.in-More.is, c.head_goes_on.ensures.does))
 
 pub returns-in-Interim-clause-judged : goal.returns-in-Interim-clause-judged
 returns-in-Interim-clause-judged c =
@@ -56,4 +56,4 @@ returns-in-Short-clause-judged c =
 pub returns-in-Refused-clause-judged : goal.returns-in-Refused-clause-judged
 returns-in-Refused-clause-judged c =
     judged_at_head _ _ _ _ _ c.use_held.ensures.uses c.read_heads.ensures.uses (c.read_heads.ensures.heads (λ answered. refused_is_no_answer (sym c.in-Refused.is ∙ answered)))
-    (inr (inr (inl c.refused_badly.ensures.does)))
+    (let none = c.read_heads.ensures.none c.in-Refused.is in inr (inr (inl (record { count = none.0; heads = none.1; none = none.2; stops = c.refused_badly.ensures.does }))))

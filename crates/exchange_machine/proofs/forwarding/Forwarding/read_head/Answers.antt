@@ -1,7 +1,18 @@
-use Rattle.exchange_machine.proofs.EventLemmas.{head_refused}
+use Rattle.exchange_machine.proofs.EventLemmas.{head_refused, none_follows}
+use Rattle.std.proofs.Common.{List, ℕ, subst}
+use Rattle.exchange_machine.specs.Reasons.{NoneFollows}
 use Rattle.exchange_machine.proofs.forwarding.Forwarding.read_head.Goals as goal
 
 pub returns-in-Refused-clause-refused : goal.returns-in-Refused-clause-refused
 returns-in-Refused-clause-refused c refused h is =
     head_refused c.args.self.now h c.in-Heads.count c.as_slice.result.now c.method.result.now c.in-Refused.why c.method.ensures c.as_slice.ensures.value is
     c.in-Heads.is c.in-Refused.ensures (c.headed_for.ensures.memory refused)
+
+pub returns-in-Refused-clause-none : goal.returns-in-Refused-clause-none
+returns-in-Refused-clause-none c refused =
+    let none = none_follows c.method.result.now c.in-Heads.count c.as_slice.result.now c.in-Refused.why c.in-Refused.ensures (c.headed_for.ensures.memory refused) in
+    let held = subst (λ (l : List ℕ). NoneFollows c.method.result.now c.in-Heads.count l) c.as_slice.ensures.value none in
+    (c.in-Heads.count, c.in-Heads.is, subst (λ (m : List ℕ). NoneFollows m c.in-Heads.count c.args.self.now.down_held.items) c.method.ensures held)
+
+pub returns-in-Interim-clause-headed : goal.returns-in-Interim-clause-headed
+returns-in-Interim-clause-headed c answered = absurd (c.forward_interim.ensures.answered.2 answered)

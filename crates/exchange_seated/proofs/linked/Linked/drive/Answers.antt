@@ -43,3 +43,16 @@ returns-clause-client g c h at =
     let anew = c.linked_anew.ensures in
     let d = c.drive-served.ensures.at h at in
     (d.0, c.drive-served.new.server, rw (anew.moved.0, anew.moved.1, anew.seated) d.1)
+
+pub returns-clause-driven : goal.returns-clause-driven
+returns-clause-driven g c =
+    let anew = c.linked_anew.ensures in
+    let d = c.drive-served.ensures.driven in
+    (
+      d.0,
+      c.drive-served.new.server.answers,
+      rw anew.seated d.1,
+      (λ kept. ap (λ (w : Wire). w.answers) (anew.stays (λ is. kept (anew.rest.1 ∙ is))).0),
+      (λ is. anew.rest.1 ∙ d.2 is),
+      (λ posting is. d.3 posting (sym anew.rest.1 ∙ is)),
+    )

@@ -30,3 +30,9 @@ returns-clause-on g c linked opened before on =
     (subst (λ (x : Exchange). IsServedOn opened before x c.args.self.line) (sym (ap (λ v. v.exchange) anew.seated))
     (told_on opened _ before _ _ t.1 s t.0 t.2 t.3 t.4
     (λ is. let differ : true ≡ false = sym linked ∙ anew.retries (t.5 is) in cc))))
+
+pub returns-clause-does : goal.returns-clause-does
+returns-clause-does g c =
+    let anew = c.linked_anew.ensures in
+    let d = c.notify-served.ensures.does in
+    (d.0, d.1, rw anew.seated d.2, (λ is. anew.rest.1 ∙ d.3 is), (λ posting is. d.4 posting (sym anew.rest.1 ∙ is)))

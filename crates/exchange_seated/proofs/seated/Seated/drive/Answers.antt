@@ -8,3 +8,11 @@ returns-clause-there g c = ∥∥₁_elim c.args.self.at (hlevel props) (λ it. 
 
 pub returns-clause-holds : goal.returns-clause-holds
 returns-clause-holds g c = holds_on _ _ _ _ (c.drive-exchange.ensures.passes c.args.self.at) c.part-seated.ensures.exchange
+
+pub returns-clause-driven : goal.returns-clause-driven
+returns-clause-driven g c = (
+  c.drive-exchange.result.outcome,
+  rw c.part-seated.ensures.exchange c.drive-exchange.ensures.driven,
+  c.part-seated.ensures.retries,
+  c.part-seated.ensures.ends,
+)

@@ -1,7 +1,9 @@
 use Rattle.std.proofs.Common.{◌∙◌, List, ◌++◌, sym, ap, append-nil, subst}
 use Rattle.grant_board.specs.Views.{Grant}
 use Rattle.exchange_events.specs.Passes.{held_by}
+use Rattle.exchange_events.specs.Answers.{Does}
 use Rattle.exchange_events.specs.Steps as steps
+use Rattle.exchange_events.specs.declared.event.Event.{Event}
 use Rattle.exchange_seated.proofs.Connecting.{holds_on}
 use Rattle.exchange_seated.proofs.Seating.{gone_few}
 use Rattle.exchange_seated.proofs.seated.Seated.notify.Goals as goal
@@ -29,3 +31,9 @@ returns-clause-at g c h at = (
   c.part-seated.ensures.anew,
   c.part-seated.ensures.ends,
 )
+
+pub returns-clause-does : goal.returns-clause-does
+returns-clause-does g c =
+    let step = c.step-next.result in
+    let does = subst (λ (e : Event). Does c.args.settings.rules.aborts c.args.self.exchange e step.used step.outcome step.next) c.event.ensures.of c.step-next.ensures.does in
+    (step.used, step.outcome, rw c.part-seated.ensures.exchange does, c.part-seated.ensures.retries, c.part-seated.ensures.ends)

@@ -1,0 +1,74 @@
+-- What is told to an exchange while it is driven.
+use Rattle.std.specs.Prelude.{◌≡◌, ◌⊎◌, ℕ, Bool, true, false, List, [], ◌∷◌, ◌++◌, Option}
+use Rattle.exchange_driver.specs.Answers.{Answer, Heard, Said, with_answers}
+use Rattle.exchange_driver.specs.declared.socket.ReadResult.TheVariants as reads
+use Rattle.exchange_driver.specs.declared.socket.WriteResult.TheVariants as writes
+use Rattle.exchange_events.specs.Answers.{HasHeardEnd, HasServed, HasUsed, Hears, HearsClient, IsCutOff, IsHalfClosed, LosesClient, TellsClient}
+use Rattle.exchange_events.specs.declared.exchange.Exchange.{Exchange}
+use Rattle.exchange_events.specs.declared.exchange.Outcome.{Outcome}
+use Rattle.exchange_events.specs.declared.exchange.Outcome.TheVariants.{Quiet}
+
+-- a socket answered, of the client or of the server; or bytes that waited were looked at; or there
+-- was no memory to read more
+pub data Move : Type 0 where
+  OfClient : Answer → Move
+  OfServer : Answer → Move
+  ClientWaited : Move
+  ServerWaited : Move
+  ClientLacksMemory : Move
+  ServerLacksMemory : Move
+
+-- What a move makes of an exchange: where nothing is there, or a socket is full, nothing. Else bytes
+-- came, or were taken; a side came to its end, without an error or with one; or it takes no more.
+abbrev pub Makes : Bool → Exchange → Move → Outcome → Exchange → Type 0
+Makes aborts x (OfClient (Heard (reads.Bytes count))) outcome y = (used : ℕ) × HearsClient x used outcome y
+Makes aborts x (OfClient (Heard reads.Nothing)) outcome y = (y ≡ x) × (outcome ≡ Quiet)
+Makes aborts x (OfClient (Heard (reads.Ended true))) outcome y = (used : ℕ) × IsHalfClosed aborts x used outcome y
+Makes aborts x (OfClient (Heard (reads.Ended false))) outcome y = LosesClient x outcome y
+Makes aborts x (OfClient (Said (writes.Bytes count))) outcome y = (used : ℕ) × TellsClient count x used outcome y
+Makes aborts x (OfClient (Said writes.Full)) outcome y = (y ≡ x) × (outcome ≡ Quiet)
+Makes aborts x (OfClient (Said writes.Failed)) outcome y = LosesClient x outcome y
+Makes aborts x (OfServer (Heard (reads.Bytes count))) outcome y = (used : ℕ) × Hears HasUsed x used outcome y
+Makes aborts x (OfServer (Heard reads.Nothing)) outcome y = (y ≡ x) × (outcome ≡ Quiet)
+Makes aborts x (OfServer (Heard (reads.Ended well))) outcome y = (used : ℕ) × Hears (HasHeardEnd well) x used outcome y
+Makes aborts x (OfServer (Said (writes.Bytes count))) outcome y = (used : ℕ) × Hears (HasServed count) x used outcome y
+Makes aborts x (OfServer (Said writes.Full)) outcome y = (y ≡ x) × (outcome ≡ Quiet)
+Makes aborts x (OfServer (Said writes.Failed)) outcome y = (used : ℕ) × Hears IsCutOff x used outcome y
+Makes aborts x ClientWaited outcome y = (used : ℕ) × HearsClient x used outcome y
+Makes aborts x ServerWaited outcome y = (used : ℕ) × Hears HasUsed x used outcome y
+Makes aborts x ClientLacksMemory outcome y = LosesClient x outcome y
+Makes aborts x ServerLacksMemory outcome y = (used : ℕ) × Hears (HasHeardEnd false) x used outcome y
+
+-- these moves, one after the other; only the last one gave something away
+abbrev pub MakeAll : Bool → Exchange → List Move → Outcome → Exchange → Type 0
+MakeAll aborts x [] outcome y = (y ≡ x) × (outcome ≡ Quiet)
+MakeAll aborts x (move ∷ moves) outcome y =
+    (next : Exchange) × (given : Outcome) × Makes aborts x move given next
+    × (((given ≡ Quiet) × MakeAll aborts next moves outcome y) ⊎ ((moves ≡ []) × (outcome ≡ given) × (y ≡ next)))
+
+-- the answers of the client's socket among them, and of the server's
+abbrev pub of_client : List Move → List Answer
+of_client [] = []
+of_client (OfClient answer ∷ moves) = answer ∷ of_client moves
+of_client (OfServer answer ∷ moves) = of_client moves
+of_client (ClientWaited ∷ moves) = of_client moves
+of_client (ServerWaited ∷ moves) = of_client moves
+of_client (ClientLacksMemory ∷ moves) = of_client moves
+of_client (ServerLacksMemory ∷ moves) = of_client moves
+
+abbrev pub of_server : List Move → List Answer
+of_server [] = []
+of_server (OfClient answer ∷ moves) = of_server moves
+of_server (OfServer answer ∷ moves) = answer ∷ of_server moves
+of_server (ClientWaited ∷ moves) = of_server moves
+of_server (ServerWaited ∷ moves) = of_server moves
+of_server (ClientLacksMemory ∷ moves) = of_server moves
+of_server (ServerLacksMemory ∷ moves) = of_server moves
+
+-- An exchange was told just what its two sockets answered, in the order in which they did, and
+-- gave this away. (The answers of both sockets, before and behind, where they remember them.)
+pub record IsDriven (aborts : Bool) (client client_then server server_then : Option (List Answer)) (x : Exchange) (outcome : Outcome) (next : Exchange) : Type 0 where
+  pub moves : List Move
+  pub make : MakeAll aborts x moves outcome next
+  pub client_is : client_then ≡ with_answers (of_client moves) client
+  pub server_is : server_then ≡ with_answers (of_server moves) server

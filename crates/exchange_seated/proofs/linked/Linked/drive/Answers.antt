@@ -47,8 +47,7 @@ returns-clause-client g c h at =
 pub returns-clause-driven : goal.returns-clause-driven
 returns-clause-driven g c =
     let anew = c.linked_anew.ensures in
-    let d = c.drive-served.ensures.driven in
-    (
+    let d = c.drive-served.ensures.driven in (
       d.0,
       c.drive-served.new.server.answers,
       rw anew.seated d.1,

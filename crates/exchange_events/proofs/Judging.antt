@@ -1,8 +1,11 @@
 -- How an exchange with both sides active is judged, once what it held was used.
-use Rattle.std.proofs.Common.{◌≡◌, ◌≢◌, refl, sym, subst, ◌∙◌}
+use Rattle.std.proofs.Common.{◌≡◌, ◌≢◌, ℕ, false, refl, subst}
 use Rattle.exchange_machine.specs.Changes.{Uses}
+use Rattle.exchange_machine.specs.Histories.{ExchangeHistory}
+use Rattle.exchange_machine.specs.Stages.{HoldsNoHead, IsForwarding}
 use Rattle.exchange_machine.specs.declared.forwarding.Forwarding.{Forwarding}
-use Rattle.exchange_machine.specs.declared.sides.Down.TheVariants.{Body}
+use Rattle.exchange_machine.specs.declared.sides.Down.{Down}
+use Rattle.exchange_machine.specs.declared.sides.Down.TheVariants.{Body, Heads}
 use Rattle.exchange_events.specs.Answers.{AwaitsAnswer, AwaitsBody, IsJudged}
 use Rattle.exchange_events.specs.declared.exchange.Exchange.{Exchange}
 use Rattle.exchange_events.specs.declared.exchange.Outcome.{Outcome}
@@ -19,20 +22,34 @@ uses_both p q r one two = subst (λ s. r ≡ record s {
   looks = r.looks;
 }) one two
 
-pub judged_at_head : (p q r : Forwarding) (outcome : Outcome) (next : Exchange) → Uses p q → Uses q r → r.phase ≢ Body → AwaitsAnswer r outcome next
-    → IsJudged p outcome next
-judged_at_head p q r outcome next one two heads awaits = record {
+heads_of : (d : Down) → d ≢ Body → (count : ℕ) × (d ≡ Heads count)
+heads_of (Heads count) other = (count, refl)
+heads_of Body other = absurd (other refl)
+
+-- where no line has ended since the last look, no whole head is held
+pub holds_none : (p : Forwarding) → p.looks ≡ false → p.phase ≢ Body → HoldsNoHead p
+holds_none p dry other h is =
+    let at = heads_of p.phase other in
+    is.looked dry at.0 at.1
+
+pub judged_at_head : (p q r : Forwarding) (outcome : Outcome) (next : Exchange) → Uses p q → Uses q r → (p.phase ≡ Body → r.phase ≡ Body)
+    → ((h : ExchangeHistory) → IsForwarding p h → IsForwarding r h) → r.phase ≢ Body → AwaitsAnswer r outcome next → IsJudged p outcome next
+judged_at_head p q r outcome next one two stays same heads awaits = record {
   now = r;
   uses = uses_both p q r one two;
+  stays = stays;
+  same = same;
   head = λ other. awaits;
   body = λ at. absurd (heads at);
 }
 
-pub judged_at_body : (p q r s : Forwarding) (outcome : Outcome) (next : Exchange) → Uses p q → Uses q r → Uses r s → s.phase ≡ Body → AwaitsBody s outcome next
-    → IsJudged p outcome next
-judged_at_body p q r s outcome next one two three body awaits = record {
+pub judged_at_body : (p q r s : Forwarding) (outcome : Outcome) (next : Exchange) → Uses p q → Uses q r → Uses r s
+    → ((h : ExchangeHistory) → IsForwarding p h → IsForwarding s h) → s.phase ≡ Body → AwaitsBody s outcome next → IsJudged p outcome next
+judged_at_body p q r s outcome next one two three same body awaits = record {
   now = s;
   uses = uses_both p q s one (uses_both q r s two three);
+  stays = λ at. body;
+  same = same;
   head = λ other. absurd (other body);
   body = λ at. awaits;
 }

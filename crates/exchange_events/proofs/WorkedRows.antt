@@ -2,10 +2,15 @@
 use Rattle.std.proofs.Common.{◌≡◌, Bool, true, false, refl, arith}
 use Rattle.base_verdict.specs.declared.Ending.TheVariants.{Done, Failed}
 use Rattle.grant_board.specs.Views.{Grant}
+use Rattle.http_bodies.specs.Stops.{is_bad}
+use Rattle.exchange_machine.specs.Repeatables.{IsSentAgain, IsUntouched}
+use Rattle.exchange_machine.specs.Stages.{IsChecked}
+use Rattle.exchange_machine.specs.declared.asking.Turn.TheVariants as Turns
 use Rattle.exchange_machine.specs.declared.dialing.Dialing as dialings
+use Rattle.exchange_machine.specs.declared.forwarding.Forwarding as forwardings
 use Rattle.exchange_machine.specs.declared.waiting.Waiting as waitings
-use Rattle.exchange_events.specs.Answers.{Stays, LosesClient, IsGranted, MissesServer, IsHalfClosed}
-use Rattle.exchange_events.specs.declared.exchange.Exchange.TheVariants.{Waiting, Dialing, Over}
+use Rattle.exchange_events.specs.Answers.{AwaitsHead, HasHeardEnd, HasReadOn, Stays, LosesClient, IsGranted, MissesServer, IsHalfClosed}
+use Rattle.exchange_events.specs.declared.exchange.Exchange.TheVariants.{Waiting, Dialing, Forwarding, Over}
 use Rattle.exchange_events.specs.declared.exchange.Outcome.{Outcome}
 use Rattle.exchange_events.specs.declared.exchange.Outcome.TheVariants.{Quiet, Posts, Returns}
 
@@ -47,3 +52,22 @@ not_again d reached misses = failed_isnt_done d.pass (misses.never reached).0
 -- a client that sends no more stays while it waits, where the rules don't give it up
 stays_there : (w : waitings.Waiting) → IsHalfClosed false (Waiting w) 0 Quiet (Waiting w)
 stays_there w = record { leaves = λ wrong. absurd cc; stays = λ it. record { none = refl; quiet = refl; same = refl } }
+
+-- a request whose head is whole waits for a pass, and isn't dropped
+waits_for_a_pass : (w : waitings.Waiting) → IsChecked (Turns.Whole w) → HasReadOn Quiet (Waiting w)
+waits_for_a_pass w checked = (refl, checked)
+
+isnt_dropped : ¬ (HasReadOn Quiet Over)
+isnt_dropped is = is
+
+-- a server that ended before its answer, for a request that may not be sent again: it doesn't go on
+goes_on_no_further : (p : forwardings.Forwarding) → is_bad p.up.coding ≡ false → p.ended ≡ true → ¬ (IsSentAgain p) → ¬ (IsUntouched p)
+    → ¬ (AwaitsHead p Quiet (Forwarding p))
+goes_on_no_further p good ended once touched is = is.ended good ended once touched
+
+-- a server's end changes what is known of it, and nothing else
+hears_an_end : (p : forwardings.Forwarding) → HasHeardEnd true p 0 (record p { ended = true; well = true })
+hears_an_end p = (refl, refl)
+
+hears_no_more : (p : forwardings.Forwarding) → ¬ (HasHeardEnd true p 1 (record p { ended = true; well = true }))
+hears_no_more p is = omega (arith, is.0)

@@ -10,9 +10,10 @@ use Rattle.http_texts.specs.Replies.{refusal_text}
 use Rattle.http_texts.specs.declared.refusals.Code.{Code}
 use Rattle.http_texts.specs.declared.refusals.Code.TheVariants.{BadGateway, BadRequest, Unavailable}
 use Rattle.exchange_machine.specs.Changes.{IsBegunOn, IsLeftOf, Uses, begun_after, left_after}
+use Rattle.exchange_machine.specs.Histories.{ExchangeHistory}
 use Rattle.exchange_machine.specs.Reasons.{NoneFollows}
 use Rattle.exchange_machine.specs.Repeatables.{IsSentAgain, IsUntouched}
-use Rattle.exchange_machine.specs.Stages.{IsChecked}
+use Rattle.exchange_machine.specs.Stages.{HoldsNoHead, IsChecked, IsForwarding}
 use Rattle.exchange_machine.specs.Wants.{is_none}
 use Rattle.exchange_machine.specs.declared.asking.Turn.TheVariants as Turns
 use Rattle.exchange_machine.specs.declared.dialing.Dialing as dialings
@@ -124,18 +125,19 @@ pub record LacksHead (p : forwardings.Forwarding) (outcome : Outcome) (next : Ex
   pub none : NoneFollows p.view.method count p.down_held.items
   pub stops : StopsWith BadGateway p outcome next
 
--- before the answer's own head: no line has ended since a look that found none; or a head's text waits
--- for room behind bytes for the client; or what came has none; or there is no memory, or never room,
--- for its text
+-- before the answer's own head: none is there yet; or a head's text waits for room behind bytes for
+-- the client; or what came has none; or there is no memory, or never room, for its text
 abbrev pub AwaitsAnswer : forwardings.Forwarding → Outcome → Exchange → Type 0
-AwaitsAnswer p outcome next = ((p.looks ≡ false) × AwaitsHead p outcome next)
+AwaitsAnswer p outcome next = (HoldsNoHead p × AwaitsHead p outcome next)
     ⊎ ((p.down.out ≢ []) × RelaysOn p outcome next) ⊎ LacksHead p outcome next ⊎ StarvesIn p outcome next
 
--- An exchange with both sides active uses the bytes that it holds, as far as there is room, and is
--- judged then.
+-- An exchange with both sides active uses the bytes that it holds, as far as there is room, which is
+-- no event of its history, and is judged then.
 pub record IsJudged (p : forwardings.Forwarding) (outcome : Outcome) (next : Exchange) : Type 0 where
   pub now : forwardings.Forwarding
   pub uses : Uses p now
+  pub stays : p.phase ≡ Body → now.phase ≡ Body
+  pub same : (h : ExchangeHistory) → IsForwarding p h → IsForwarding now h
   pub head : now.phase ≢ Body → AwaitsAnswer now outcome next
   pub body : now.phase ≡ Body → AwaitsBody now outcome next
 

@@ -47,6 +47,7 @@ fn read_heads(forwarding: &mut Forwarding, alloc: Global, left: u8) -> Headed
     ensures more { result ≡ Headed.More → forwarding.new.looks ≡ false }
     ensures none { result ≡ Headed.Refused → (count : ℕ) × (forwarding.new.phase ≡ Down.Heads count) × NoneFollows forwarding.new.view.method count forwarding.new.down_held.items }
     ensures uses { Uses forwarding.old forwarding.new }
+    ensures stays { forwarding.old.phase ≡ Down.Body → forwarding.new.phase ≡ Down.Body }
     ensures passes { (h : ExchangeHistory) → IsForwarding forwarding.old h → IsForwarding forwarding.new h }
     ensures refused { result ≡ Headed.Refused → (h : ExchangeHistory) → IsForwarding forwarding.old h → LacksAnswer forwarding.new.view.method h.server_in }
 {
@@ -168,7 +169,8 @@ fn again(forwarding: Forwarding) -> Turned
 fn body_goes_on(mut forwarding: Forwarding) -> Turned
     ensures at { (h : ExchangeHistory) → IsForwarding forwarding h → steps.IsAtItsStage result.next (steps.ended result.outcome h) }
     ensures does { forwarding.phase ≡ Down.Body
-        → (now : forwardings.Forwarding) × Uses forwarding now × (now.phase ≡ Down.Body) × answers.AwaitsBody now result.outcome result.next }
+        → (now : forwardings.Forwarding) × Uses forwarding now × (now.phase ≡ Down.Body) × ((h : ExchangeHistory) → IsForwarding forwarding h → IsForwarding now h)
+        × answers.AwaitsBody now result.outcome result.next }
     ensures fails { steps.FailsInTurn result.outcome result.next }
 {
     if !forwarding.is_at_body() {

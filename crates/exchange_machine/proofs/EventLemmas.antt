@@ -10,7 +10,7 @@ use Rattle.http_texts.specs.declared.fault.Fault.{Fault}
 use Rattle.http_texts.specs.declared.fault.Fault.TheVariants as Faulty
 use Rattle.http_texts.specs.declared.refusals.Code.{Code}
 use Rattle.http_texts.specs.declared.refusals.Code.TheVariants.{BadGateway, BadRequest, Unavailable}
-use Rattle.req_view.specs.AnswerHeads.{SaysAnswer, NeverHasAnswer}
+use Rattle.req_view.specs.AnswerHeads.{HasNoAnswer, SaysAnswer, NeverHasAnswer}
 use Rattle.req_view.specs.Request.{Request}
 use Rattle.base_verdict.specs.declared.Ending.TheVariants.{Done}
 use Rattle.exchange_machine.specs.Answerings.{TellsAnswer}
@@ -150,6 +150,7 @@ forwarding_signed p h s is = record {
   agreed = is.agreed;
   adds = is.adds;
   leave = is.leave;
+  looked = is.looked;
 }
 
 -- nor does what is left of an exchange whose messages were whole
@@ -442,10 +443,12 @@ forwarding_ended p q h is ends ends_well same = subst (λ (r : Forwarding). IsFo
   agreed = is.agreed;
   adds = is.adds;
   leave = is.leave;
+  looked = is.looked;
 })
 
-pub forwarding_marked : (p q : Forwarding) (h : ExchangeHistory) → IsForwarding p h → q ≡ record p { cut = q.cut; fresh = q.fresh; dialing = q.dialing } → IsForwarding q h
-forwarding_marked p q h is same = subst (λ (r : Forwarding). IsForwarding r h) (sym same) (record {
+pub forwarding_marked : (p q : Forwarding) (h : ExchangeHistory) → IsForwarding p h → (q.looks ≡ false → (count : ℕ) → p.phase ≡ Heads count → HasNoAnswer p.down_held.items)
+    → q ≡ record p { cut = q.cut; fresh = q.fresh; looks = q.looks; dialing = q.dialing } → IsForwarding q h
+forwarding_marked p q h is looked same = subst (λ (r : Forwarding). IsForwarding r h) (sym same) (record {
   behind = is.behind;
   asked = is.asked;
   request = is.request;
@@ -464,4 +467,5 @@ forwarding_marked p q h is same = subst (λ (r : Forwarding). IsForwarding r h) 
   agreed = is.agreed;
   adds = is.adds;
   leave = is.leave;
+  looked = looked;
 })

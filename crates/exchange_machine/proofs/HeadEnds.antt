@@ -3,10 +3,11 @@ use Rattle.std.proofs.Common.{◌≡◌, ◌∙◌, ◌⊎◌, inl, inr, ◌==�
 use Rattle.std.specs.List.{list_any, flat_map}
 use Rattle.std.proofs.lemmas.List.{append_cancel_left}
 use Rattle.std.proofs.lemmas.List.Folds.{list_any-append}
-use Rattle.httparse.specs.Grammar.{LineEnd, RequestHead, print_blank, print_end, print_field, print_request, print_section, print_version}
+use Rattle.httparse.specs.Grammar.{LineEnd, RequestHead, ResponseHead, print_blank, print_end, print_field, print_reason, print_request, print_response, print_section, print_version}
 use Rattle.httparse.specs.Grammar.LineEnd.{crlf, lf}
 use Rattle.httparse.specs.Ascii.{space}
 use Rattle.base_lists.proofs.Fronts.{two_fronts}
+use Rattle.req_view.specs.AnswerHeads.{HasNoAnswer}
 use Rattle.req_view.specs.Heads.{HasHead, HasNoHead}
 
 abbrev pub has_feed : List ℕ → Bool
@@ -27,6 +28,12 @@ request_feed : (h : RequestHead) → EndsInFeed (print_request h)
 unfolding print_request
 request_feed h =
     behind_feed (print_blank h.blank ++ h.method ++ space ∷ h.target ++ space ∷ print_version h.minor ++ print_end h.line_end) (print_section h.fields h.last)
+    (behind_feed (flat_map print_field h.fields) (print_end h.last) (end_feed h.last))
+
+response_feed : (h : ResponseHead) → EndsInFeed (print_response h)
+unfolding print_response
+response_feed h =
+    behind_feed (print_blank h.blank ++ print_version h.minor ++ space ∷ h.digits ++ print_reason h.reason ++ print_end h.line_end) (print_section h.fields h.last)
     (behind_feed (flat_map print_field h.fields) (print_end h.last) (end_feed h.last))
 
 or_feed : (b : Bool) → (b || true) ≡ true
@@ -54,22 +61,35 @@ none_left : (front rest : List ℕ) → [] ≡ (front ++ 10 ∷ []) ++ rest → 
 none_left [] rest e = cc
 none_left (b ∷ front) rest e = cc
 
-pub no_head_yet : (held more : List ℕ) → HasNoHead held → has_feed more ≡ false → HasNoHead (held ++ more)
-no_head_yet held more none dry h rest is =
-    let head = print_request h in
-    let within = λ (m : List ℕ) (e : held ≡ head ++ m). none h m (head_in held h m (held ++ more) rest is e) in
-    elim (two_fronts held head more rest is.0.reads.1) [
+-- what ends in a feed, and stands in what came, stood there before the last feed came
+stands_before : (held more text rest : List ℕ) → EndsInFeed text → held ++ more ≡ text ++ rest → has_feed more ≡ false → (m : List ℕ) × (held ≡ text ++ m)
+stands_before held more text rest feed is dry =
+    elim (two_fronts held text more rest is) [
       | inl f ↦
-          let feed = request_feed h in
           let behind : more ≡ f.rest ++ rest =
-          append_cancel_left held more (f.rest ++ rest) (is.0.reads.1 ∙ ap (λ l. l ++ rest) f.is ∙ append_assoc held f.rest rest) in
+          append_cancel_left held more (f.rest ++ rest) (is ∙ ap (λ l. l ++ rest) f.is ∙ append_assoc held f.rest rest) in
           elim (feed_behind held f.rest feed.front (sym f.is ∙ feed.is)) [
-            | inl all ↦ within [] (sym (append-nil held) ∙ ap (λ l. held ++ l) (sym all) ∙ sym f.is ∙ sym (append-nil head))
+            | inl all ↦ ([], sym (append-nil held) ∙ ap (λ l. held ++ l) (sym all) ∙ sym f.is ∙ sym (append-nil text))
             | inr some ↦
                 absurd (true≢false (sym (ap (λ b. b || has_feed rest) some) ∙ sym (list_any-append (λ byte. byte == 10) f.rest rest) ∙ ap has_feed (sym behind) ∙ dry))
           ]
-      | inr f ↦ within f.rest f.is
+      | inr f ↦ (f.rest, f.is)
     ]
+
+pub no_head_yet : (held more : List ℕ) → HasNoHead held → has_feed more ≡ false → HasNoHead (held ++ more)
+no_head_yet held more none dry h rest is =
+    let before = stands_before held more (print_request h) rest (request_feed h) is.0.reads.1 dry in
+    none h before.0 (head_in held h before.0 (held ++ more) rest is before.1)
+
+pub no_answer_yet : (held more : List ℕ) → HasNoAnswer held → has_feed more ≡ false → HasNoAnswer (held ++ more)
+no_answer_yet held more none dry h rest is =
+    let before = stands_before held more (print_response h) rest (response_feed h) is.reads.1 dry in
+    none h before.0 (record { reads = (is.reads.0, before.1); few_bytes = is.few_bytes; few_fields = is.few_fields })
+
+pub no_answer_at_all : HasNoAnswer []
+no_answer_at_all h rest is =
+    let feed = response_feed h in
+    none_left feed.front rest (is.reads.1 ∙ ap (λ l. l ++ rest) feed.is)
 
 pub no_head_at_all : HasNoHead []
 no_head_at_all h rest is =

@@ -5,3 +5,4 @@ pub mod SettlingLemmas
 pub mod SideLemmas
 pub mod WayLemmas
 pub mod HeadEnds
+mod WorkedRows

@@ -155,5 +155,6 @@ forwarding_redialed p q h is may same =
         agreed = is.agreed;
         adds = is.adds;
         leave = is.leave;
+        looked = is.looked;
       }),
     )

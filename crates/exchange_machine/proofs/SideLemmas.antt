@@ -1,8 +1,9 @@
 -- What the sides gave, by the definitions of whole messages.
-use Rattle.std.proofs.Common.{cond, ◌&&◌, ◌≡◌, ◌≢◌, ◌∙◌, ℕ, ◌+◌, ◌-◌, ◌<◌, ◌≤◌, Bool, true, false, true≢false, Some, IsSome, List, [], ◌∷◌, ◌++◌, length, take, drop, refl, sym, ap, arith, append_assoc, append-nil, length-append, length-drop, subst, inr}
+use Rattle.std.proofs.Common.{cond, ◌&&◌, ◌||◌, not, nat_lt, ◌≡◌, ◌≢◌, ◌∙◌, ℕ, ◌+◌, ◌-◌, ◌<◌, ◌≤◌, Bool, true, false, true≢false, Some, IsSome, List, [], ◌∷◌, ◌++◌, length, take, drop, refl, sym, ap, arith, append_assoc, append-nil, length-append, length-drop, subst, inr}
 use Rattle.std.proofs.lemmas.Bool.Decides.{nat_tests}
 use Rattle.httparse.specs.Grammar.{ResponseHead, print_response}
-use Rattle.exchange_machine.specs.Changes.{begun_after}
+use Rattle.exchange_machine.proofs.HeadEnds.{has_feed, no_answer_at_all, no_answer_yet}
+use Rattle.exchange_machine.specs.Changes.{begun_after, looks_again}
 use Rattle.http_texts.specs.declared.refusals.Code.{Code}
 use Rattle.base_lists.specs.Fronts.{IsFront}
 use Rattle.http_bodies.specs.Framings.{IsBody, LacksBody}
@@ -13,7 +14,7 @@ use Rattle.http_texts.specs.Messages.PartOfAnswered.{some_heads, head_and_body a
 use Rattle.http_texts.specs.Persistences.{is_delimited, is_kept_by_server, wished, answer_says}
 use Rattle.http_texts.specs.Texts.{request_text, answer_text, interim_text}
 use Rattle.req_view.specs.Answer.{Answer, answer_of}
-use Rattle.req_view.specs.AnswerHeads.{SaysAnswer}
+use Rattle.req_view.specs.AnswerHeads.{HasNoAnswer, SaysAnswer}
 use Rattle.http_texts.specs.Framings.{request_framing, answer_plan, is_interim}
 use Rattle.http_texts.specs.Heads.{FramedBadly}
 use Rattle.http_texts.specs.declared.additions.Additions.{Additions}
@@ -257,6 +258,7 @@ forwarding_more p way h bytes is none step =
       agreed = is.agreed;
       adds = is.adds;
       leave = is.leave;
+      looked = is.looked;
     }
 
 -- what a side gave is what a part became
@@ -417,6 +419,7 @@ dialing_passes d p h is view pass reach framing coding out held phase empty leav
         leave_is = ap leave_text view ∙ sym leave ∙ ap (λ l. l ++ p.down.out) (sym is.silent);
         out_is = sym (append-nil p.down.out);
       };
+      looked = λ dry count at. subst HasNoAnswer (sym empty) no_answer_at_all;
     }
 
 pub forwarding_server : (p : Forwarding) (h : ExchangeHistory) → IsForwarding p h → ToServer h
@@ -530,6 +533,9 @@ pub down_as : {p : Forwarding} {h : ExchangeHistory} (phase : Down) → p.phase 
 down_as {p} {h} phase e is =
     subst (λ (d : Down). IsDown p.says p.kept p.view.method (framed_for p.view.version) d p.down.coding p.down_held.items h.server_in is.answer) e is.down
 
+body_is_no_head : (count : ℕ) → Body ≡ Heads count → ⊥
+body_is_no_head count is = cc
+
 pub forwarding_answer : (p : Forwarding) (way : Way) (h : ExchangeHistory) (bytes : List ℕ) → IsForwarding p h → p.phase ≡ Body → p.down_held.items ≡ []
     → ((start : Coding) (text x y : List ℕ) → Hears start p.down.coding text p.down.out x y → Hears start way.coding text way.out (x ++ bytes) y)
     → IsFront p.down.out way.out → IsForwarding (record p { down = way }) (server_came h bytes)
@@ -557,6 +563,7 @@ forwarding_answer p way h bytes is body none step grows =
       agreed = is.agreed;
       adds = is.adds;
       leave = λ none. leave_grows grows (is.leave none);
+      looked = is.looked;
     }
 
 -- the answer's own head stands in what is held: its text goes out, and its body begins
@@ -683,15 +690,16 @@ forwarding_final p way held h count a len plan q is phase stood planned final to
       agreed = said_wished p.willing p.view plan q.says told;
       adds = is.adds;
       leave = λ none. leave_grows (record { rest = text; is = out }) (is.leave none);
+      looked = λ dry other at. absurd (body_is_no_head other at);
     })
 
 pub forwarding_interim : (p : Forwarding) (way : Way) (held : List ℕ) (h : ExchangeHistory) (count : ℕ) (a : Answer) (len : ℕ) (q : Forwarding) → IsForwarding p h
-    → p.phase ≡ Heads count
+    → p.looks ≡ true → p.phase ≡ Heads count
     → SaysAnswer p.down_held.items a len → IsSome (answer_plan p.view.method a) → is_interim a.status ≡ true → count < 8
     → way.out ≡ p.down.out ++ interim_text (framed_for p.view.version) a
     → held ≡ drop len p.down_held.items → q.down_held.items ≡ held → q ≡ record p { phase = Heads (count + 1); down = way; down_held = q.down_held }
     → IsForwarding q h
-forwarding_interim p way held h count a len q is phase says planned interim few out rest here same =
+forwarding_interim p way held h count a len q is looks phase says planned interim few out rest here same =
     let framed = framed_for p.view.version in
     let at = heads_interim p.view.method framed count p.down_held.items h.server_in is.answer a len (down_as (Heads count) phase is) says planned interim few in
     let down : AtHeads p.view.method framed (count + 1) q.down_held.items h.server_in (is.answer ++ interim_text framed a) =
@@ -717,6 +725,7 @@ forwarding_interim p way held h count a len q is phase says planned interim few 
       agreed = is.agreed;
       adds = is.adds;
       leave = λ none. leave_grows (record { rest = interim_text framed a; is = out }) (is.leave none);
+      looked = λ dry other at. absurd (true≢false (sym looks ∙ dry));
     })
 
 -- the request whose head stands in what came
@@ -802,6 +811,7 @@ forwarding_used p way q h used seen is same step rest here =
       agreed = is.agreed;
       adds = is.adds;
       leave = is.leave;
+      looked = is.looked;
     })
 
 body_used : (says : Persistence) (kept : Bool) (method : List ℕ) (framed : Bool) (c d : Coding) (out out' held rest came given lead sent seen : List ℕ)
@@ -872,6 +882,7 @@ forwarding_answer_used p way q h used seen is body same step grows rest here =
       agreed = is.agreed;
       adds = is.adds;
       leave = λ none. leave_grows grows (is.leave none);
+      looked = λ dry count at. absurd (body_is_no_head count (sym body ∙ at));
     })
 
 pub no_interims : (hs : List ResponseHead) (framed : Bool) → 0 ≡ length hs → interims_text framed hs ≡ []
@@ -958,6 +969,7 @@ forwarding_told p q h count is out coding still same =
           subst (λ (l : List ℕ). HasLeave q.leave_left (leave_text p.view) (h.to_client ++ front) l) (sym out)
           (subst (λ (n : ℕ). HasLeave n (leave_text p.view) (h.to_client ++ front) (drop count p.down.out)) (sym was.2)
           (leave_went count p.leave_left was.1 (is.leave was.0)));
+      looked = is.looked;
     })
 
 -- more came of the server, and is held
@@ -990,9 +1002,14 @@ down_held_more says kept method framed Body c held came given bytes a =
       given_is = a.given_is;
     }
 
+not_looked : (a b c : Bool) → (a || (b || c)) ≡ false → (a ≡ false) × (b ≡ false)
+not_looked true b c is = cc
+not_looked false true c is = cc
+not_looked false false c is = (refl, refl)
+
 pub forwarding_held : (p q : Forwarding) (h : ExchangeHistory) (bytes : List ℕ) → IsForwarding p h → q.down_held.items ≡ p.down_held.items ++ bytes
-    → q ≡ record p { down_held = q.down_held; looks = q.looks } → IsForwarding q (server_came h bytes)
-forwarding_held p q h bytes is held same =
+    → (count : ℕ) → q.looks ≡ looks_again p.looks bytes count → q ≡ record p { down_held = q.down_held; looks = q.looks } → IsForwarding q (server_came h bytes)
+forwarding_held p q h bytes is held all looks same =
     subst (λ (r : Forwarding). IsForwarding r (server_came h bytes)) (sym same) (record {
       behind = is.behind;
       asked = is.asked;
@@ -1014,7 +1031,21 @@ forwarding_held p q h bytes is held same =
       agreed = is.agreed;
       adds = is.adds;
       leave = is.leave;
+      looked = λ dry count at.
+          let before = not_looked p.looks (has_feed bytes) (not (nat_lt all 16384)) (sym looks ∙ dry) in
+          subst HasNoAnswer (sym held) (no_answer_yet p.down_held.items bytes (is.looked before.0 count at) before.1);
     })
+
+as_before : (looks : Bool) → looks ≡ looks_again looks [] 0
+as_before true = refl
+as_before false = refl
+
+-- no byte was taken
+pub forwarding_held_none : (p q : Forwarding) (h : ExchangeHistory) → IsForwarding p h → q.down_held.items ≡ p.down_held.items → q.looks ≡ p.looks
+    → q ≡ record p { down_held = q.down_held; looks = q.looks } → IsForwarding q h
+forwarding_held_none p q h is held looks same =
+    subst (λ (g : ExchangeHistory). IsForwarding q g) (ap (λ (l : List ℕ). record h { server_in = l }) (append-nil h.server_in))
+    (forwarding_held p q h [] is (held ∙ sym (append-nil p.down_held.items)) 0 (looks ∙ as_before p.looks) same)
 
 -- why no request begins what came
 pub look_refused : (why : HeadRefusal) (fault : Fault) (bytes : List ℕ) → Tells bytes (Seen why) → fault ≡ of_refusal why → IsNoRequest fault bytes

@@ -7,6 +7,7 @@ use Rattle.http_texts.specs.Replies.{leave_text}
 use Rattle.http_texts.specs.Texts.{framed_for}
 use Rattle.http_texts.specs.declared.fault.Fault.{Fault}
 use Rattle.http_texts.specs.declared.persistence.Persistence.TheVariants.{Close}
+use Rattle.req_view.specs.AnswerHeads.{HasNoAnswer}
 use Rattle.req_view.specs.Heads.{HasNoHead}
 use Rattle.http_bodies.specs.Readings.{read, start_of}
 use Rattle.http_bodies.specs.Stops.{is_bad}
@@ -25,6 +26,7 @@ use Rattle.exchange_machine.specs.declared.dialing.Dialing.{Dialing}
 use Rattle.exchange_machine.specs.declared.forwarding.Forwarding.{Forwarding}
 use Rattle.exchange_machine.specs.declared.leaving.Leaving.{Leaving}
 use Rattle.exchange_machine.specs.declared.telling.Telling.{Telling}
+use Rattle.exchange_machine.specs.declared.sides.Down.TheVariants.{Heads}
 use Rattle.exchange_machine.specs.declared.signs.Sign.TheVariants.{ServerEnded}
 use Rattle.exchange_machine.specs.declared.asking.Turn.{Turn}
 use Rattle.exchange_machine.specs.declared.asking.Turn.TheVariants as Turns
@@ -99,6 +101,11 @@ pub record IsForwarding (p : Forwarding) (h : ExchangeHistory) : Type 0 where
   pub agreed : p.says ≢ Close → (p.willing ≡ true) × (wished p.view ≡ p.says)
   pub adds : p.adds ≡ h.adds
   pub leave : p.begun ≡ false → HasLeave p.leave_left (leave_text p.view) h.to_client p.down.out
+  pub looked : p.looks ≡ false → (count : ℕ) → p.phase ≡ Heads count → HasNoAnswer p.down_held.items
+
+-- no whole head of an answer stands in what it holds, after any history
+abbrev pub HoldsNoHead : Forwarding → Type 0
+HoldsNoHead p = (h : ExchangeHistory) → IsForwarding p h → HasNoAnswer p.down_held.items
 
 -- the pass was posted, and the last bytes for the client wait
 pub record IsLeaving (l : Leaving) (h : ExchangeHistory) : Type 0 where

@@ -87,6 +87,7 @@ impl Forwarding {
     /// Uses the bytes from after the request's head, before any new ones.
     pub fn use_held(&mut self)
         ensures passes { (h : ExchangeHistory) → stages.IsForwarding self.old h → stages.IsForwarding self.new h }
+        ensures phase { self.new.phase ≡ self.old.phase }
         ensures uses { Uses self.old self.new }
     {
         let fed = self.up.take(self.up_held.as_slice());

@@ -7,7 +7,7 @@ ghost use Rattle.exchange_machine.specs.Reasons.{LacksAnswer, NoneFollows};
 ghost use Rattle.exchange_machine.specs.Findings.{IsSeen};
 ghost use Rattle.exchange_machine.specs.Stages as stages;
 ghost use Rattle.http_texts.specs.Framings.{answer_plan, is_interim};
-ghost use Rattle.req_view.specs.AnswerHeads.{SaysAnswer, WaitsForAnswer};
+ghost use Rattle.req_view.specs.AnswerHeads.{SaysAnswer};
 
 use crate::forwarding::Forwarding;
 use crate::held::forget;
@@ -69,9 +69,10 @@ impl Forwarding {
     pub fn read_head(&mut self, alloc: Global) -> Headed
         ensures passes { (h : ExchangeHistory) → stages.IsForwarding self.old h → stages.IsForwarding self.new h }
         ensures uses { Uses self.old self.new }
+        ensures stays { self.old.phase ≡ Down.Body → self.new.phase ≡ Down.Body }
         ensures body { result ≡ Headed.Answer → self.new.phase ≡ Down.Body }
         ensures heads { result ≢ Headed.Answer → self.new.phase ≢ Down.Body }
-        ensures more { result ≡ Headed.More → (self.new.looks ≡ false) × ((self.old.looks ≡ false) ⊎ WaitsForAnswer self.new.down_held.items) }
+        ensures more { result ≡ Headed.More → self.new.looks ≡ false }
         ensures looks { result ≢ Headed.More → self.new.looks ≡ self.old.looks }
         ensures headed { result ≡ Headed.Answer → (self.new ≡ self.old) ⊎ HasHeaded self.old self.new }
         ensures none { result ≡ Headed.Refused → (count : ℕ) × (self.new.phase ≡ Down.Heads count) × NoneFollows self.new.view.method count self.new.down_held.items }
@@ -101,6 +102,7 @@ impl Forwarding {
         len: usize,
         count: u64,
     ) -> Headed
+        requires looks { self.old.looks ≡ true }
         requires phase { self.old.phase ≡ Down.Heads count }
         requires says { SaysAnswer self.old.down_held.items head.now len }
         requires planned { IsSome (answer_plan self.old.view.method head.now) }

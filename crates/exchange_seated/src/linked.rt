@@ -128,6 +128,8 @@ impl<N: BoardName + Ledger, S: Socket> Linked<N, S> {
         ensures linked { OnTrue result (self.new.line.there ≡ true) }
         ensures seated { self.new.seated ≡ self.old.seated }
         ensures its { OnTrue result (server_of (held_by self.old.seated.exchange) ≡ Some self.new.server) }
+        ensures socket { OnTrue result ((self.new.line.left ≡ S.left socket) × (self.new.line.taken ≡ S.taken socket) × (self.new.line.answers ≡ S.answers socket)
+            × (self.new.line.waits ≡ []) × (self.new.line.dry ≡ S.dry socket) × (self.new.line.full ≡ S.full socket)) }
         ensures on { OnTrue result (IsOn self.new.line [] self.new.seated.exchange self.new.line) }
         ensures refused { OnFalse result (self.new ≡ self.old) }
         ensures cause { OnFalse result (WantsNone self.old.seated.exchange self.old.line) }
@@ -156,7 +158,7 @@ impl<N: BoardName + Ledger, S: Socket> Linked<N, S> {
         ensures its { IfOk result (λ _. (self.new.server ≡ unused.server) × (server_of (held_by self.old.seated.exchange) ≡ Some unused.server)) }
         ensures may { IfOk result (λ _. chains.takes_used self.old.seated.exchange ≡ true) }
         ensures dry { IfOk result (λ _. (self.new.line.dry ≡ true) × (self.new.line.waits ≡ [])) }
-        ensures quiet { IfOk result (λ _. self.new.line.answers ≡ with_answers (Heard Nothing ∷ []) (S.answers unused.socket)) }
+        ensures quiet { IfOk result (λ _. (self.new.line.answers ≡ with_answers (Heard Nothing ∷ []) (S.answers unused.socket)) × (self.new.line.taken ≡ S.taken unused.socket)) }
         ensures on { IfOk result (λ _. (opened : Wire) (before : List Whole) → IsBehind opened before (S.taken unused.socket) (S.left unused.socket)
             → IsOn opened before self.new.seated.exchange self.new.line) }
         ensures refused { IfErr result (λ _. self.new ≡ self.old) }
@@ -235,6 +237,7 @@ impl<N: BoardName + Ledger, S: Socket> Linked<N, S> {
             × IsDriven settings.rules.aborts client.old.answers client.new.answers self.line.answers server self.seated.exchange outcome result.linked.seated.exchange
             × (result.given ≢ Given.Retries → result.linked.line.answers ≡ server)
             × (outcome ≡ outcomes.Outcome.Retries → result.given ≡ Given.Retries)
+            × (result.given ≡ Given.Retries → outcome ≡ outcomes.Outcome.Retries)
             × ((posting : _) → result.given ≡ Given.Posts posting → IsPosted outcome posting.taken.held.pass posting.ending) }
         ensures client { (h : ExchangeHistory) → steps.IsAtItsStage self.seated.exchange h → (outcome : outcomes.Outcome) × (server : Wire)
             × Drives client.old client.new self.line server (is_some result.client) (is_some result.server) h result.linked.seated.exchange outcome }
@@ -255,6 +258,7 @@ impl<N: BoardName + Ledger, S: Socket> Linked<N, S> {
             × steps.IsAtItsStage result.linked.seated.exchange (steps.history_after self.seated.exchange (event_of notice) used outcome h) }
         ensures does { (used : ℕ) × (outcome : outcomes.Outcome) × answers.Does settings.rules.aborts self.seated.exchange (event_of notice) used outcome result.linked.seated.exchange
             × (outcome ≡ outcomes.Outcome.Retries → result.given ≡ Given.Retries)
+            × (result.given ≡ Given.Retries → outcome ≡ outcomes.Outcome.Retries)
             × ((posting : _) → result.given ≡ Given.Posts posting → IsPosted outcome posting.taken.held.pass posting.ending) }
         ensures leaves { notice ≡ Notice.ClientEnd → steps.is_left settings.rules.aborts self.seated.exchange ≡ true → result.linked.seated.exchange ≡ Exchange.Over }
         ensures same { notice ≡ Notice.ClientEnd → steps.is_left settings.rules.aborts self.seated.exchange ≡ false → result.linked.seated.exchange ≡ self.seated.exchange }

@@ -328,6 +328,7 @@ impl<N: BoardName + Ledger> Seated<N> {
         ensures driven { (outcome : outcomes.Outcome)
             × IsDriven settings.rules.aborts client.old.answers client.new.answers server.old.answers server.new.answers self.exchange outcome result.seated.exchange
             × (outcome ≡ outcomes.Outcome.Retries → result.given ≡ Given.Retries)
+            × (result.given ≡ Given.Retries → outcome ≡ outcomes.Outcome.Retries)
             × ((posting : _) → result.given ≡ Given.Posts posting → IsPosted outcome posting.taken.held.pass posting.ending) }
         ensures holds { StillHolds (held_by self.exchange) (held_by result.seated.exchange) }
         ensures there { server.new.there ≡ server.old.there }
@@ -368,6 +369,7 @@ impl<N: BoardName + Ledger> Seated<N> {
             × steps.IsAtItsStage result.seated.exchange (steps.history_after self.exchange (event_of notice) used outcome h) }
         ensures does { (used : ℕ) × (outcome : outcomes.Outcome) × answers.Does settings.rules.aborts self.exchange (event_of notice) used outcome result.seated.exchange
             × (outcome ≡ outcomes.Outcome.Retries → result.given ≡ Given.Retries)
+            × (result.given ≡ Given.Retries → outcome ≡ outcomes.Outcome.Retries)
             × ((posting : _) → result.given ≡ Given.Posts posting → IsPosted outcome posting.taken.held.pass posting.ending) }
         ensures leaves { notice ≡ Notice.ClientEnd → steps.is_left settings.rules.aborts self.exchange ≡ true → result.seated.exchange ≡ Exchange.Over }
         ensures stays { notice ≡ Notice.ClientEnd → steps.is_left settings.rules.aborts self.exchange ≡ false → result.seated.exchange ≡ self.exchange }

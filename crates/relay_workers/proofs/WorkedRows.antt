@@ -1,8 +1,10 @@
 -- Worked examples of what is said of a client, a gate, a checker and a crew; and wrong ones, which don't hold.
-use Rattle.std.proofs.Common.{◌≡◌, ℕ, List, [], ◌∷◌, Option, Some, None, Result, Ok, Err, inl, refl, ap, arith, inr, length, replicate, ◌-◌, ◌^◌}
-use Rattle.std.specs.List.{AllZip}
+use Rattle.std.proofs.Common.{◌≡◌, ℕ, List, [], ◌∷◌, Option, Some, None, Result, Ok, Err, inl, refl, ap, arith, inr, length, replicate, ◌-◌, ◌^◌, ◌+◌, ◌++◌, ◌∙◌, sym, true, false}
+use Rattle.std.proofs.lemmas.List.Elements.{All-nil}
+use Rattle.std.specs.List.{AllZip, flat_map}
 use Rattle.dispatch_state.specs.declared.position.Ticketed.{Ticketed}
-use Rattle.grant_board.specs.Views.{Terms}
+use Rattle.grant_board.specs.RelayCalls.{new_relay, Relay}
+use Rattle.grant_board.specs.Views.{Grant, RelayView, Terms}
 use Rattle.http_texts.specs.declared.fault.Fault.TheVariants.{Head, Write}
 use Rattle.http_texts.specs.declared.refusals.Code.TheVariants.{BadRequest, BadGateway}
 use Rattle.log_entries.specs.declared.refusal.Refusal.{Refusal}
@@ -15,14 +17,15 @@ use Rattle.proxy_config.specs.declared.parts.Server.{Server}
 use Rattle.relay_http.specs.declared.closing.Closing.TheVariants.{Reading, Forwarding, Breaking}
 use Rattle.relay_http.specs.declared.exchange.Exchange.{Exchange}
 use Rattle.relay_http.specs.declared.exchange.Stage.TheVariants.{New, Answered}
+use Rattle.relay_http.specs.States.{IsFresh}
 use Rattle.relay_workers.specs.Carrying.{IsToldOutcome, IsUntouched}
 use Rattle.relay_workers.specs.Checks.{later_by, IsDue, Looks, HasChecked}
 use Rattle.relay_workers.specs.Checks.HasChecked.{began as began_checks}
-use Rattle.relay_workers.specs.Crews.{EndsAs, of_all}
+use Rattle.relay_workers.specs.Crews.{EndsAs, IsMemberSeat, JoinsSeats, of_all}
 use Rattle.relay_workers.specs.Endings.{after_closing}
 use Rattle.relay_workers.specs.Gates.{Notice, noted}
-use Rattle.relay_workers.specs.Gates.Notice.{HasLeft, NotYet, Told}
-use Rattle.relay_workers.specs.Serving.{HaveEnded, HasWorked}
+use Rattle.relay_workers.specs.Gates.Notice.{HasLeft, NoMore, NotYet, Told}
+use Rattle.relay_workers.specs.Serving.{HasLeftSeat, HaveEnded, HasWorked}
 use Rattle.relay_workers.specs.Tallies.{no_clients}
 use Rattle.relay_workers.specs.Turning.{WasTold}
 use Rattle.relay_workers.specs.Waiting.{Stand, Holds, HasWaited}
@@ -30,6 +33,7 @@ use Rattle.relay_workers.specs.Waiting.Holds.{pauses, spends}
 use Rattle.relay_workers.specs.Waiting.HasWaited.{began}
 use Rattle.relay_workers.specs.declared.outcome.Outcome.TheVariants.{Refused, Cut}
 use Rattle.relay_workers.specs.declared.stopping.Stopped.TheVariants.{NoMemory, PausesSpent}
+use Rattle.relay_workers.specs.declared.stopping.TheConstants.{TURNS}
 use Rattle.relay_workers.specs.declared.waiting.Patience.TheVariants.{Waits, Spent}
 
 -- a bad head ends in 400, a server that takes no more in 502, and an answer that breaks off in nothing
@@ -117,6 +121,57 @@ nobody = refl
 -- a member without a result is left out
 left_out : (notes : ℕ → Option (List (Notice ℕ ℕ))) → ¬ (AllZip (EndsAs (λ result before after. Unit {0}) notes) (0 ∷ []) [])
 left_out notes zipped = zipped
+
+-- a member without memory ends with its gate as it was, and with no other one
+no_memory : (notes : ℕ → Option (List (Notice ℕ ℕ))) → EndsAs (λ result before after. ⊥) notes 3 (Err NoMemory, record { gate = 3 })
+no_memory notes = inr (refl, refl)
+
+another_gate : (notes : ℕ → Option (List (Notice ℕ ℕ))) → ¬ (EndsAs (λ result before after. ⊥) notes 3 (Err NoMemory, record { gate = 4 }))
+another_gate notes (inl worked) = worked
+another_gate notes (inr none) = omega (arith, none.1)
+
+-- without a client a worker leaves its seat as it was
+left_at_once : (terms : Terms) (setup : Setup) (config : Config) (exchange : Exchange) → IsFresh TURNS exchange
+    → HasLeftSeat {C = List ℕ} {S = List ℕ} Some Some Some Some terms setup (new_relay terms false) (Ok no_clients) (Some []) (Some (NoMore ∷ []))
+left_at_once terms setup config exchange fresh = (
+  config,
+  exchange,
+  exchange,
+  record { notes = Some []; left = 0; view = new_relay terms false },
+  record { notes = Some (NoMore ∷ []); left = 0; view = new_relay terms false },
+  ([], record { notes = Some []; left = 0; view = new_relay terms false }, (refl, refl), refl, refl, refl),
+  refl,
+  refl,
+  fresh,
+  refl,
+  refl,
+)
+
+-- no worker leaves a seat for want of memory
+left_without_memory : (terms : Terms) (setup : Setup)
+    → ¬ (HasLeftSeat {C = List ℕ} {S = List ℕ} Some Some Some Some terms setup (new_relay terms false) (Err NoMemory) (Some []) (Some []))
+left_without_memory terms setup left = left.5
+
+-- a seat that was split off is a member's; where no worker works, one that has taken a pass isn't
+split_off : (terms : Terms) (seat : Relay) → seat.view ≡ new_relay terms false → IsMemberSeat {C = ℕ} {S = ℕ} terms (λ view result before after. ⊥) seat
+split_off terms seat new = inl new
+
+took_a_pass : (terms : Terms) (seat : Relay) (pass : Grant) → seat.view ≡ record (new_relay terms false) { takes = pass ∷ [] }
+    → ¬ (IsMemberSeat {C = ℕ} {S = ℕ} terms (λ view result before after. ⊥) seat)
+took_a_pass terms seat pass took (inl unused) = omega (arith, ap (λ (view : RelayView). length view.takes) (sym took ∙ unused))
+took_a_pass terms seat pass took (inr left) = left.3
+
+-- where no seat is joined nothing was taken
+joins_none : (terms : Terms) → JoinsSeats {C = ℕ} {S = ℕ} terms (λ view result before after. ⊥) (new_relay terms true) (new_relay terms true)
+joins_none terms = record { seats = []; each = All-nil _; joined = refl; takes = refl; posts = refl }
+
+takes_for_nobody : (terms : Terms) (pass : Grant)
+    → ¬ (JoinsSeats {C = ℕ} {S = ℕ} terms (λ view result before after. ⊥) (new_relay terms true) (record (new_relay terms true) { takes = pass ∷ [] }))
+takes_for_nobody terms pass joins = nobody_took joins.seats joins.joined joins.takes
+  where
+    nobody_took : (seats : List Relay) → 0 ≡ 0 + length seats → pass ∷ [] ≡ [] ++ flat_map (λ seat. seat.view.takes) seats → ⊥
+    nobody_took [] none took = cc
+    nobody_took (seat ∷ seats) none took = omega (arith, none)
 
 -- without a client nothing is done
 no_client : (terms : Terms) (setup : Setup) (config : Config) (exchange : Exchange) (stand : Stand (List ℕ) (List ℕ))

@@ -3,7 +3,7 @@ use Rattle.std.specs.Prelude.{◌≡◌, ◌⊎◌, ℕ, false, List, [], ◌∷
 use Rattle.base_verdict.specs.declared.Ending.TheVariants.{Done, Failed}
 use Rattle.dispatch_state.specs.declared.position.Ticketed.{Ticketed}
 use Rattle.grant_board.specs.RelayCalls.{new_relay, post_after}
-use Rattle.grant_board.specs.Views.{Grant, Terms}
+use Rattle.grant_board.specs.Views.{Grant, RelayView, Terms}
 use Rattle.log_entries.specs.declared.setup.Setup.{Setup}
 use Rattle.prio_rules.specs.Wishes.{wish}
 use Rattle.proxy_config.specs.declared.parts.Config.{Config}
@@ -125,10 +125,14 @@ module _ {C S : Type 0} (left told : C → Option (List ℕ)) (left_there told_t
       × ((client : C) × (pauses : ℕ) × HasSpentPauses left told terms setup config client (with_client client pauses before) last)
   HasWorked terms setup config (Err NoMemory) exchange exchange_then first last = ⊥
 
-  -- a gate noted what a worker did that returned this, under some configuration, with a fresh exchange,
-  -- and at a seat that was split off and had done nothing
-  abbrev pub SomeHasWorked : Terms → Setup → Result Tally Stopped → Option (List (Notice C S)) → Option (List (Notice C S)) → Type 0
-  SomeHasWorked terms setup result before after =
+  -- a worker that returned this left its seat with this view, and a gate noted what it did: under some
+  -- configuration, with a fresh exchange, and at a seat that was split off and had done nothing
+  abbrev pub HasLeftSeat : Terms → Setup → RelayView → Result Tally Stopped → Option (List (Notice C S)) → Option (List (Notice C S)) → Type 0
+  HasLeftSeat terms setup view result before after =
       (config : Config) × (exchange : Exchange) × (exchange_then : Exchange) × (first : Stand C S) × (last : Stand C S)
       × HasWorked terms setup config result exchange exchange_then first last × (first.notes ≡ before) × (last.notes ≡ after)
-      × IsFresh TURNS exchange × (first.view ≡ new_relay terms false)
+      × IsFresh TURNS exchange × (first.view ≡ new_relay terms false) × (last.view ≡ view)
+
+  -- the same, whatever its seat's view is then
+  abbrev pub SomeHasWorked : Terms → Setup → Result Tally Stopped → Option (List (Notice C S)) → Option (List (Notice C S)) → Type 0
+  SomeHasWorked terms setup result before after = (view : RelayView) × HasLeftSeat terms setup view result before after

@@ -2,21 +2,19 @@ ghost use Rattle.std.specs.Prelude.{◌≡◌, ◌+◌, ◌≤◌, ◌⊎◌, Li
 ghost use Rattle.std.specs.Thread.{IsSend};
 ghost use Rattle.std.specs.Vec.Iter.{into_iter_items};
 ghost use Rattle.proxy_config.specs.declared.parts.Server.{Server};
-ghost use Rattle.relay_workers.specs.Crews.{CrewHasChecked, EndsAs, IsOfAll, IsOfCrew};
+ghost use Rattle.relay_workers.specs.Crews.{CrewHasChecked, EndsAs, IsOfAll, IsOfCrew, JoinsSeats};
 ghost use Rattle.relay_workers.specs.Seats.{IsUnused};
-ghost use Rattle.relay_workers.specs.Serving.{SomeHasWorked};
+ghost use Rattle.relay_workers.specs.Serving.{HasLeftSeat, SomeHasWorked};
 ghost use Rattle.relay_workers.specs.Tallies.{of_both};
 ghost use Rattle.relay_workers.specs.declared.stopping.Stopped.TheVariants.{NoMemory};
 
 use crate::checking::checker;
 use crate::finished::Finished;
 use crate::gate::{Gate, Pause};
-use crate::lending::{join_all, split_off};
+use crate::member_seat::{MemberSeat, join_members, split_members};
 use crate::proxy::{Proxy, Worker};
 use crate::stopping::Stopped;
 use crate::tally::Tally;
-use crate::working::worker;
-use board_seats::Idle;
 use grant_board::RelaySeat;
 use locked_book::DeskName;
 use std::marker::PhantomData;
@@ -54,17 +52,15 @@ pub fn serve<
     ensures each { IfOk result.1 (λ tally. result.0.view.split ≡ seat.view.split + vec_len crew) }
     ensures all { (result.1 ≡ Err NoMemory) ⊎ IsOfCrew (SomeHasWorked G.Client.remaining G.Client.contents G.Server.remaining G.Server.contents N.terms N.setup) G.notes crew.items result.1 }
     ensures checks { CrewHasChecked N.terms N.setup proxy.now.config.servers (G.notes checks.0) (P.most checks.1) (G.notes result.2.gate) }
+    ensures joins { JoinsSeats N.terms (HasLeftSeat G.Client.remaining G.Client.contents G.Server.remaining G.Server.contents N.terms N.setup) seat.view result.0.view }
 {
     let mut first = seat;
-    let mut seats = Vec::new(proxy.alloc);
-    let enough = split_off(proxy, &mut first, &mut seats, crew.len());
-    let (all, checked) = if enough {
-        run_all(rt, proxy, &mut seats, crew, checks)
-    } else {
+    let Some(mut seats) = split_members(proxy, &mut first, crew.len()) else {
         let (gate, _pause) = checks;
-        (Err(Stopped::NoMemory), Finished::of(gate))
+        return (first, Err(Stopped::NoMemory), Finished::of(gate));
     };
-    join_all(proxy, &mut first, seats);
+    let (all, checked) = run_all(rt, proxy, &mut seats, crew, checks);
+    join_members(proxy, &mut first, seats);
     (first, all, checked)
 }
 
@@ -78,12 +74,12 @@ fn run_all<
 >(
     rt: &R,
     shared: &S,
-    seats: &mut Vec<Idle<N>>,
+    seats: &mut Vec<MemberSeat<N, G>>,
     crew: Vec<(G, P)>,
     checks: (G, P),
 ) -> (Result<Tally, Stopped>, Finished<G>)
     requires few { vec_len crew ≤ vec_len seats.old }
-    requires unused { All (λ idle. IsUnused N.terms idle.seat) seats.old.items }
+    requires unused { All (λ seat. IsUnused N.terms seat.idle.seat) seats.old.items }
     ensures seats { vec_len seats.new ≡ vec_len seats.old }
     ensures all { IsOfCrew (SomeHasWorked G.Client.remaining G.Client.contents G.Server.remaining G.Server.contents N.terms N.setup) G.notes crew.items result.0 }
     ensures checks { CrewHasChecked N.terms N.setup (S.servers shared.now) (G.notes checks.0) (P.most checks.1) (G.notes result.1.gate) }
@@ -97,7 +93,7 @@ fn run_all<
         rt,
         move |scope| -> (Result<Tally, Stopped>, Finished<G>)
             requires few { length (into_iter_items members) ≤ length lent.now }
-            requires unused { All (λ idle. IsUnused N.terms idle.seat) lent.now }
+            requires unused { All (λ seat. IsUnused N.terms seat.idle.seat) lent.now }
             ensures all { IsOfCrew (SomeHasWorked G.Client.remaining G.Client.contents G.Server.remaining G.Server.contents N.terms N.setup) G.notes (into_iter_items members) result.0 }
             ensures checks { CrewHasChecked N.terms N.setup (S.servers shared.entry.now) (G.notes checks.0) (P.most checks.1) (G.notes result.1.gate) }
         { run_threads(scope, rt, shared, lent, &mut members, checks, told) },
@@ -118,13 +114,13 @@ fn run_threads<
     scope: &Scope<'s, E>,
     rt: &'s R,
     shared: &'s S,
-    seats: &'s mut [Idle<N>],
+    seats: &'s mut [MemberSeat<N, G>],
     crew: &mut vec::IntoIter<(G, P)>,
     checks: (G, P),
     told: &'s AtomicBool,
 ) -> (Result<Tally, Stopped>, Finished<G>)
     requires few { length (into_iter_items crew.old) ≤ length seats.old }
-    requires unused { All (λ idle. IsUnused N.terms idle.seat) seats.old }
+    requires unused { All (λ seat. IsUnused N.terms seat.idle.seat) seats.old }
     ensures all { IsOfCrew (SomeHasWorked G.Client.remaining G.Client.contents G.Server.remaining G.Server.contents N.terms N.setup) G.notes (into_iter_items crew.old) result.0 }
     ensures checks { CrewHasChecked N.terms N.setup (S.servers shared.now) (G.notes checks.0) (P.most checks.1) (G.notes result.1.gate) }
 {
@@ -165,8 +161,8 @@ impl<N: DeskName, S: Lends<N>, G: Gate + Drop, P: Pause> Promise<Finished<G>>
     ghost kept_by = { λ promise result. CrewHasChecked N.terms N.setup (S.servers promise.shared.value) (G.notes promise.checks.value.0) (P.most promise.checks.value.1) (G.notes result.gate) };
 }
 
-// How the thread of a member ends: its result, and its gate, unless there was no memory for it.
-type End<G> = (Result<Tally, Stopped>, Option<Finished<G>>);
+// How the thread of a member ends: its result, and its gate.
+type End<G> = (Result<Tally, Stopped>, Finished<G>);
 
 // Promises how the thread of a member with this gate ends.
 #[derive(Drop)]
@@ -189,14 +185,14 @@ fn run_crew<
     scope: &Scope<'s, E>,
     rt: &'s R,
     shared: &'s S,
-    seats: &'s mut [Idle<N>],
+    seats: &'s mut [MemberSeat<N, G>],
     crew: &mut vec::IntoIter<(G, P)>,
 ) -> Result<Tally, Stopped>
     requires few { length (into_iter_items crew.old) ≤ length seats.old }
-    requires unused { All (λ idle. IsUnused N.terms idle.seat) seats.old }
+    requires unused { All (λ seat. IsUnused N.terms seat.idle.seat) seats.old }
     ensures { IsOfAll (SomeHasWorked G.Client.remaining G.Client.contents G.Server.remaining G.Server.contents N.terms N.setup) G.notes (into_iter_items crew.old) result }
 {
-    let Some((idle, rest)) = seats.split_first_mut() else {
+    let Some((seat, rest)) = seats.split_first_mut() else {
         return Ok(Tally::zero());
     };
     let Some((gate, pause)) = crew.next() else {
@@ -208,14 +204,13 @@ fn run_crew<
             promise,
             move || -> End<G>
                 requires sends { IsSend G.Client.row × IsSend G.Server.row }
-                requires unused { IsUnused N.terms idle.now.seat }
+                requires unused { IsUnused N.terms seat.now.idle.seat }
                 ensures { EndsAs (SomeHasWorked G.Client.remaining G.Client.contents G.Server.remaining G.Server.contents N.terms N.setup) G.notes gate result }
             {
-                let Ok(mut hand) = Worker::new(shared.proxy().alloc, gate, pause) else {
-                    return (Err(Stopped::NoMemory), None);
-                };
-                let result = worker(rt, shared.proxy(), idle, &mut hand);
-                (result, Some(Finished::new(hand)))
+                match Worker::new(shared.proxy().alloc, gate, pause) {
+                    Ok(hand) => seat.work(rt, shared.proxy(), hand),
+                    Err((gate, _pause)) => (Err(Stopped::NoMemory), Finished::of(gate)),
+                }
             },
         )
         .ok();

@@ -14,6 +14,7 @@ mod finished;
 mod finishing;
 mod gate;
 mod lending;
+mod member_seat;
 mod outcome;
 mod proxy;
 mod slot;

@@ -70,16 +70,20 @@ pub struct Worker<G: Gate + Drop, P: Pause + Drop> {
 }
 
 impl<G: Gate + Drop, P: Pause + Drop> Worker<G, P> {
-    /// Makes a worker's means. It takes 84 KiB for its exchange, once.
-    pub fn new(alloc: Global, gate: G, pause: P) -> Result<Worker<G, P>, AllocError>
+    /// Makes a worker's means. It takes 84 KiB for its exchange, once. Where there is no memory for
+    /// that, it gives the gate and the pauses back.
+    pub fn new(alloc: Global, gate: G, pause: P) -> Result<Worker<G, P>, (G, P)>
         ensures parts { IfOk result (λ it. (it.runner.gate ≡ gate) × (it.pause ≡ pause)) }
         ensures exchange { IfOk result (λ it. IsFresh TURNS it.runner.exchange) }
+        ensures back { IfErr result (λ back. (back.0 ≡ gate) × (back.1 ≡ pause)) }
     {
-        let exchange = Exchange::new(alloc, TURNS)?;
-        Ok(Worker {
-            runner: Runner { gate, exchange },
-            pause,
-        })
+        match Exchange::new(alloc, TURNS) {
+            Ok(exchange) => Ok(Worker {
+                runner: Runner { gate, exchange },
+                pause,
+            }),
+            Err(_) => Err((gate, pause)),
+        }
     }
 }
 

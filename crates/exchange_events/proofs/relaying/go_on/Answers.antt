@@ -5,7 +5,7 @@ use Rattle.exchange_machine.specs.declared.heading.Headed.TheVariants.{More, Int
 use Rattle.exchange_events.specs.Answers.{AwaitsAnswer, RelaysOn, StarvesIn}
 use Rattle.exchange_events.specs.declared.exchange.Exchange.{Exchange}
 use Rattle.exchange_events.specs.declared.exchange.Outcome.{Outcome}
-use Rattle.exchange_events.proofs.Judging.{judged_at_body, judged_at_head}
+use Rattle.exchange_events.proofs.Judging.{holds_none, judged_at_body, judged_at_head}
 use Rattle.exchange_events.proofs.relaying.go_on.Goals as goal
 
 more_is_no_answer : More ≡ Answer → ⊥
@@ -30,30 +30,36 @@ without_room p outcome next (inr starves) = inr (inr (inr starves))
 
 pub returns-in-Answer-clause-judged : goal.returns-in-Answer-clause-judged
 returns-in-Answer-clause-judged c =
-    let (now, uses, at, awaits) = c.body_goes_on.ensures.does (c.read_heads.ensures.body c.in-Answer.is) in
-    judged_at_body _ _ _ now _ _ c.use_held.ensures.uses c.read_heads.ensures.uses uses at awaits
+    let (now, uses, at, same, awaits) = c.body_goes_on.ensures.does (c.read_heads.ensures.body c.in-Answer.is) in
+    judged_at_body _ _ _ now _ _ c.use_held.ensures.uses c.read_heads.ensures.uses uses
+    (λ h is. same h (c.read_heads.ensures.passes h (c.use_held.ensures.passes h is))) at awaits
 
 pub returns-in-More-clause-judged : goal.returns-in-More-clause-judged
 returns-in-More-clause-judged c =
-    judged_at_head _ _ _ _ _ c.use_held.ensures.uses c.read_heads.ensures.uses (c.read_heads.ensures.heads (λ answered. more_is_no_answer (sym c.in-More.is ∙ answered)))
-    (inl (c.read_heads.ensures.more c.in-More.is, c.head_goes_on.ensures.does))
+    judged_at_head _ _ _ _ _ c.use_held.ensures.uses c.read_heads.ensures.uses
+    (λ at. c.read_heads.ensures.stays (c.use_held.ensures.phase ∙ at)) (λ h is. c.read_heads.ensures.passes h (c.use_held.ensures.passes h is)) (c.read_heads.ensures.heads (λ answered. more_is_no_answer (sym c.in-More.is ∙ answered)))
+    (inl (holds_none _ (c.read_heads.ensures.more c.in-More.is) (c.read_heads.ensures.heads (λ answered. more_is_no_answer (sym c.in-More.is ∙ answered))), c.head_goes_on.ensures.does))
 
 pub returns-in-Interim-clause-judged : goal.returns-in-Interim-clause-judged
 returns-in-Interim-clause-judged c =
-    judged_at_head _ _ _ _ _ c.use_held.ensures.uses c.read_heads.ensures.uses (c.read_heads.ensures.heads (λ answered. interim_is_no_answer (sym c.in-Interim.is ∙ answered)))
+    judged_at_head _ _ _ _ _ c.use_held.ensures.uses c.read_heads.ensures.uses
+    (λ at. c.read_heads.ensures.stays (c.use_held.ensures.phase ∙ at)) (λ h is. c.read_heads.ensures.passes h (c.use_held.ensures.passes h is)) (c.read_heads.ensures.heads (λ answered. interim_is_no_answer (sym c.in-Interim.is ∙ answered)))
     (without_room _ _ _ c.no_room.ensures.does)
 
 pub returns-in-Full-clause-judged : goal.returns-in-Full-clause-judged
 returns-in-Full-clause-judged c =
-    judged_at_head _ _ _ _ _ c.use_held.ensures.uses c.read_heads.ensures.uses (c.read_heads.ensures.heads (λ answered. full_is_no_answer (sym c.in-Full.is ∙ answered)))
+    judged_at_head _ _ _ _ _ c.use_held.ensures.uses c.read_heads.ensures.uses
+    (λ at. c.read_heads.ensures.stays (c.use_held.ensures.phase ∙ at)) (λ h is. c.read_heads.ensures.passes h (c.use_held.ensures.passes h is)) (c.read_heads.ensures.heads (λ answered. full_is_no_answer (sym c.in-Full.is ∙ answered)))
     (without_room _ _ _ c.no_room-in-Full.ensures.does)
 
 pub returns-in-Short-clause-judged : goal.returns-in-Short-clause-judged
 returns-in-Short-clause-judged c =
-    judged_at_head _ _ _ _ _ c.use_held.ensures.uses c.read_heads.ensures.uses (c.read_heads.ensures.heads (λ answered. short_is_no_answer (sym c.in-Short.is ∙ answered)))
+    judged_at_head _ _ _ _ _ c.use_held.ensures.uses c.read_heads.ensures.uses
+    (λ at. c.read_heads.ensures.stays (c.use_held.ensures.phase ∙ at)) (λ h is. c.read_heads.ensures.passes h (c.use_held.ensures.passes h is)) (c.read_heads.ensures.heads (λ answered. short_is_no_answer (sym c.in-Short.is ∙ answered)))
     (inr (inr (inr c.refused_short.ensures.does)))
 
 pub returns-in-Refused-clause-judged : goal.returns-in-Refused-clause-judged
 returns-in-Refused-clause-judged c =
-    judged_at_head _ _ _ _ _ c.use_held.ensures.uses c.read_heads.ensures.uses (c.read_heads.ensures.heads (λ answered. refused_is_no_answer (sym c.in-Refused.is ∙ answered)))
+    judged_at_head _ _ _ _ _ c.use_held.ensures.uses c.read_heads.ensures.uses
+    (λ at. c.read_heads.ensures.stays (c.use_held.ensures.phase ∙ at)) (λ h is. c.read_heads.ensures.passes h (c.use_held.ensures.passes h is)) (c.read_heads.ensures.heads (λ answered. refused_is_no_answer (sym c.in-Refused.is ∙ answered)))
     (let none = c.read_heads.ensures.none c.in-Refused.is in inr (inr (inl (record { count = none.0; heads = none.1; none = none.2; stops = c.refused_badly.ensures.does }))))

@@ -1,4 +1,4 @@
-use Rattle.std.proofs.Common.{◌≡◌, None, Err, refl, sym, arith, subst}
+use Rattle.std.proofs.Common.{◌≡◌, Err, inr, refl, sym, arith, subst}
 use Rattle.std.proofs.lemmas.List.{nil_from_length}
 use Rattle.std.specs.Vec.Iter.{into_iter_items}
 use Rattle.relay_workers.specs.Crews.{EndsAs}
@@ -30,8 +30,8 @@ spawn_with-requires-clause-keeps g t c κs within = λ result ends. subst (λ ga
 pub returns-in_default-started : goal.returns-in_default-started
 returns-in_default-started g t c =
     one_more (SomeHasWorked g.G.Client.Read.remaining g.G.Client.Write.contents g.G.Server.Read.remaining g.G.Server.Write.contents g.N.BoardName.terms g.N.DeskName.setup) g.G.Gate.notes
-    c.in-Some-next.gate c.in-Some-next.pause (into_iter_items c.args.crew.now) (into_iter_items c.next.new.self) (Err NoMemory, None)
-    c.run_crew-others.result c.first_stop.result c.in-Some-next.ensures.items refl c.run_crew-others.ensures c.first_stop.ensures
+    c.in-Some-next.gate c.in-Some-next.pause (into_iter_items c.args.crew.now) (into_iter_items c.next.new.self) (Err NoMemory, record { gate = c.in-Some-next.gate })
+    c.run_crew-others.result c.first_stop.result c.in-Some-next.ensures.items (inr (refl, refl)) c.run_crew-others.ensures c.first_stop.ensures
 
 pub returns : goal.returns
 returns g t c =

@@ -1,23 +1,35 @@
-use Rattle.std.proofs.Common.{inl, inr, ap, ◌∙◌}
+use Rattle.std.proofs.Common.{◌≡◌, ◌++◌, List, reverse, ap, arith, ◌∙◌}
+use Rattle.std.proofs.lemmas.List.{length-reverse}
+use Rattle.std.specs.List.{flat_map}
 use denote.Param.Send.{sendable}
-use Rattle.relay_workers.proofs.Crewing.{not_begun}
+use Rattle.grant_board.specs.RelayCalls.{Relay}
+use Rattle.grant_board.specs.Views.{Grant}
+use Rattle.grant_board.specs.declared.returned.Return.{Return}
+use Rattle.relay_workers.specs.Serving.{HasLeftSeat}
+use Rattle.relay_workers.proofs.Crewing.{joined_seats, not_begun}
 use Rattle.relay_workers.proofs.Crosses.{proxy_sync}
 use Rattle.relay_workers.proofs.crew.serve.Goals as goal
-use Rattle.relay_workers.proofs.crew.serve.Goals.{then-enough, else-enough}
 
-pub run_all-requires-sync-S : goal.run_all-requires-sync-S
-run_all-requires-sync-S g c κs within = let s = proxy_sync g.row.N g.N.DeskName g.N.BoardName in search (s, sendable)
+pub run_all-all-requires-sync-S : goal.run_all-all-requires-sync-S
+run_all-all-requires-sync-S g c κs within = let s = proxy_sync g.row.N g.N.DeskName g.N.BoardName in search (s, sendable)
 
-pub returns-clause-all : goal.returns-clause-all
-returns-clause-all g c =
-    elim c.if-enough.branch [
-      | then-enough w ↦ inr (rw w.all-is w.run_all.ensures.all)
-      | else-enough w ↦ inl (ap (λ it. it.0) w.all-is)
-    ]
+pub returns-in_default-clause-checks : goal.returns-in_default-clause-checks
+returns-in_default-clause-checks g c = not_begun _ _ _ _ _ _ (ap g.G.Gate.notes c.of.ensures)
 
-pub returns-clause-checks : goal.returns-clause-checks
-returns-clause-checks g c =
-    elim c.if-enough.branch [
-      | then-enough w ↦ rw w.all-is w.run_all.ensures.checks
-      | else-enough w ↦ not_begun _ _ _ _ _ _ (ap (λ it. g.G.Gate.notes it.1.gate) w.all-is ∙ ap g.G.Gate.notes w.of.ensures)
-    ]
+-- each seat's type says what was done with it
+pub returns-clause-joins : goal.returns-clause-joins
+returns-clause-joins g c =
+    let items = c.run_all-all.new.seats.items in
+    let split = c.in-Some.ensures.split in
+    let joined_before : c.split_members.new.first.view.joined ≡ c.args.seat.view.joined = ap (λ (seat : Relay). seat.view.joined) split in
+    let out = c.join_members.ensures.lent.out_is in
+    let same = c.join_members.ensures.split in
+    let count = c.run_all-all.new.seats.ok in
+    let turned = length-reverse items in
+    joined_seats g.N.BoardName.terms
+    (HasLeftSeat g.G.Client.Read.remaining g.G.Client.Write.contents g.G.Server.Read.remaining g.G.Server.Write.contents g.N.BoardName.terms g.N.DeskName.setup)
+    (λ m. m.idle.seat) (λ m. m.its) (reverse items) c.args.seat.view c.join_members.new.first.view (omega arith)
+    (c.join_members.ensures.takes
+    ∙ ap (λ (before : List Grant). before ++ flat_map (λ m. m.idle.seat.view.takes) (reverse items)) (ap (λ (seat : Relay). seat.view.takes) split))
+    (c.join_members.ensures.posts
+    ∙ ap (λ (before : List Return). before ++ flat_map (λ m. m.idle.seat.view.posts) (reverse items)) (ap (λ (seat : Relay). seat.view.posts) split))

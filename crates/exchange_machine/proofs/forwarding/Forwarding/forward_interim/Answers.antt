@@ -9,5 +9,5 @@ returns-clause-passes c h is =
     let framed : c.is_framed-framed.result ≡ framed_for p.view.version = c.is_framed-framed.ensures ∙ ap framed_for c.version.ensures in
     let out = c.if-not-put_text.ensures.fits refl ∙ ap (λ l. p.down.out ++ l) (c.as_slice.ensures.value ∙ c.in-Ok.ensures)
     ∙ ap (λ (f : Bool). p.down.out ++ interim_text f c.args.head.now) framed in
-    forwarding_interim p c.put_text.new.way c.forget.new.held.items h c.args.count c.args.head.now c.args.len _ is c.requires.phase c.requires.says
+    forwarding_interim p c.put_text.new.way c.forget.new.held.items h c.args.count c.args.head.now c.args.len _ is c.requires.looks c.requires.phase c.requires.says
     c.requires.planned c.requires.interim c.requires.few out c.forget.ensures refl refl

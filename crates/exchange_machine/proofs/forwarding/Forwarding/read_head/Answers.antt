@@ -1,5 +1,6 @@
-use Rattle.exchange_machine.proofs.EventLemmas.{head_refused, none_follows}
-use Rattle.std.proofs.Common.{List, ℕ, subst}
+use Rattle.exchange_machine.proofs.EventLemmas.{forwarding_marked, head_refused, none_follows}
+use Rattle.std.proofs.Common.{List, ℕ, refl, subst}
+use Rattle.req_view.specs.AnswerHeads.{HasNoAnswer}
 use Rattle.exchange_machine.specs.Reasons.{NoneFollows}
 use Rattle.exchange_machine.proofs.forwarding.Forwarding.read_head.Goals as goal
 
@@ -16,3 +17,7 @@ returns-in-Refused-clause-none c refused =
 
 pub returns-in-Interim-clause-headed : goal.returns-in-Interim-clause-headed
 returns-in-Interim-clause-headed c answered = absurd (c.forward_interim.ensures.answered.2 answered)
+
+pub returns-in-More-clause-passes : goal.returns-in-More-clause-passes
+returns-in-More-clause-passes c h is =
+    forwarding_marked c.args.self.now _ h is (λ dry count at. subst HasNoAnswer c.as_slice.ensures.value c.in-More.ensures.none) refl

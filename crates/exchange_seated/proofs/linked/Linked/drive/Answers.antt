@@ -53,5 +53,6 @@ returns-clause-driven g c =
       rw anew.seated d.1,
       (λ kept. ap (λ (w : Wire). w.answers) (anew.stays (λ is. kept (anew.rest.1 ∙ is))).0),
       (λ is. anew.rest.1 ∙ d.2 is),
-      (λ posting is. d.3 posting (sym anew.rest.1 ∙ is)),
+      (λ is. d.3 (sym anew.rest.1 ∙ is)),
+      (λ posting is. d.4 posting (sym anew.rest.1 ∙ is)),
     )

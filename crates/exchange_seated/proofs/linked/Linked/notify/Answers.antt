@@ -35,4 +35,4 @@ pub returns-clause-does : goal.returns-clause-does
 returns-clause-does g c =
     let anew = c.linked_anew.ensures in
     let d = c.notify-served.ensures.does in
-    (d.0, d.1, rw anew.seated d.2, (λ is. anew.rest.1 ∙ d.3 is), (λ posting is. d.4 posting (sym anew.rest.1 ∙ is)))
+    (d.0, d.1, rw anew.seated d.2, (λ is. anew.rest.1 ∙ d.3 is), (λ is. d.4 (sym anew.rest.1 ∙ is)), (λ posting is. d.5 posting (sym anew.rest.1 ∙ is)))

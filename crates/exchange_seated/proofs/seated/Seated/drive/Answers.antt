@@ -14,5 +14,6 @@ returns-clause-driven g c = (
   c.drive-exchange.result.outcome,
   rw c.part-seated.ensures.exchange c.drive-exchange.ensures.driven,
   c.part-seated.ensures.retries,
+  c.part-seated.ensures.anew,
   c.part-seated.ensures.ends,
 )

@@ -36,4 +36,4 @@ pub returns-clause-does : goal.returns-clause-does
 returns-clause-does g c =
     let step = c.step-next.result in
     let does = subst (λ (e : Event). Does c.args.settings.rules.aborts c.args.self.exchange e step.used step.outcome step.next) c.event.ensures.of c.step-next.ensures.does in
-    (step.used, step.outcome, rw c.part-seated.ensures.exchange does, c.part-seated.ensures.retries, c.part-seated.ensures.ends)
+    (step.used, step.outcome, rw c.part-seated.ensures.exchange does, c.part-seated.ensures.retries, c.part-seated.ensures.anew, c.part-seated.ensures.ends)

@@ -1,23 +1,9 @@
-use denote.Param.Send.{sendable}
-use Rattle.std.proofs.Common.{sym, ap}
+use Rattle.std.proofs.Common.{inl, subst}
+use Rattle.relay_workers.specs.Serving.{SomeHasWorked}
 use Rattle.relay_workers.proofs.crew.fn.run_crew.spawn_with.Goals as goal
 
-pub worker-result-requires-send-G-Client : goal.worker-result-requires-send-G-Client
-worker-result-requires-send-G-Client g c κs within = let s = c.requires.sends.0 in search (s, sendable)
-
-pub worker-result-requires-send-G-Server : goal.worker-result-requires-send-G-Server
-worker-result-requires-send-G-Server g c κs within = let s = c.requires.sends.1 in search (s, sendable)
-
-pub returns : goal.returns
-returns g c = (
-  c.proxy-2.result.now.config,
-  _,
-  _,
-  _,
-  _,
-  c.worker-result.ensures.worked,
-  ap g.G.Gate.notes c.in-Ok.ensures.parts.0,
-  ap g.G.Gate.notes (sym c.new-2.ensures),
-  c.in-Ok.ensures.exchange,
-  c.requires.unused,
-)
+-- its gate is the member's
+pub returns-in-Ok : goal.returns-in-Ok
+returns-in-Ok g c =
+    inl (subst (λ gate. SomeHasWorked g.G.Client.Read.remaining g.G.Client.Write.contents g.G.Server.Read.remaining g.G.Server.Write.contents
+    g.N.BoardName.terms g.N.DeskName.setup c.work.result.0 (g.G.Gate.notes gate) (g.G.Gate.notes c.work.result.1.gate)) c.in-Ok.ensures.parts.0 c.work.ensures)

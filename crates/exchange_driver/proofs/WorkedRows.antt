@@ -1,0 +1,54 @@
+-- What a socket's answers make of an exchange, at worked examples: what must hold, and what must not.
+use Rattle.std.proofs.Common.{◌≡◌, ◌⊎◌, inl, inr, true, false, [], ◌∷◌, None, Some, refl}
+use Rattle.exchange_driver.specs.Answers.{Heard, Said, HasHeard, with_answers}
+use Rattle.exchange_driver.specs.Moves.{OfClient, OfServer, Makes, MakeAll, of_client, of_server}
+use Rattle.exchange_driver.specs.declared.socket.ReadResult.TheVariants.{Bytes, Nothing, Ended}
+use Rattle.exchange_driver.specs.declared.socket.WriteResult.TheVariants.{Full}
+use Rattle.exchange_machine.specs.declared.waiting.Waiting as waitings
+use Rattle.exchange_events.specs.declared.exchange.Exchange.{Exchange}
+use Rattle.exchange_events.specs.declared.exchange.Exchange.TheVariants.{Waiting, Over}
+use Rattle.exchange_events.specs.declared.exchange.Outcome.TheVariants.{Quiet}
+
+-- nothing is there: nothing changes
+nothing_there : (x : Exchange) → Makes false x (OfServer (Heard Nothing)) Quiet x
+nothing_there x = (refl, refl)
+
+over_isnt_waiting : (w : waitings.Waiting) → Over ≡ Waiting w → ⊥
+over_isnt_waiting w is = cc
+
+nothing_there_ends_none : (w : waitings.Waiting) → ¬ (Makes false (Waiting w) (OfServer (Heard Nothing)) Quiet Over)
+nothing_there_ends_none w is = over_isnt_waiting w is.0
+
+-- a client closed its side while it waits: it waits on
+closes_its_side : (w : waitings.Waiting) → Makes false (Waiting w) (OfClient (Heard (Ended true))) Quiet (Waiting w)
+closes_its_side w = (0, record { leaves = λ wrong. absurd cc; stays = λ it. record { none = refl; quiet = refl; same = refl } })
+
+isnt_given_up : (w : waitings.Waiting) → ¬ (Makes false (Waiting w) (OfClient (Heard (Ended true))) Quiet Over)
+isnt_given_up w is = over_isnt_waiting w (is.1.stays refl).same
+
+-- its connection broke: it is given up
+breaks : (w : waitings.Waiting) → Makes false (Waiting w) (OfClient (Heard (Ended false))) Quiet Over
+breaks w = record { gives = refl; over = refl }
+
+-- no move changes nothing, and gives nothing away
+no_move_changes_none : (w : waitings.Waiting) → ¬ (MakeAll false (Waiting w) [] Quiet Over)
+no_move_changes_none w is = over_isnt_waiting w is.0
+
+-- each side's answers, in their order
+own_answers : of_client (OfClient (Heard Nothing) ∷ OfServer (Said Full) ∷ OfClient (Heard (Bytes 3)) ∷ []) ≡ Heard Nothing ∷ Heard (Bytes 3) ∷ []
+own_answers = refl
+
+its_answers : of_server (OfClient (Heard Nothing) ∷ OfServer (Said Full) ∷ OfClient (Heard (Bytes 3)) ∷ []) ≡ Said Full ∷ []
+its_answers = refl
+
+-- a socket remembers its answers behind those before, or none at all
+remembers : with_answers (Said Full ∷ []) (Some (Heard Nothing ∷ [])) ≡ Some (Heard Nothing ∷ Said Full ∷ [])
+remembers = refl
+
+forgets : with_answers (Said Full ∷ []) None ≡ None
+forgets = refl
+
+-- a read that found nothing was answered by the socket
+unasked : ¬ (HasHeard Nothing (Some []) (Some []))
+unasked (inl is) = cc
+unasked (inr (same, is)) = cc

@@ -3,7 +3,7 @@ use Rattle.std.specs.Prelude.{◌≡◌, ◌⊎◌, ℕ, Bool, true, false, List
 use Rattle.exchange_driver.specs.Answers.{Answer, Heard, Said, with_answers}
 use Rattle.exchange_driver.specs.declared.socket.ReadResult.TheVariants as reads
 use Rattle.exchange_driver.specs.declared.socket.WriteResult.TheVariants as writes
-use Rattle.exchange_events.specs.Answers.{HasHeardEnd, HasServed, HasUsed, Hears, HearsClient, IsCutOff, IsHalfClosed, LosesClient, TellsClient}
+use Rattle.exchange_events.specs.Answers.{HasHeardEnd, HasServed, Hears, HearsClient, HearsServer, IsCutOff, IsHalfClosed, LosesClient, TellsClient}
 use Rattle.exchange_events.specs.declared.exchange.Exchange.{Exchange}
 use Rattle.exchange_events.specs.declared.exchange.Outcome.{Outcome}
 use Rattle.exchange_events.specs.declared.exchange.Outcome.TheVariants.{Quiet}
@@ -21,21 +21,21 @@ pub data Move : Type 0 where
 -- What a move makes of an exchange: where nothing is there, or a socket is full, nothing. Else bytes
 -- came, or were taken; a side came to its end, without an error or with one; or it takes no more.
 abbrev pub Makes : Bool → Exchange → Move → Outcome → Exchange → Type 0
-Makes aborts x (OfClient (Heard (reads.Bytes count))) outcome y = (used : ℕ) × HearsClient x used outcome y
+Makes aborts x (OfClient (Heard (reads.Bytes count))) outcome y = (input : List ℕ) × (used : ℕ) × HearsClient input x used outcome y
 Makes aborts x (OfClient (Heard reads.Nothing)) outcome y = (y ≡ x) × (outcome ≡ Quiet)
 Makes aborts x (OfClient (Heard (reads.Ended true))) outcome y = (used : ℕ) × IsHalfClosed aborts x used outcome y
 Makes aborts x (OfClient (Heard (reads.Ended false))) outcome y = LosesClient x outcome y
 Makes aborts x (OfClient (Said (writes.Bytes count))) outcome y = (used : ℕ) × TellsClient count x used outcome y
 Makes aborts x (OfClient (Said writes.Full)) outcome y = (y ≡ x) × (outcome ≡ Quiet)
 Makes aborts x (OfClient (Said writes.Failed)) outcome y = LosesClient x outcome y
-Makes aborts x (OfServer (Heard (reads.Bytes count))) outcome y = (used : ℕ) × Hears HasUsed x used outcome y
+Makes aborts x (OfServer (Heard (reads.Bytes count))) outcome y = (input : List ℕ) × (used : ℕ) × HearsServer input x used outcome y
 Makes aborts x (OfServer (Heard reads.Nothing)) outcome y = (y ≡ x) × (outcome ≡ Quiet)
 Makes aborts x (OfServer (Heard (reads.Ended well))) outcome y = (used : ℕ) × Hears (HasHeardEnd well) x used outcome y
 Makes aborts x (OfServer (Said (writes.Bytes count))) outcome y = (used : ℕ) × Hears (HasServed count) x used outcome y
 Makes aborts x (OfServer (Said writes.Full)) outcome y = (y ≡ x) × (outcome ≡ Quiet)
 Makes aborts x (OfServer (Said writes.Failed)) outcome y = (used : ℕ) × Hears IsCutOff x used outcome y
-Makes aborts x ClientWaited outcome y = (used : ℕ) × HearsClient x used outcome y
-Makes aborts x ServerWaited outcome y = (used : ℕ) × Hears HasUsed x used outcome y
+Makes aborts x ClientWaited outcome y = (input : List ℕ) × (used : ℕ) × HearsClient input x used outcome y
+Makes aborts x ServerWaited outcome y = (input : List ℕ) × (used : ℕ) × HearsServer input x used outcome y
 Makes aborts x ClientLacksMemory outcome y = LosesClient x outcome y
 Makes aborts x ServerLacksMemory outcome y = (used : ℕ) × Hears (HasHeardEnd false) x used outcome y
 

@@ -1,6 +1,6 @@
 -- What an event makes of an exchange, beyond its history: how much of it is taken, what is given
 -- away, and the next exchange.
-use Rattle.std.specs.Prelude.{◌≡◌, ◌≢◌, ◌⊎◌, ℕ, ◌+◌, ◌≤◌, min, Bool, true, false, if◌then◌else◌, [], ◌++◌, length, take, drop}
+use Rattle.std.specs.Prelude.{◌≡◌, ◌≢◌, ◌⊎◌, ℕ, ◌+◌, ◌≤◌, min, Bool, true, false, if◌then◌else◌, List, [], ◌++◌, length, take, drop}
 use Rattle.base_verdict.specs.declared.Ending.TheVariants.{Done, Failed}
 use Rattle.grant_board.specs.Views.{Grant}
 use Rattle.http_bodies.specs.Stops.{is_bad, is_done}
@@ -10,7 +10,7 @@ use Rattle.http_texts.specs.Replies.{refusal_text}
 use Rattle.http_texts.specs.declared.refusals.Code.{Code}
 use Rattle.http_texts.specs.declared.refusals.Code.TheVariants.{BadGateway, BadRequest, Unavailable}
 use Rattle.exchange_machine.specs.Changes.{IsBegunOn, IsLeftOf, Uses, begun_after, left_after}
-use Rattle.exchange_machine.specs.Histories.{ExchangeHistory}
+use Rattle.exchange_machine.specs.Histories.{ExchangeHistory, client_came, server_came}
 use Rattle.exchange_machine.specs.Reasons.{NoneFollows}
 use Rattle.exchange_machine.specs.Repeatables.{IsSentAgain, IsUntouched}
 use Rattle.exchange_machine.specs.Stages.{HoldsNoHead, IsChecked, IsForwarding}
@@ -146,9 +146,11 @@ abbrev pub Hears : (forwardings.Forwarding → ℕ → forwardings.Forwarding �
 Hears Changes (Forwarding p) used outcome next = (now : forwardings.Forwarding) × Changes p used now × IsJudged now outcome next
 Hears Changes x used outcome next = Stays x used outcome next
 
--- bytes came, and were used or held
-abbrev pub HasUsed : forwardings.Forwarding → ℕ → forwardings.Forwarding → Type 0
-HasUsed p used now = Uses p now
+-- bytes came, of which this many were used or are held: by its history, and nothing else
+pub record HasUsed (came : ExchangeHistory → List ℕ → ExchangeHistory) (input : List ℕ) (p : forwardings.Forwarding) (used : ℕ) (now : forwardings.Forwarding) : Type 0 where
+  pub uses : Uses p now
+  pub stays : p.phase ≡ Body → now.phase ≡ Body
+  pub history : (h : ExchangeHistory) → IsForwarding p h → IsForwarding now (came h (take used input))
 
 -- the server took this number of the bytes that waited for it
 abbrev pub HasServed : ℕ → forwardings.Forwarding → ℕ → forwardings.Forwarding → Type 0
@@ -185,9 +187,13 @@ abbrev pub IsReadOn : Exchange → Type 0
 IsReadOn next = (outcome : Outcome) × HasReadOn outcome next
 
 -- bytes came from the client
-abbrev pub HearsClient : Exchange → ℕ → Outcome → Exchange → Type 0
-HearsClient (Asking a) used outcome next = HasReadOn outcome next
-HearsClient x used outcome next = Hears HasUsed x used outcome next
+abbrev pub HearsClient : List ℕ → Exchange → ℕ → Outcome → Exchange → Type 0
+HearsClient input (Asking a) used outcome next = HasReadOn outcome next
+HearsClient input x used outcome next = Hears (HasUsed client_came input) x used outcome next
+
+-- bytes came from the server
+abbrev pub HearsServer : List ℕ → Exchange → ℕ → Outcome → Exchange → Type 0
+HearsServer input x used outcome next = Hears (HasUsed server_came input) x used outcome next
 
 -- once both sides are done, the client took this number of the bytes that still wait for it
 abbrev pub TellsSettling : ℕ → settlings.Settling → ℕ → Exchange → Type 0
@@ -282,8 +288,8 @@ IsConnected x terms used outcome next = Stays x used outcome next
 
 -- what an event makes of an exchange
 abbrev pub Does : Bool → Exchange → Event → ℕ → Outcome → Exchange → Type 0
-Does aborts x (Events.ClientBytes input) used outcome next = HearsClient x used outcome next
-Does aborts x (Events.ServerBytes input) used outcome next = Hears HasUsed x used outcome next
+Does aborts x (Events.ClientBytes input) used outcome next = HearsClient input.now x used outcome next
+Does aborts x (Events.ServerBytes input) used outcome next = HearsServer input.now x used outcome next
 Does aborts x (Events.ClientTook count) used outcome next = TellsClient count x used outcome next
 Does aborts x (Events.ServerTook count) used outcome next = Hears (HasServed count) x used outcome next
 Does aborts x (Events.Granted pass) used outcome next = IsGranted x pass used outcome next

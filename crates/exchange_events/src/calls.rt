@@ -61,7 +61,7 @@ fn unmoved(exchange: Exchange) -> Step
 pub(crate) fn client_bytes(exchange: Exchange, alloc: Global, input: &[u8]) -> Step
     ensures within { result.used ≤ length input.now }
     ensures at { (h : ExchangeHistory) → steps.IsAtItsStage exchange h → steps.IsAtItsStage result.next (steps.ended result.outcome (client_came h (take result.used input.now))) }
-    ensures does { answers.HearsClient exchange result.used result.outcome result.next }
+    ensures does { answers.HearsClient input.now exchange result.used result.outcome result.next }
     ensures fails { steps.FailsInTurn result.outcome result.next }
 {
     match exchange {
@@ -124,7 +124,7 @@ fn unread(why: Fault) -> Turned
 fn request_bytes(mut forwarding: Forwarding, alloc: Global, input: &[u8]) -> Step
     ensures within { result.used ≤ length input.now }
     ensures at { (h : ExchangeHistory) → IsForwarding forwarding h → steps.IsAtItsStage result.next (steps.ended result.outcome (client_came h (take result.used input.now))) }
-    ensures does { answers.Hears answers.HasUsed (Exchange.Forwarding forwarding) result.used result.outcome result.next }
+    ensures does { answers.HearsClient input.now (Exchange.Forwarding forwarding) result.used result.outcome result.next }
     ensures fails { steps.FailsInTurn result.outcome result.next }
 {
     let used = take_request(&mut forwarding, input);
@@ -139,6 +139,7 @@ fn request_bytes(mut forwarding: Forwarding, alloc: Global, input: &[u8]) -> Ste
 fn take_request(forwarding: &mut Forwarding, input: &[u8]) -> usize
     ensures within { result ≤ length input.now }
     ensures uses { Uses forwarding.old forwarding.new }
+    ensures phase { forwarding.new.phase ≡ forwarding.old.phase }
     ensures passes { (h : ExchangeHistory) → IsForwarding forwarding.old h → IsForwarding forwarding.new (client_came h (take result input.now)) }
 {
     forwarding.use_held();
@@ -151,7 +152,7 @@ fn take_request(forwarding: &mut Forwarding, input: &[u8]) -> usize
 pub(crate) fn server_bytes(exchange: Exchange, alloc: Global, input: &[u8]) -> Step
     ensures within { result.used ≤ length input.now }
     ensures at { (h : ExchangeHistory) → steps.IsAtItsStage exchange h → steps.IsAtItsStage result.next (steps.ended result.outcome (server_came h (take result.used input.now))) }
-    ensures does { answers.Hears answers.HasUsed exchange result.used result.outcome result.next }
+    ensures does { answers.HearsServer input.now exchange result.used result.outcome result.next }
     ensures fails { steps.FailsInTurn result.outcome result.next }
 {
     match exchange {
@@ -163,7 +164,7 @@ pub(crate) fn server_bytes(exchange: Exchange, alloc: Global, input: &[u8]) -> S
 fn answer_bytes(mut forwarding: Forwarding, alloc: Global, input: &[u8]) -> Step
     ensures within { result.used ≤ length input.now }
     ensures at { (h : ExchangeHistory) → IsForwarding forwarding h → steps.IsAtItsStage result.next (steps.ended result.outcome (server_came h (take result.used input.now))) }
-    ensures does { answers.Hears answers.HasUsed (Exchange.Forwarding forwarding) result.used result.outcome result.next }
+    ensures does { answers.HearsServer input.now (Exchange.Forwarding forwarding) result.used result.outcome result.next }
     ensures fails { steps.FailsInTurn result.outcome result.next }
 {
     let used = take_answer(&mut forwarding, input);
@@ -178,6 +179,7 @@ fn answer_bytes(mut forwarding: Forwarding, alloc: Global, input: &[u8]) -> Step
 fn take_answer(forwarding: &mut Forwarding, input: &[u8]) -> usize
     ensures within { result ≤ length input.now }
     ensures uses { Uses forwarding.old forwarding.new }
+    ensures phase { forwarding.new.phase ≡ forwarding.old.phase }
     ensures passes { (h : ExchangeHistory) → IsForwarding forwarding.old h → IsForwarding forwarding.new (server_came h (take result input.now)) }
 {
     if forwarding.is_at_body() && forwarding.holds_no_answer() {

@@ -64,6 +64,7 @@ impl Forwarding {
 
     /// Takes bytes of the client, no more than there is room for, and returns how many.
     pub fn client_bytes(&mut self, input: &[u8]) -> usize
+        ensures only { self.new ≡ record self.old { up = self.new.up } }
         ensures uses { Uses self.old self.new }
         ensures within { result ≤ length input.now }
         ensures passes { (h : ExchangeHistory) → stages.IsForwarding self.old h → self.old.up_held.items ≡ []
@@ -88,6 +89,7 @@ impl Forwarding {
     pub fn use_held(&mut self)
         ensures passes { (h : ExchangeHistory) → stages.IsForwarding self.old h → stages.IsForwarding self.new h }
         ensures phase { self.new.phase ≡ self.old.phase }
+        ensures only { self.new ≡ record self.old { up = self.new.up; up_held = self.new.up_held } }
         ensures uses { Uses self.old self.new }
     {
         let fed = self.up.take(self.up_held.as_slice());
@@ -99,6 +101,7 @@ impl Forwarding {
         requires { self.old.phase ≡ Down.Body }
         ensures passes { (h : ExchangeHistory) → stages.IsForwarding self.old h → stages.IsForwarding self.new h }
         ensures body { self.new.phase ≡ Down.Body }
+        ensures only { self.new ≡ record self.old { down = self.new.down; down_held = self.new.down_held } }
         ensures uses { Uses self.old self.new }
     {
         let fed = self.down.take(self.down_held.as_slice());
@@ -268,6 +271,7 @@ impl Forwarding {
     pub fn server_bytes(&mut self, input: &[u8]) -> usize
         requires body { self.old.phase ≡ Down.Body }
         requires first { self.old.down_held.items ≡ [] }
+        ensures only { self.new ≡ record self.old { down = self.new.down } }
         ensures uses { Uses self.old self.new }
         ensures within { result ≤ length input.now }
         ensures passes { (h : ExchangeHistory) → stages.IsForwarding self.old h → stages.IsForwarding self.new (server_came h (take result input.now)) }
@@ -278,6 +282,7 @@ impl Forwarding {
 
     /// Takes bytes of the heads before the answer's body, and returns how many. At most 16 KiB are held.
     pub fn server_head_bytes(&mut self, input: &[u8]) -> Result<usize, AllocError>
+        ensures only { self.new ≡ record self.old { down_held = self.new.down_held; looks = self.new.looks } }
         ensures uses { Uses self.old self.new }
         ensures within { IfOk result (λ used. used ≤ length input.now) }
         ensures held { IfOk result (λ used. self.new.down_held.items ≡ self.old.down_held.items ++ take used input.now) }

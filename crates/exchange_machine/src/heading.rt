@@ -74,6 +74,7 @@ impl Forwarding {
         ensures heads { result ≢ Headed.Answer → self.new.phase ≢ Down.Body }
         ensures more { result ≡ Headed.More → self.new.looks ≡ false }
         ensures looks { result ≢ Headed.More → self.new.looks ≡ self.old.looks }
+        ensures interim { result ≡ Headed.Interim → (count : ℕ) × (self.old.phase ≡ Down.Heads count) × (self.new.phase ≡ Down.Heads (count + 1)) }
         ensures headed { result ≡ Headed.Answer → (self.new ≡ self.old) ⊎ HasHeaded self.old self.new }
         ensures none { result ≡ Headed.Refused → (count : ℕ) × (self.new.phase ≡ Down.Heads count) × NoneFollows self.new.view.method count self.new.down_held.items }
         ensures refused { result ≡ Headed.Refused → (h : ExchangeHistory) → stages.IsForwarding self.old h → LacksAnswer self.new.view.method h.server_in }
@@ -134,7 +135,7 @@ impl Forwarding {
         requires planned { answer_plan self.old.view.method head.now ≡ Some plan }
         requires last { is_interim head.now.status ≡ false }
         ensures headed { result ≡ Headed.Answer → HasHeaded self.old self.new }
-        ensures answered { (result ≢ Headed.Refused) × (result ≢ Headed.More) }
+        ensures answered { (result ≢ Headed.Refused) × (result ≢ Headed.More) × (result ≢ Headed.Interim) }
         ensures body { result ≡ Headed.Answer → self.new.phase ≡ Down.Body }
         ensures heads { result ≢ Headed.Answer → self.new.phase ≢ Down.Body }
         ensures passes { (h : ExchangeHistory) → stages.IsForwarding self.old h → stages.IsForwarding self.new h }
@@ -161,7 +162,7 @@ impl Forwarding {
 
 fn headed_for(why: Fault) -> Headed
     ensures memory { result ≡ Headed.Refused → why ≢ Fault.NoMemory }
-    ensures unanswered { (result ≢ Headed.Answer) × (result ≢ Headed.More) }
+    ensures unanswered { (result ≢ Headed.Answer) × (result ≢ Headed.More) × (result ≢ Headed.Interim) }
 {
     if why == Fault::NoMemory {
         Headed::Short

@@ -162,7 +162,8 @@ impl<N: BoardName + Ledger, S: Socket> Linked<N, S> {
         ensures on { IfOk result (λ _. (opened : Wire) (before : List Whole) → IsBehind opened before (S.taken unused.socket) (S.left unused.socket)
             → IsOn opened before self.new.seated.exchange self.new.line) }
         ensures refused { IfErr result (λ _. self.new ≡ self.old) }
-        ensures cause { IfErr result (λ back. WantsNoUsed unused.server self.old.seated.exchange self.old.line ⊎ HasSpoken (S.answers unused.socket) (S.answers back.socket)) }
+        ensures cause { IfErr result (λ back. (WantsNoUsed unused.server self.old.seated.exchange self.old.line × (back ≡ unused))
+            ⊎ (HasSpoken (S.answers unused.socket) (S.answers back.socket) × (S.taken back.socket ≡ S.taken unused.socket))) }
     {
         let Some(server) = self.wanted() else {
             return Err(unused);
@@ -240,7 +241,8 @@ impl<N: BoardName + Ledger, S: Socket> Linked<N, S> {
             × (result.given ≡ Given.Retries → outcome ≡ outcomes.Outcome.Retries)
             × ((posting : _) → result.given ≡ Given.Posts posting → IsPosted outcome posting.taken.held.pass posting.ending) }
         ensures client { (h : ExchangeHistory) → steps.IsAtItsStage self.seated.exchange h → (outcome : outcomes.Outcome) × (server : Wire)
-            × Drives client.old client.new self.line server (is_some result.client) (is_some result.server) h result.linked.seated.exchange outcome }
+            × Drives client.old client.new self.line server (is_some result.client) (is_some result.server) h result.linked.seated.exchange outcome
+            × (result.given ≢ Given.Retries → server ≡ result.linked.line) }
     {
         let Linked {
             seated,

@@ -40,6 +40,7 @@ impl WaitingExchange {
     pub fn grant<N: BoardName + Ledger>(self, taken: Taken<N>) -> Seated<N>
         requires { Serves taken.held.pass.verdict }
         ensures pass { held_by result.exchange ≡ taken.held.pass ∷ [] }
+        ensures grants { result.exchange ≡ Exchange.Dialing (record { waiting = self.waiting; pass = taken.held.pass; reached = false }) }
         ensures dials { (h : ExchangeHistory) → IsWaiting self.waiting h → IsDialingAt result.exchange (granted h taken.held.pass) }
         ensures unsent { IsUnsentYet result.exchange }
     {

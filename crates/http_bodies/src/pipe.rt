@@ -98,6 +98,7 @@ impl Pipe {
         requires { (K.stream sink.old).calls + self.old.turns < 2 ^ 64 }
         ensures ok { OnOk result (Emits (K.stream sink.old) (K.stream sink.new) self.old.turns self.new.turns self.old.outbox self.new.outbox bytes.now) }
         ensures late { OnOk result (WaitsBehind (K.stream sink.old) (K.stream sink.new) self.old.outbox self.new.outbox bytes.now) }
+        ensures full { OnErr result (OUTBOX_BYTES < length (self.old.outbox ++ bytes.now)) }
         ensures err { IfErr result (Stops (K.stream sink.old) (K.stream sink.new) self.old.turns self.new.turns (self.old.outbox ++ bytes.now)) }
         ensures inbox { self.new.inbox ≡ self.old.inbox }
     {
@@ -109,6 +110,8 @@ impl Pipe {
         requires { (K.stream sink.old).calls + self.old.turns < 2 ^ 64 }
         ensures ok { OnOk result (Emits (K.stream sink.old) (K.stream sink.new) self.old.turns self.new.turns self.old.outbox self.new.outbox []) }
         ensures empty { OnOk result (self.new.outbox ≡ []) }
+        ensures waiting { OnErr result (self.new.outbox ≡ self.old.outbox) }
+        ensures some { OnErr result (0 < length self.old.outbox) }
         ensures err { IfErr result (Stops (K.stream sink.old) (K.stream sink.new) self.old.turns self.new.turns self.old.outbox) }
         ensures inbox { self.new.inbox ≡ self.old.inbox }
     {
@@ -171,6 +174,7 @@ impl Pipe {
         ensures none { IfOk result (λ count. count ≡ 0 → self.new.inbox ≡ self.old.inbox) }
         ensures spent { OnOk result (self.new.turns < self.old.turns) }
         ensures read { OnOk result ((S.stream source.old).calls < (S.stream source.new).calls) }
+        ensures kept { OnErr result (self.new.inbox ≡ self.old.inbox) }
         ensures err { IfErr result (Breaks (ends self.old (S.stream source.old) (K.stream sink.old)) (ends self.new (S.stream source.new) (K.stream sink.new)) [] [] LacksNothing) }
     {
         self.flush(sink)?;

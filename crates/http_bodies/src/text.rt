@@ -1,4 +1,5 @@
-ghost use Rattle.std.specs.Prelude.{◌≡◌, ◌+◌, ◌^◌, ◌<◌, ◌≤◌, ◌++◌, [], length, take, OnOk, IfOk, IfErr};
+ghost use Rattle.std.specs.Prelude.{◌≡◌, ◌+◌, ◌^◌, ◌<◌, ◌≤◌, ◌++◌, [], length, take, OnOk, OnErr, IfOk, IfErr};
+ghost use Rattle.http_bodies.specs.declared.outbox.TheConstants.{OUTBOX_BYTES};
 ghost use Rattle.http_bodies.specs.Texts.{Emits, Stops, WaitsBehind};
 
 use crate::fault::Fault;
@@ -10,6 +11,7 @@ pub(crate) fn write_text<K: Sink>(turns: &mut u64, sink: &mut K, text: &[u8]) ->
     requires { (K.stream sink.old).calls + turns.old < 2 ^ 64 }
     ensures ok { OnOk result (Emits (K.stream sink.old) (K.stream sink.new) turns.old turns.new [] [] text.now) }
     ensures err { IfErr result (Stops (K.stream sink.old) (K.stream sink.new) turns.old turns.new text.now) }
+    ensures some { OnErr result (0 < length text.now) }
 {
     let mut rest = text;
     'writing: while !rest.is_empty() {
@@ -46,6 +48,7 @@ pub(crate) fn emit<K: Sink>(
     requires { (K.stream sink.old).calls + turns.old < 2 ^ 64 }
     ensures ok { OnOk result (Emits (K.stream sink.old) (K.stream sink.new) turns.old turns.new outbox.old outbox.new bytes.now) }
     ensures late { OnOk result (WaitsBehind (K.stream sink.old) (K.stream sink.new) outbox.old outbox.new bytes.now) }
+    ensures full { OnErr result (OUTBOX_BYTES < length (outbox.old ++ bytes.now)) }
     ensures err { IfErr result (Stops (K.stream sink.old) (K.stream sink.new) turns.old turns.new (outbox.old ++ bytes.now)) }
 {
     if bytes.len() <= outbox.room() {
@@ -66,6 +69,8 @@ pub(crate) fn flush<K: Sink>(
     requires { (K.stream sink.old).calls + turns.old < 2 ^ 64 }
     ensures ok { OnOk result (Emits (K.stream sink.old) (K.stream sink.new) turns.old turns.new outbox.old outbox.new []) }
     ensures empty { OnOk result (outbox.new ≡ []) }
+    ensures waiting { OnErr result (outbox.new ≡ outbox.old) }
+    ensures some { OnErr result (0 < length outbox.old) }
     ensures err { IfErr result (Stops (K.stream sink.old) (K.stream sink.new) turns.old turns.new outbox.old) }
 {
     write_text(turns, sink, outbox.as_slice())?;

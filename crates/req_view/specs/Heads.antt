@@ -1,6 +1,6 @@
 -- Heads at the front of the bytes that have come so far.
 use Rattle.std.specs.Prelude.{◌≡◌, ℕ, ◌<◌, ◌≤◌, List, ◌++◌, length}
-use Rattle.httparse.specs.Grammar.{RequestHead, print_request, ReadsRequest, MayBecomeRequest}
+use Rattle.httparse.specs.Grammar.{RequestHead, print_request, ReadsRequest, MayBecomeRequest, HasNoRequest}
 use Rattle.req_view.specs.Request.{Request, request_of, IsWelcome}
 use Rattle.req_view.specs.declared.refusal.HeadRefusal.TheVariants.{HeadFault, NoMemory}
 use Rattle.req_view.specs.declared.viewing.Viewed.{Viewed}
@@ -35,6 +35,7 @@ pub record BeginsWith (bytes : List ℕ) (r : Request) (count : ℕ) : Type 0 wh
 -- there is no whole head yet, its bytes may still come, and there is room for them
 pub record Waits (bytes : List ℕ) : Type 0 where
   pub none : HasNoHead bytes
+  pub unended : HasNoRequest bytes
   pub room : length bytes < 16384
   pub open_end : MayBecomeRequest bytes
 

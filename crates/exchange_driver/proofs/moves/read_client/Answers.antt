@@ -57,4 +57,4 @@ returns-in-Ended-false-clause-driven g c = rw (c.behind-in-Ended-false.ensures.e
 pub returns-in-Bytes-clause-driven : goal.returns-in-Bytes-clause-driven
 returns-in-Bytes-clause-driven g c = rw (c.behind-in-Bytes.ensures.exchange, c.behind-in-Bytes.ensures.outcome)
     (client_answered _ _ _ _ _ _ _ (Heard (Bytes c.in-Bytes.count)) (c.keep.ensures.answers ∙ heard_bytes _ _ c.in-Bytes.count c.in-Bytes.ensures.heard)
-    (c.step-step.result.used, c.step-step.ensures.does))
+    (_, c.step-step.result.used, c.step-step.ensures.does))

@@ -14,4 +14,4 @@ returns-clause-at g c h is =
 
 pub returns-clause-driven : goal.returns-clause-driven
 returns-clause-driven g c = rw (c.behind.ensures.exchange, c.behind.ensures.outcome)
-    (server_waited _ _ _ _ _ _ _ c.taken.ensures.answers (c.step-step.result.used, c.step-step.ensures.does))
+    (server_waited _ _ _ _ _ _ _ c.taken.ensures.answers (_, c.step-step.result.used, c.step-step.ensures.does))

@@ -21,3 +21,9 @@ returns-in-Interim-clause-headed c answered = absurd (c.forward_interim.ensures.
 pub returns-in-More-clause-passes : goal.returns-in-More-clause-passes
 returns-in-More-clause-passes c h is =
     forwarding_marked c.args.self.now _ h is (λ dry count at. subst HasNoAnswer c.as_slice.ensures.value c.in-More.ensures.none) refl
+
+pub returns-in-Final-clause-interim : goal.returns-in-Final-clause-interim
+returns-in-Final-clause-interim c interim = absurd (c.forward_final.ensures.answered.2 interim)
+
+pub returns-in-Refused-clause-interim : goal.returns-in-Refused-clause-interim
+returns-in-Refused-clause-interim c interim = absurd (c.headed_for.ensures.unanswered.2 interim)

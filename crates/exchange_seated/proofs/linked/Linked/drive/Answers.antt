@@ -42,7 +42,7 @@ pub returns-clause-client : goal.returns-clause-client
 returns-clause-client g c h at =
     let anew = c.linked_anew.ensures in
     let d = c.drive-served.ensures.at h at in
-    (d.0, c.drive-served.new.server, rw (anew.moved.0, anew.moved.1, anew.seated) d.1)
+    (d.0, c.drive-served.new.server, rw (anew.moved.0, anew.moved.1, anew.seated) d.1, (λ kept. sym (anew.stays (λ is. kept (anew.rest.1 ∙ is))).0))
 
 pub returns-clause-driven : goal.returns-clause-driven
 returns-clause-driven g c =

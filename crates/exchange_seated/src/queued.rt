@@ -1,4 +1,4 @@
-ghost use Rattle.std.specs.Prelude.{◌≡◌, ◌∷◌, []};
+ghost use Rattle.std.specs.Prelude.{◌≡◌, ◌∷◌, [], false};
 ghost use Rattle.exchange_machine.specs.Histories.{ExchangeHistory, granted};
 ghost use Rattle.exchange_machine.specs.Stages.{IsWaiting};
 ghost use Rattle.exchange_events.specs.Passes.{held_by};

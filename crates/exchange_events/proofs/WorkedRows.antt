@@ -9,9 +9,8 @@ use Rattle.exchange_machine.specs.declared.asking.Turn.TheVariants as Turns
 use Rattle.exchange_machine.specs.declared.dialing.Dialing as dialings
 use Rattle.exchange_machine.specs.declared.forwarding.Forwarding as forwardings
 use Rattle.exchange_machine.specs.declared.waiting.Waiting as waitings
-use Rattle.exchange_events.specs.Answers.{AwaitsHead, HasHeardEnd, HasReadOn, Stays, LosesClient, IsGranted, MissesServer, IsHalfClosed}
+use Rattle.exchange_events.specs.Answers.{AwaitsHead, HasHeardEnd, HasReadOn, LosesClient, IsGranted, MissesServer, IsHalfClosed}
 use Rattle.exchange_events.specs.declared.exchange.Exchange.TheVariants.{Waiting, Dialing, Forwarding, Over}
-use Rattle.exchange_events.specs.declared.exchange.Outcome.{Outcome}
 use Rattle.exchange_events.specs.declared.exchange.Outcome.TheVariants.{Quiet, Posts, Returns}
 
 -- who waits takes the pass, and doesn't return it

@@ -1,5 +1,5 @@
 -- An exchange's pass is its seat's, and so the log's.
-use Rattle.std.proofs.Common.{◌≡◌, ℕ, Option, None, Some, List, [], ◌∷◌, Contains, sym, subst}
+use Rattle.std.proofs.Common.{◌≡◌, ℕ, Some, List, [], ◌∷◌, Contains, sym, subst}
 use Rattle.log_entries.specs.Histories.{History, state_of}
 use Rattle.grant_board.specs.Views.{Grant}
 use Rattle.base_lists.proofs.Members.{Contains-head}

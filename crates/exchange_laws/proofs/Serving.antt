@@ -8,7 +8,7 @@ use Rattle.http_texts.specs.declared.additions.Additions.{Additions}
 use Rattle.exchange_machine.specs.Histories.{ExchangeHistory}
 use Rattle.exchange_machine.specs.Stages.{IsUnsent}
 use Rattle.exchange_machine.specs.Wholes.{Whole, IsWhole, EndsClean, forwarded_of, answer_of_server}
-use Rattle.exchange_events.specs.Steps.{IsAtItsStage, history_after, heard, ended, came_pass, connected_with}
+use Rattle.exchange_events.specs.Steps.{IsAtItsStage, history_after, heard, came_pass, connected_with}
 use Rattle.exchange_events.specs.declared.event.Event.{Event}
 use Rattle.exchange_events.specs.declared.event.Event.TheVariants as Events
 use Rattle.exchange_events.specs.declared.exchange.Exchange.{Exchange}

@@ -4,13 +4,12 @@ use Rattle.std.proofs.lemmas.List.{take-append-drop, map-append}
 use Rattle.std.specs.List.{AllByRecursion}
 use Rattle.base_lists.proofs.Fronts.{front_nil, front_as}
 use Rattle.base_lists.proofs.Members.{all_append}
-use Rattle.http_texts.specs.Framings.{answer_plan}
 use Rattle.http_texts.specs.Replies.{refusal_text}
 use Rattle.http_texts.specs.declared.fault.Fault.{Fault}
 use Rattle.http_texts.specs.declared.fault.Fault.TheVariants as Faulty
 use Rattle.http_texts.specs.declared.refusals.Code.{Code}
 use Rattle.http_texts.specs.declared.refusals.Code.TheVariants.{BadGateway, BadRequest, Unavailable}
-use Rattle.req_view.specs.AnswerHeads.{HasNoAnswer, SaysAnswer, NeverHasAnswer}
+use Rattle.req_view.specs.AnswerHeads.{HasNoAnswer}
 use Rattle.req_view.specs.Request.{Request}
 use Rattle.base_verdict.specs.declared.Ending.TheVariants.{Done}
 use Rattle.exchange_machine.specs.Answerings.{TellsAnswer}

@@ -1,8 +1,8 @@
 -- A server's connection over what its exchange does.
-use Rattle.std.proofs.Common.{◌≡◌, ◌≢◌, ◌∙◌, ◌<◌, ◌≤◌, ◌==◌, ◌⊎◌, inl, inr, ℕ, Bool, true, false, List, [], ◌∷◌, ◌++◌, Option, Some, None, length, refl, sym, ap, subst, append_assoc, append-nil, arith}
+use Rattle.std.proofs.Common.{◌≡◌, ◌≢◌, ◌∙◌, ◌<◌, ◌≤◌, ◌==◌, inl, inr, ℕ, Bool, true, false, List, [], ◌∷◌, ◌++◌, Option, Some, None, length, refl, sym, ap, subst, append_assoc, append-nil, arith}
 use Rattle.std.proofs.Math.Logic.{∥∥₁_map}
 use Rattle.std.proofs.lemmas.Bool.{eqb-true}
-use Rattle.std.specs.List.{flat_map, AllByRecursion}
+use Rattle.std.specs.List.{flat_map}
 use Rattle.std.specs.Io.KnownBytes.{Consumes, Appends}
 use Rattle.std.proofs.lemmas.Grind.{flat_map-append}
 use Rattle.std.proofs.KnownBytes.{Consumes-nil, Appends-nil, Consumes-trans, Appends-trans}
@@ -20,8 +20,8 @@ use Rattle.exchange_events.specs.declared.exchange.Outcome.{Outcome}
 use Rattle.exchange_events.specs.declared.exchange.Outcome.TheVariants as Outcomes
 use Rattle.exchange_events.proofs.StepLemmas.{at_sound}
 use Rattle.exchange_driver.specs.Drives.{Drives}
-use Rattle.exchange_driver.specs.Wires.{Wire, Carries}
-use Rattle.exchange_seated.specs.Connections.{IsOpenToServer, SentInOrder, IsServedOn, IsBehind, IsLeftBy, IsUnsentYet, StillHolds}
+use Rattle.exchange_driver.specs.Wires.{Wire}
+use Rattle.exchange_seated.specs.Connections.{IsOpenToServer, IsServedOn, IsBehind, IsLeftBy, IsUnsentYet, StillHolds}
 use Rattle.exchange_seated.specs.Seats.{server_of}
 use Rattle.exchange_seated.proofs.Seating.{held_one}
 

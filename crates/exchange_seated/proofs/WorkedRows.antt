@@ -1,14 +1,14 @@
 -- A used connection, and a pass that is to be posted, at worked examples: what must hold, and what
 -- must not.
-use Rattle.std.proofs.Common.{◌≡◌, ◌⊎◌, inl, inr, ℕ, true, false, [], ◌∷◌, Some, refl, subst}
+use Rattle.std.proofs.Common.{◌≡◌, inl, inr, ℕ, true, [], ◌∷◌, Some, refl}
 use Rattle.base_verdict.specs.declared.Ending.TheVariants.{Done, Failed}
 use Rattle.grant_board.specs.Views.{Grant}
-use Rattle.exchange_driver.specs.Answers.{Answer, Heard}
+use Rattle.exchange_driver.specs.Answers.{Heard}
 use Rattle.exchange_driver.specs.Wires.{Wire}
 use Rattle.exchange_driver.specs.declared.socket.ReadResult.{ReadResult}
 use Rattle.exchange_driver.specs.declared.socket.ReadResult.TheVariants.{Nothing, Ended}
 use Rattle.exchange_events.specs.declared.exchange.Exchange.TheVariants.{Over}
-use Rattle.exchange_events.specs.declared.exchange.Outcome.TheVariants.{Quiet, Posts}
+use Rattle.exchange_events.specs.declared.exchange.Outcome.TheVariants.{Posts}
 use Rattle.exchange_seated.specs.Connections.{HasSpoken, StillHolds, WantsNoUsed}
 use Rattle.exchange_seated.specs.Seats.{IsPosted}
 

@@ -1,23 +1,23 @@
 -- What one move tells an exchange, and what many tell one after the other.
 use Rattle.std.proofs.Common.{◌≡◌, ◌⊎◌, inl, inr, Bool, true, false, List, [], ◌∷◌, ◌++◌, Option, None, Some, ℕ, refl, ap, sym, subst, ◌∙◌, append_assoc, append-nil}
-use Rattle.exchange_driver.specs.Answers.{Answer, Heard, Said, HasHeard, with_answers}
-use Rattle.exchange_driver.specs.Moves.{Move, OfClient, OfServer, ClientWaited, ServerWaited, ClientLacksMemory, ServerLacksMemory, Makes, MakeAll, of_client, of_server, IsDriven}
+use Rattle.exchange_driver.specs.Answers.{SocketAnswer, Heard, Said, HasHeard, with_answers}
+use Rattle.exchange_driver.specs.Moves.{Move, OfClient, OfServer, ClientWaited, ServerWaited, ClientLacksMemory, ServerLacksMemory, Makes, MakeAll, told_by_client, told_by_server, IsDriven}
 use Rattle.exchange_driver.specs.declared.socket.ReadResult.{ReadResult}
 use Rattle.exchange_driver.specs.declared.socket.ReadResult.TheVariants.{Bytes, Nothing, Ended}
-use Rattle.exchange_events.specs.Answers.{HasHeardEnd, Hears, LosesClient}
+use Rattle.exchange_events.specs.Answers.{HasHeardEnd, RelayHears, LosesClient}
 use Rattle.exchange_events.specs.declared.exchange.Exchange.{Exchange}
 use Rattle.exchange_events.specs.declared.exchange.Outcome.{Outcome}
 use Rattle.exchange_events.specs.declared.exchange.Outcome.TheVariants.{Quiet}
 
-with_none : (a : Option (List Answer)) → a ≡ with_answers [] a
+with_none : (a : Option (List SocketAnswer)) → a ≡ with_answers [] a
 with_none None = refl
 with_none (Some before) = ap Some (sym (append-nil before))
 
-with_both : (one two : List Answer) (a : Option (List Answer)) → with_answers two (with_answers one a) ≡ with_answers (one ++ two) a
+with_both : (one two : List SocketAnswer) (a : Option (List SocketAnswer)) → with_answers two (with_answers one a) ≡ with_answers (one ++ two) a
 with_both one two None = refl
 with_both one two (Some before) = ap Some (append_assoc before one two)
 
-client_append : (one two : List Move) → of_client (one ++ two) ≡ of_client one ++ of_client two
+client_append : (one two : List Move) → told_by_client (one ++ two) ≡ told_by_client one ++ told_by_client two
 client_append [] two = refl
 client_append (OfClient answer ∷ one) two = ap (λ l. answer ∷ l) (client_append one two)
 client_append (OfServer answer ∷ one) two = client_append one two
@@ -26,7 +26,7 @@ client_append (ServerWaited ∷ one) two = client_append one two
 client_append (ClientLacksMemory ∷ one) two = client_append one two
 client_append (ServerLacksMemory ∷ one) two = client_append one two
 
-server_append : (one two : List Move) → of_server (one ++ two) ≡ of_server one ++ of_server two
+server_append : (one two : List Move) → told_by_server (one ++ two) ≡ told_by_server one ++ told_by_server two
 server_append [] two = refl
 server_append (OfClient answer ∷ one) two = server_append one two
 server_append (OfServer answer ∷ one) two = ap (λ l. answer ∷ l) (server_append one two)
@@ -44,64 +44,64 @@ make_both aborts x y z (move ∷ one) two outcome (next, given, makes, inr (none
     (next, given, makes, inl (sym is, subst (λ moves. MakeAll aborts next (moves ++ two) outcome z) (sym none) (subst (λ w. MakeAll aborts w two outcome z) same second)))
 
 -- no move
-pub driven_none : (aborts : Bool) (client server : Option (List Answer)) (x : Exchange) → IsDriven aborts client client server server x Quiet x
+pub driven_none : (aborts : Bool) (client server : Option (List SocketAnswer)) (x : Exchange) → IsDriven aborts client client server server x Quiet x
 driven_none aborts client server x = record { moves = []; make = (refl, refl); client_is = with_none client; server_is = with_none server }
 
 -- some moves, and then others
-pub driven_on : (aborts : Bool) (c0 c1 c2 s0 s1 s2 : Option (List Answer)) (x y z : Exchange) (outcome : Outcome) → IsDriven aborts c0 c1 s0 s1 x Quiet y
+pub driven_on : (aborts : Bool) (c0 c1 c2 s0 s1 s2 : Option (List SocketAnswer)) (x y z : Exchange) (outcome : Outcome) → IsDriven aborts c0 c1 s0 s1 x Quiet y
     → IsDriven aborts c1 c2 s1 s2 y outcome z → IsDriven aborts c0 c2 s0 s2 x outcome z
 driven_on aborts c0 c1 c2 s0 s1 s2 x y z outcome one two = record {
   moves = one.moves ++ two.moves;
   make = make_both aborts x y z one.moves two.moves outcome one.make two.make;
-  client_is = two.client_is ∙ ap (with_answers (of_client two.moves)) one.client_is ∙ with_both (of_client one.moves) (of_client two.moves) c0
+  client_is = two.client_is ∙ ap (with_answers (told_by_client two.moves)) one.client_is ∙ with_both (told_by_client one.moves) (told_by_client two.moves) c0
       ∙ ap (λ l. with_answers l c0) (sym (client_append one.moves two.moves));
-  server_is = two.server_is ∙ ap (with_answers (of_server two.moves)) one.server_is ∙ with_both (of_server one.moves) (of_server two.moves) s0
+  server_is = two.server_is ∙ ap (with_answers (told_by_server two.moves)) one.server_is ∙ with_both (told_by_server one.moves) (told_by_server two.moves) s0
       ∙ ap (λ l. with_answers l s0) (sym (server_append one.moves two.moves));
 }
 
 -- one move
-pub client_answered : (aborts : Bool) (c0 c1 s : Option (List Answer)) (x y : Exchange) (outcome : Outcome) (answer : Answer)
+pub client_answered : (aborts : Bool) (c0 c1 s : Option (List SocketAnswer)) (x y : Exchange) (outcome : Outcome) (answer : SocketAnswer)
     → c1 ≡ with_answers (answer ∷ []) c0 → Makes aborts x (OfClient answer) outcome y → IsDriven aborts c0 c1 s s x outcome y
 client_answered aborts c0 c1 s x y outcome answer is makes =
     record { moves = OfClient answer ∷ []; make = (y, outcome, makes, inr (refl, refl, refl)); client_is = is; server_is = with_none s }
 
-pub server_answered : (aborts : Bool) (c s0 s1 : Option (List Answer)) (x y : Exchange) (outcome : Outcome) (answer : Answer)
+pub server_answered : (aborts : Bool) (c s0 s1 : Option (List SocketAnswer)) (x y : Exchange) (outcome : Outcome) (answer : SocketAnswer)
     → s1 ≡ with_answers (answer ∷ []) s0 → Makes aborts x (OfServer answer) outcome y → IsDriven aborts c c s0 s1 x outcome y
 server_answered aborts c s0 s1 x y outcome answer is makes =
     record { moves = OfServer answer ∷ []; make = (y, outcome, makes, inr (refl, refl, refl)); client_is = with_none c; server_is = is }
 
-pub client_waited : (aborts : Bool) (c0 c1 s : Option (List Answer)) (x y : Exchange) (outcome : Outcome) → c1 ≡ c0 → Makes aborts x ClientWaited outcome y
+pub client_waited : (aborts : Bool) (c0 c1 s : Option (List SocketAnswer)) (x y : Exchange) (outcome : Outcome) → c1 ≡ c0 → Makes aborts x ClientWaited outcome y
     → IsDriven aborts c0 c1 s s x outcome y
 client_waited aborts c0 c1 s x y outcome is makes =
     record { moves = ClientWaited ∷ []; make = (y, outcome, makes, inr (refl, refl, refl)); client_is = is ∙ with_none c0; server_is = with_none s }
 
-pub server_waited : (aborts : Bool) (c s0 s1 : Option (List Answer)) (x y : Exchange) (outcome : Outcome) → s1 ≡ s0 → Makes aborts x ServerWaited outcome y
+pub server_waited : (aborts : Bool) (c s0 s1 : Option (List SocketAnswer)) (x y : Exchange) (outcome : Outcome) → s1 ≡ s0 → Makes aborts x ServerWaited outcome y
     → IsDriven aborts c c s0 s1 x outcome y
 server_waited aborts c s0 s1 x y outcome is makes =
     record { moves = ServerWaited ∷ []; make = (y, outcome, makes, inr (refl, refl, refl)); client_is = with_none c; server_is = is ∙ with_none s0 }
 
 -- a read that didn't fail was answered by the socket
-pub heard_nothing : (old new : Option (List Answer)) → HasHeard Nothing old new → new ≡ with_answers (Heard Nothing ∷ []) old
+pub heard_nothing : (old new : Option (List SocketAnswer)) → HasHeard Nothing old new → new ≡ with_answers (Heard Nothing ∷ []) old
 heard_nothing old new (inl is) = is
 heard_nothing old new (inr (same, is)) = let no : Nothing ≡ Ended false = is in cc
 
-pub heard_bytes : (old new : Option (List Answer)) (count : ℕ) → HasHeard (Bytes count) old new → new ≡ with_answers (Heard (Bytes count) ∷ []) old
+pub heard_bytes : (old new : Option (List SocketAnswer)) (count : ℕ) → HasHeard (Bytes count) old new → new ≡ with_answers (Heard (Bytes count) ∷ []) old
 heard_bytes old new count (inl is) = is
 heard_bytes old new count (inr (same, is)) = let no : Bytes count ≡ Ended false = is in cc
 
-pub heard_end : (old new : Option (List Answer)) → HasHeard (Ended true) old new → new ≡ with_answers (Heard (Ended true) ∷ []) old
+pub heard_end : (old new : Option (List SocketAnswer)) → HasHeard (Ended true) old new → new ≡ with_answers (Heard (Ended true) ∷ []) old
 heard_end old new (inl is) = is
 heard_end old new (inr (same, is)) = let no : Ended true ≡ Ended false = is in cc
 
 -- one that failed, or for which there was no memory
-pub client_failed : (aborts : Bool) (c0 c1 s : Option (List Answer)) (x y : Exchange) (outcome : Outcome) → HasHeard (Ended false) c0 c1 → LosesClient x outcome y
+pub client_failed : (aborts : Bool) (c0 c1 s : Option (List SocketAnswer)) (x y : Exchange) (outcome : Outcome) → HasHeard (Ended false) c0 c1 → LosesClient x outcome y
     → IsDriven aborts c0 c1 s s x outcome y
 client_failed aborts c0 c1 s x y outcome (inl is) loses = client_answered aborts c0 c1 s x y outcome (Heard (Ended false)) is loses
 client_failed aborts c0 c1 s x y outcome (inr (same, is)) loses =
     record { moves = ClientLacksMemory ∷ []; make = (y, outcome, loses, inr (refl, refl, refl)); client_is = same ∙ with_none c0; server_is = with_none s }
 
-pub server_failed : (aborts : Bool) (c s0 s1 : Option (List Answer)) (x y : Exchange) (outcome : Outcome) (used : ℕ) → HasHeard (Ended false) s0 s1
-    → Hears (HasHeardEnd false) x used outcome y → IsDriven aborts c c s0 s1 x outcome y
+pub server_failed : (aborts : Bool) (c s0 s1 : Option (List SocketAnswer)) (x y : Exchange) (outcome : Outcome) (used : ℕ) → HasHeard (Ended false) s0 s1
+    → RelayHears (HasHeardEnd false) x used outcome y → IsDriven aborts c c s0 s1 x outcome y
 server_failed aborts c s0 s1 x y outcome used (inl is) hears = server_answered aborts c s0 s1 x y outcome (Heard (Ended false)) is (used, hears)
 server_failed aborts c s0 s1 x y outcome used (inr (same, is)) hears =
     record { moves = ServerLacksMemory ∷ []; make = (y, outcome, (used, hears), inr (refl, refl, refl)); client_is = with_none c; server_is = same ∙ with_none s0 }

@@ -1,7 +1,7 @@
 -- What a socket's answers make of an exchange, at worked examples: what must hold, and what must not.
 use Rattle.std.proofs.Common.{◌≡◌, ◌⊎◌, inl, inr, true, false, [], ◌∷◌, None, Some, refl}
 use Rattle.exchange_driver.specs.Answers.{Heard, Said, HasHeard, with_answers}
-use Rattle.exchange_driver.specs.Moves.{OfClient, OfServer, Makes, MakeAll, of_client, of_server}
+use Rattle.exchange_driver.specs.Moves.{OfClient, OfServer, Makes, MakeAll, told_by_client, told_by_server}
 use Rattle.exchange_driver.specs.declared.socket.ReadResult.TheVariants.{Bytes, Nothing, Ended}
 use Rattle.exchange_driver.specs.declared.socket.WriteResult.TheVariants.{Full}
 use Rattle.exchange_machine.specs.declared.waiting.Waiting as waitings
@@ -35,10 +35,10 @@ no_move_changes_none : (w : waitings.Waiting) → ¬ (MakeAll false (Waiting w) 
 no_move_changes_none w is = over_isnt_waiting w is.0
 
 -- each side's answers, in their order
-own_answers : of_client (OfClient (Heard Nothing) ∷ OfServer (Said Full) ∷ OfClient (Heard (Bytes 3)) ∷ []) ≡ Heard Nothing ∷ Heard (Bytes 3) ∷ []
+own_answers : told_by_client (OfClient (Heard Nothing) ∷ OfServer (Said Full) ∷ OfClient (Heard (Bytes 3)) ∷ []) ≡ Heard Nothing ∷ Heard (Bytes 3) ∷ []
 own_answers = refl
 
-its_answers : of_server (OfClient (Heard Nothing) ∷ OfServer (Said Full) ∷ OfClient (Heard (Bytes 3)) ∷ []) ≡ Said Full ∷ []
+its_answers : told_by_server (OfClient (Heard Nothing) ∷ OfServer (Said Full) ∷ OfClient (Heard (Bytes 3)) ∷ []) ≡ Said Full ∷ []
 its_answers = refl
 
 -- a socket remembers its answers behind those before, or none at all

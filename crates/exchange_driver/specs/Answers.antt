@@ -28,15 +28,15 @@ abbrev pub is_still : Bool → Bool → Bool
 is_still answered told = answered && not told
 
 -- an answer of a socket, to a read or to a write
-pub data Answer : Type 0 where
-  Heard : ReadResult → Answer
-  Said : WriteResult → Answer
+pub data SocketAnswer : Type 0 where
+  Heard : ReadResult → SocketAnswer
+  Said : WriteResult → SocketAnswer
 
 -- the answers of a socket with these behind them; one that remembers none says nothing
-abbrev pub with_answers : List Answer → Option (List Answer) → Option (List Answer)
+abbrev pub with_answers : List SocketAnswer → Option (List SocketAnswer) → Option (List SocketAnswer)
 with_answers answers None = None
 with_answers answers (Some before) = Some (before ++ answers)
 
 -- it gave this answer to a read; or there was no memory to read, which counts as a failure
-abbrev pub HasHeard : ReadResult → Option (List Answer) → Option (List Answer) → Type 0
+abbrev pub HasHeard : ReadResult → Option (List SocketAnswer) → Option (List SocketAnswer) → Type 0
 HasHeard result old new = (new ≡ with_answers (Heard result ∷ []) old) ⊎ ((new ≡ old) × (result ≡ Ended false))

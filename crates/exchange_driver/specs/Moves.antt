@@ -1,9 +1,9 @@
 -- What is told to an exchange while it is driven.
 use Rattle.std.specs.Prelude.{◌≡◌, ◌⊎◌, ℕ, Bool, true, false, List, [], ◌∷◌, ◌++◌, Option}
-use Rattle.exchange_driver.specs.Answers.{Answer, Heard, Said, with_answers}
+use Rattle.exchange_driver.specs.Answers.{SocketAnswer, Heard, Said, with_answers}
 use Rattle.exchange_driver.specs.declared.socket.ReadResult.TheVariants as reads
 use Rattle.exchange_driver.specs.declared.socket.WriteResult.TheVariants as writes
-use Rattle.exchange_events.specs.Answers.{HasHeardEnd, HasServed, Hears, HearsClient, HearsServer, IsCutOff, IsHalfClosed, LosesClient, TellsClient}
+use Rattle.exchange_events.specs.Answers.{HasHeardEnd, HasServed, RelayHears, HearsClient, HearsServer, IsCutOff, IsHalfClosed, LosesClient, TellsClient}
 use Rattle.exchange_events.specs.declared.exchange.Exchange.{Exchange}
 use Rattle.exchange_events.specs.declared.exchange.Outcome.{Outcome}
 use Rattle.exchange_events.specs.declared.exchange.Outcome.TheVariants.{Quiet}
@@ -11,8 +11,8 @@ use Rattle.exchange_events.specs.declared.exchange.Outcome.TheVariants.{Quiet}
 -- a socket answered, of the client or of the server; or bytes that waited were looked at; or there
 -- was no memory to read more
 pub data Move : Type 0 where
-  OfClient : Answer → Move
-  OfServer : Answer → Move
+  OfClient : SocketAnswer → Move
+  OfServer : SocketAnswer → Move
   ClientWaited : Move
   ServerWaited : Move
   ClientLacksMemory : Move
@@ -30,14 +30,14 @@ Makes aborts x (OfClient (Said writes.Full)) outcome y = (y ≡ x) × (outcome �
 Makes aborts x (OfClient (Said writes.Failed)) outcome y = LosesClient x outcome y
 Makes aborts x (OfServer (Heard (reads.Bytes count))) outcome y = (input : List ℕ) × (used : ℕ) × HearsServer input x used outcome y
 Makes aborts x (OfServer (Heard reads.Nothing)) outcome y = (y ≡ x) × (outcome ≡ Quiet)
-Makes aborts x (OfServer (Heard (reads.Ended well))) outcome y = (used : ℕ) × Hears (HasHeardEnd well) x used outcome y
-Makes aborts x (OfServer (Said (writes.Bytes count))) outcome y = (used : ℕ) × Hears (HasServed count) x used outcome y
+Makes aborts x (OfServer (Heard (reads.Ended well))) outcome y = (used : ℕ) × RelayHears (HasHeardEnd well) x used outcome y
+Makes aborts x (OfServer (Said (writes.Bytes count))) outcome y = (used : ℕ) × RelayHears (HasServed count) x used outcome y
 Makes aborts x (OfServer (Said writes.Full)) outcome y = (y ≡ x) × (outcome ≡ Quiet)
-Makes aborts x (OfServer (Said writes.Failed)) outcome y = (used : ℕ) × Hears IsCutOff x used outcome y
+Makes aborts x (OfServer (Said writes.Failed)) outcome y = (used : ℕ) × RelayHears IsCutOff x used outcome y
 Makes aborts x ClientWaited outcome y = (input : List ℕ) × (used : ℕ) × HearsClient input x used outcome y
 Makes aborts x ServerWaited outcome y = (input : List ℕ) × (used : ℕ) × HearsServer input x used outcome y
 Makes aborts x ClientLacksMemory outcome y = LosesClient x outcome y
-Makes aborts x ServerLacksMemory outcome y = (used : ℕ) × Hears (HasHeardEnd false) x used outcome y
+Makes aborts x ServerLacksMemory outcome y = (used : ℕ) × RelayHears (HasHeardEnd false) x used outcome y
 
 -- these moves, one after the other; only the last one gave something away
 abbrev pub MakeAll : Bool → Exchange → List Move → Outcome → Exchange → Type 0
@@ -47,28 +47,28 @@ MakeAll aborts x (move ∷ moves) outcome y =
     × (((given ≡ Quiet) × MakeAll aborts next moves outcome y) ⊎ ((moves ≡ []) × (outcome ≡ given) × (y ≡ next)))
 
 -- the answers of the client's socket among them, and of the server's
-abbrev pub of_client : List Move → List Answer
-of_client [] = []
-of_client (OfClient answer ∷ moves) = answer ∷ of_client moves
-of_client (OfServer answer ∷ moves) = of_client moves
-of_client (ClientWaited ∷ moves) = of_client moves
-of_client (ServerWaited ∷ moves) = of_client moves
-of_client (ClientLacksMemory ∷ moves) = of_client moves
-of_client (ServerLacksMemory ∷ moves) = of_client moves
+abbrev pub told_by_client : List Move → List SocketAnswer
+told_by_client [] = []
+told_by_client (OfClient answer ∷ moves) = answer ∷ told_by_client moves
+told_by_client (OfServer answer ∷ moves) = told_by_client moves
+told_by_client (ClientWaited ∷ moves) = told_by_client moves
+told_by_client (ServerWaited ∷ moves) = told_by_client moves
+told_by_client (ClientLacksMemory ∷ moves) = told_by_client moves
+told_by_client (ServerLacksMemory ∷ moves) = told_by_client moves
 
-abbrev pub of_server : List Move → List Answer
-of_server [] = []
-of_server (OfClient answer ∷ moves) = of_server moves
-of_server (OfServer answer ∷ moves) = answer ∷ of_server moves
-of_server (ClientWaited ∷ moves) = of_server moves
-of_server (ServerWaited ∷ moves) = of_server moves
-of_server (ClientLacksMemory ∷ moves) = of_server moves
-of_server (ServerLacksMemory ∷ moves) = of_server moves
+abbrev pub told_by_server : List Move → List SocketAnswer
+told_by_server [] = []
+told_by_server (OfClient answer ∷ moves) = told_by_server moves
+told_by_server (OfServer answer ∷ moves) = answer ∷ told_by_server moves
+told_by_server (ClientWaited ∷ moves) = told_by_server moves
+told_by_server (ServerWaited ∷ moves) = told_by_server moves
+told_by_server (ClientLacksMemory ∷ moves) = told_by_server moves
+told_by_server (ServerLacksMemory ∷ moves) = told_by_server moves
 
 -- An exchange was told just what its two sockets answered, in the order in which they did, and
 -- gave this away. (The answers of both sockets, before and behind, where they remember them.)
-pub record IsDriven (aborts : Bool) (client client_then server server_then : Option (List Answer)) (x : Exchange) (outcome : Outcome) (next : Exchange) : Type 0 where
+pub record IsDriven (aborts : Bool) (client client_then server server_then : Option (List SocketAnswer)) (x : Exchange) (outcome : Outcome) (next : Exchange) : Type 0 where
   pub moves : List Move
   pub make : MakeAll aborts x moves outcome next
-  pub client_is : client_then ≡ with_answers (of_client moves) client
-  pub server_is : server_then ≡ with_answers (of_server moves) server
+  pub client_is : client_then ≡ with_answers (told_by_client moves) client
+  pub server_is : server_then ≡ with_answers (told_by_server moves) server

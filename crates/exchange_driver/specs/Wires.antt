@@ -1,7 +1,7 @@
 -- One side of an exchange: a socket, and the bytes from it that wait to be taken.
 use Rattle.std.specs.Prelude.{◌≡◌, ◌<◌, ℕ, Bool, true, false, List, [], ◌++◌, length, Option, Some, None}
 use Rattle.std.specs.Io.KnownBytes.{Consumes, Appends}
-use Rattle.exchange_driver.specs.Answers.{Answer, is_still}
+use Rattle.exchange_driver.specs.Answers.{SocketAnswer, is_still}
 
 -- Whether there is a socket; the bytes that it has left to give and those that it took, where they
 -- are known; the bytes that wait, and the most that can; whether nothing was there at the last
@@ -15,7 +15,7 @@ pub record Wire : Type 0 where
   pub room : ℕ
   pub dry : Bool
   pub full : Bool
-  pub answers : Option (List Answer)
+  pub answers : Option (List SocketAnswer)
 
 -- what is known of a socket, where there is one
 abbrev pub known_of : {S A : Type 0} → (S → Option A) → Option S → Option A

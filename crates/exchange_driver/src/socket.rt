@@ -1,6 +1,6 @@
 ghost use Rattle.std.specs.Prelude.{◌≡◌, ◌≤◌, ◌<◌, ◌∷◌, ℕ, List, [], Option, Bool, length, take};
 ghost use Rattle.std.specs.Io.KnownBytes.{Consumes, Appends};
-ghost use Rattle.exchange_driver.specs.Answers.{Answer, Heard, Said, came, went, is_nothing, is_full, is_still, with_answers};
+ghost use Rattle.exchange_driver.specs.Answers.{SocketAnswer, Heard, Said, came, went, is_nothing, is_full, is_still, with_answers};
 
 /// The result of a read.
 #[derive(Clone, Copy, Debug, PartialEq, Eq)]
@@ -39,7 +39,7 @@ pub trait Socket: Drop {
     ghost full: { Self → Bool };
 
     /// The answers that it gave, where it remembers them.
-    ghost answers: { Self → Option (List Answer) };
+    ghost answers: { Self → Option (List SocketAnswer) };
 
     fn read_now(&mut self, buffer: &mut [u8]) -> ReadResult
         requires { 0 < length buffer.old }

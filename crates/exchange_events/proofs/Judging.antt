@@ -6,7 +6,7 @@ use Rattle.exchange_machine.specs.Stages.{HoldsNoHead, IsForwarding}
 use Rattle.exchange_machine.specs.declared.forwarding.Forwarding.{Forwarding}
 use Rattle.exchange_machine.specs.declared.sides.Down.{Down}
 use Rattle.exchange_machine.specs.declared.sides.Down.TheVariants.{Body, Heads}
-use Rattle.exchange_events.specs.Answers.{AwaitsAnswer, AwaitsBody, IsJudged}
+use Rattle.exchange_events.specs.Answers.{AwaitsAnswer, AwaitsBody, IsRelayJudged}
 use Rattle.exchange_events.specs.declared.exchange.Exchange.{Exchange}
 use Rattle.exchange_events.specs.declared.exchange.Outcome.{Outcome}
 
@@ -33,7 +33,7 @@ holds_none p dry other h is =
     is.looked dry at.0 at.1
 
 pub judged_at_head : (p q r : Forwarding) (outcome : Outcome) (next : Exchange) → Uses p q → Uses q r → (p.phase ≡ Body → r.phase ≡ Body)
-    → ((h : ExchangeHistory) → IsForwarding p h → IsForwarding r h) → r.phase ≢ Body → AwaitsAnswer r outcome next → IsJudged p outcome next
+    → ((h : ExchangeHistory) → IsForwarding p h → IsForwarding r h) → r.phase ≢ Body → AwaitsAnswer r outcome next → IsRelayJudged p outcome next
 judged_at_head p q r outcome next one two stays same heads awaits = record {
   now = r;
   uses = uses_both p q r one two;
@@ -44,7 +44,7 @@ judged_at_head p q r outcome next one two stays same heads awaits = record {
 }
 
 pub judged_at_body : (p q r s : Forwarding) (outcome : Outcome) (next : Exchange) → Uses p q → Uses q r → Uses r s
-    → ((h : ExchangeHistory) → IsForwarding p h → IsForwarding s h) → s.phase ≡ Body → AwaitsBody s outcome next → IsJudged p outcome next
+    → ((h : ExchangeHistory) → IsForwarding p h → IsForwarding s h) → s.phase ≡ Body → AwaitsBody s outcome next → IsRelayJudged p outcome next
 judged_at_body p q r s outcome next one two three same body awaits = record {
   now = s;
   uses = uses_both p q s one (uses_both q r s two three);

@@ -119,7 +119,7 @@ pub record AwaitsBody (p : forwardings.Forwarding) (outcome : Outcome) (next : E
       → StopsWith BadGateway p outcome next
 
 -- what came has no head that is handed on: 502
-pub record LacksHead (p : forwardings.Forwarding) (outcome : Outcome) (next : Exchange) : Type 0 where
+pub record LacksAnswerHead (p : forwardings.Forwarding) (outcome : Outcome) (next : Exchange) : Type 0 where
   pub count : ℕ
   pub heads : p.phase ≡ Heads count
   pub none : NoneFollows p.view.method count p.down_held.items
@@ -129,11 +129,11 @@ pub record LacksHead (p : forwardings.Forwarding) (outcome : Outcome) (next : Ex
 -- the client; or what came has none; or there is no memory, or never room, for its text
 abbrev pub AwaitsAnswer : forwardings.Forwarding → Outcome → Exchange → Type 0
 AwaitsAnswer p outcome next = (HoldsNoHead p × AwaitsHead p outcome next)
-    ⊎ ((p.down.out ≢ []) × RelaysOn p outcome next) ⊎ LacksHead p outcome next ⊎ StarvesIn p outcome next
+    ⊎ ((p.down.out ≢ []) × RelaysOn p outcome next) ⊎ LacksAnswerHead p outcome next ⊎ StarvesIn p outcome next
 
 -- An exchange with both sides active uses the bytes that it holds, as far as there is room, which is
 -- no event of its history, and is judged then.
-pub record IsJudged (p : forwardings.Forwarding) (outcome : Outcome) (next : Exchange) : Type 0 where
+pub record IsRelayJudged (p : forwardings.Forwarding) (outcome : Outcome) (next : Exchange) : Type 0 where
   pub now : forwardings.Forwarding
   pub uses : Uses p now
   pub stays : p.phase ≡ Body → now.phase ≡ Body
@@ -142,9 +142,9 @@ pub record IsJudged (p : forwardings.Forwarding) (outcome : Outcome) (next : Exc
   pub body : now.phase ≡ Body → AwaitsBody now outcome next
 
 -- only an exchange with both sides active hears of it: it changes so, and is judged
-abbrev pub Hears : (forwardings.Forwarding → ℕ → forwardings.Forwarding → Type 0) → Exchange → ℕ → Outcome → Exchange → Type 0
-Hears Changes (Forwarding p) used outcome next = (now : forwardings.Forwarding) × Changes p used now × IsJudged now outcome next
-Hears Changes x used outcome next = Stays x used outcome next
+abbrev pub RelayHears : (forwardings.Forwarding → ℕ → forwardings.Forwarding → Type 0) → Exchange → ℕ → Outcome → Exchange → Type 0
+RelayHears Changes (Forwarding p) used outcome next = (now : forwardings.Forwarding) × Changes p used now × IsRelayJudged now outcome next
+RelayHears Changes x used outcome next = Stays x used outcome next
 
 -- bytes came, of which this many were used or are held: by its history, and nothing else
 pub record HasUsed (came : ExchangeHistory → List ℕ → ExchangeHistory) (input : List ℕ) (p : forwardings.Forwarding) (used : ℕ) (now : forwardings.Forwarding) : Type 0 where
@@ -189,11 +189,11 @@ IsReadOn next = (outcome : Outcome) × HasReadOn outcome next
 -- bytes came from the client
 abbrev pub HearsClient : List ℕ → Exchange → ℕ → Outcome → Exchange → Type 0
 HearsClient input (Asking a) used outcome next = HasReadOn outcome next
-HearsClient input x used outcome next = Hears (HasUsed client_came input) x used outcome next
+HearsClient input x used outcome next = RelayHears (HasUsed client_came input) x used outcome next
 
 -- bytes came from the server
 abbrev pub HearsServer : List ℕ → Exchange → ℕ → Outcome → Exchange → Type 0
-HearsServer input x used outcome next = Hears (HasUsed server_came input) x used outcome next
+HearsServer input x used outcome next = RelayHears (HasUsed server_came input) x used outcome next
 
 -- once both sides are done, the client took this number of the bytes that still wait for it
 abbrev pub TellsSettling : ℕ → settlings.Settling → ℕ → Exchange → Type 0
@@ -215,7 +215,7 @@ abbrev pub TellsClient : ℕ → Exchange → ℕ → Outcome → Exchange → T
 TellsClient count (Settling s) used outcome next = (outcome ≡ Quiet) × TellsSettling count s used next
 TellsClient count (Leaving l) used outcome next = (outcome ≡ Quiet) × TellsLeaving count l used next
 TellsClient count (Telling t) used outcome next = (outcome ≡ Quiet) × TellsRefused count t used next
-TellsClient count x used outcome next = Hears (HasTold count) x used outcome next
+TellsClient count x used outcome next = RelayHears (HasTold count) x used outcome next
 
 -- a pass comes: who waits for one takes it, and everyone else returns it
 abbrev pub IsGranted : Exchange → Grant → ℕ → Outcome → Exchange → Type 0
@@ -273,13 +273,13 @@ pub record IsHalfClosed (aborts : Bool) (x : Exchange) (used : ℕ) (outcome : O
 -- there is no memory or no room for its head: 503.
 abbrev pub StartsOn : dialings.Dialing → Terms → ℕ → Outcome → Exchange → Type 0
 StartsOn d terms used outcome next =
-    ((used ≡ 1) × (p : forwardings.Forwarding) × IsBegunOn d terms p × IsJudged p outcome next)
+    ((used ≡ 1) × (p : forwardings.Forwarding) × IsBegunOn d terms p × IsRelayJudged p outcome next)
     ⊎ ((used ≡ 0) × (outcome ≡ StarvedPosts d.pass Done) × IsSentRefusal Unavailable next)
 
 -- one for which a connection is awaited in place of one that broke goes on as it is
 pub record GoesOnOn (p : forwardings.Forwarding) (terms : Terms) (used : ℕ) (outcome : Outcome) (next : Exchange) : Type 0 where
   pub other : p.dialing ≡ false → Stays (Forwarding p) used outcome next
-  pub goes : p.dialing ≡ true → (used ≡ 0) × IsJudged (record p { fresh = terms.fresh; dialing = false }) outcome next
+  pub goes : p.dialing ≡ true → (used ≡ 0) × IsRelayJudged (record p { fresh = terms.fresh; dialing = false }) outcome next
 
 abbrev pub IsConnected : Exchange → Terms → ℕ → Outcome → Exchange → Type 0
 IsConnected (Dialing d) terms used outcome next = StartsOn d terms used outcome next
@@ -291,14 +291,14 @@ abbrev pub Does : Bool → Exchange → Event → ℕ → Outcome → Exchange �
 Does aborts x (Events.ClientBytes input) used outcome next = HearsClient input.now x used outcome next
 Does aborts x (Events.ServerBytes input) used outcome next = HearsServer input.now x used outcome next
 Does aborts x (Events.ClientTook count) used outcome next = TellsClient count x used outcome next
-Does aborts x (Events.ServerTook count) used outcome next = Hears (HasServed count) x used outcome next
+Does aborts x (Events.ServerTook count) used outcome next = RelayHears (HasServed count) x used outcome next
 Does aborts x (Events.Granted pass) used outcome next = IsGranted x pass used outcome next
 Does aborts x Events.Unserved used outcome next = IsUnserved x used outcome next
 Does aborts x (Events.Connected terms) used outcome next = IsConnected x terms used outcome next
 Does aborts x Events.Unreachable used outcome next = IsUnreached x used outcome next
 Does aborts x Events.ClientEnd used outcome next = IsHalfClosed aborts x used outcome next
 Does aborts x Events.ClientFailed used outcome next = LosesClient x outcome next
-Does aborts x Events.ServerEnd used outcome next = Hears (HasHeardEnd true) x used outcome next
-Does aborts x Events.ServerFailed used outcome next = Hears (HasHeardEnd false) x used outcome next
-Does aborts x Events.ServerDeaf used outcome next = Hears IsCutOff x used outcome next
+Does aborts x Events.ServerEnd used outcome next = RelayHears (HasHeardEnd true) x used outcome next
+Does aborts x Events.ServerFailed used outcome next = RelayHears (HasHeardEnd false) x used outcome next
+Does aborts x Events.ServerDeaf used outcome next = RelayHears IsCutOff x used outcome next
 Does aborts x (Events.TimeOver clock) used outcome next = IsOverdue clock x used outcome next

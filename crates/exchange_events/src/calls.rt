@@ -246,7 +246,7 @@ pub(crate) fn client_took(exchange: Exchange, alloc: Global, count: usize) -> St
 pub(crate) fn server_took(exchange: Exchange, alloc: Global, count: usize) -> Step
     ensures at { (h : ExchangeHistory) → steps.IsAtItsStage exchange h
         → steps.IsAtItsStage result.next (steps.ended result.outcome (server_got h (take count (steps.to_server exchange)))) }
-    ensures does { answers.Hears (answers.HasServed count) exchange result.used result.outcome result.next }
+    ensures does { answers.RelayHears (answers.HasServed count) exchange result.used result.outcome result.next }
     ensures fails { steps.FailsInTurn result.outcome result.next }
 {
     match exchange {
@@ -489,7 +489,7 @@ fn is_left(exchange: &Exchange, aborts: bool) -> bool
 pub(crate) fn server_ended(exchange: Exchange, alloc: Global, sign: Sign) -> Step
     requires { told_for sign ≡ Some codes.Code.BadGateway }
     ensures at { (h : ExchangeHistory) → steps.IsAtItsStage exchange h → steps.IsAtItsStage result.next (steps.ended result.outcome (signed h sign)) }
-    ensures does { answers.Hears (answers.HasHeardEnd (answers.is_end_sign sign)) exchange result.used result.outcome result.next }
+    ensures does { answers.RelayHears (answers.HasHeardEnd (answers.is_end_sign sign)) exchange result.used result.outcome result.next }
     ensures fails { steps.FailsInTurn result.outcome result.next }
 {
     match exchange {
@@ -519,7 +519,7 @@ fn is_end(sign: Sign) -> bool
 
 pub(crate) fn server_deaf(exchange: Exchange, alloc: Global) -> Step
     ensures at { (h : ExchangeHistory) → steps.IsAtItsStage exchange h → steps.IsAtItsStage result.next (steps.ended result.outcome (signed h Sign.ServerDeaf)) }
-    ensures does { answers.Hears answers.IsCutOff exchange result.used result.outcome result.next }
+    ensures does { answers.RelayHears answers.IsCutOff exchange result.used result.outcome result.next }
     ensures fails { steps.FailsInTurn result.outcome result.next }
 {
     match exchange {

@@ -27,7 +27,7 @@ pub(crate) struct Turned {
 /// Uses the held bytes as far as it may, and judges the server's side where it is over.
 pub(crate) fn go_on(mut forwarding: Forwarding, alloc: Global) -> Turned
     ensures at { (h : ExchangeHistory) → IsForwarding forwarding h → steps.IsAtItsStage result.next (steps.ended result.outcome h) }
-    ensures judged { answers.IsJudged forwarding result.outcome result.next }
+    ensures judged { answers.IsRelayJudged forwarding result.outcome result.next }
     ensures fails { steps.FailsInTurn result.outcome result.next }
 {
     forwarding.use_held();

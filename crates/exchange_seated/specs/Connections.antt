@@ -13,7 +13,7 @@ use Rattle.exchange_events.specs.Chains.{takes_used}
 use Rattle.exchange_events.specs.Passes.{held_by}
 use Rattle.exchange_events.specs.Steps.{IsAtItsStage}
 use Rattle.exchange_events.specs.declared.exchange.Exchange.{Exchange}
-use Rattle.exchange_driver.specs.Answers.{Answer, Heard, with_answers}
+use Rattle.exchange_driver.specs.Answers.{SocketAnswer, Heard, with_answers}
 use Rattle.exchange_driver.specs.Wires.{Wire}
 use Rattle.exchange_driver.specs.declared.socket.ReadResult.{ReadResult}
 use Rattle.exchange_driver.specs.declared.socket.ReadResult.TheVariants.{Nothing}
@@ -92,5 +92,5 @@ abbrev pub WantsNoUsed : ℕ → Exchange → Wire → Type 0
 WantsNoUsed server x line = WantsNone x line ⊎ (server_of (held_by x) ≢ Some server) ⊎ (takes_used x ≡ false)
 
 -- a read found something: bytes, or an end
-abbrev pub HasSpoken : Option (List Answer) → Option (List Answer) → Type 0
+abbrev pub HasSpoken : Option (List SocketAnswer) → Option (List SocketAnswer) → Type 0
 HasSpoken before behind = (answer : ReadResult) × (answer ≢ Nothing) × (behind ≡ with_answers (Heard answer ∷ []) before)

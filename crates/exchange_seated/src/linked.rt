@@ -1,6 +1,6 @@
 ghost use Rattle.std.specs.Prelude.{◌≡◌, ◌≢◌, ◌<◌, ◌∷◌, ◌⊎◌, ℕ, List, Option, [], true, false, length, Some, IfOk, IfErr, IfSome, IfNone, MatchOption, is_some};
 ghost use Rattle.std.specs.Bool.{OnTrue, OnFalse};
-ghost use Rattle.exchange_driver.specs.Answers.{Answer, Heard, with_answers};
+ghost use Rattle.exchange_driver.specs.Answers.{SocketAnswer, Heard, with_answers};
 ghost use Rattle.exchange_driver.specs.Drives.{Drives, IsDownAtRest, IsUpAtRest};
 ghost use Rattle.exchange_driver.specs.Moves.{IsDriven};
 ghost use Rattle.exchange_driver.specs.Wires.{Wire, is_still_at};
@@ -234,7 +234,7 @@ impl<N: BoardName + Ledger, S: Socket> Linked<N, S> {
         ensures stays { result.given ≢ Given.Retries → result.linked.line.there ≡ self.line.there }
         ensures down { result.rest ≡ Rest.Waits → IsDownAtRest result.linked.seated.exchange client.new result.linked.line }
         ensures up { result.rest ≡ Rest.Waits → IsUpAtRest result.linked.seated.exchange client.new result.linked.line }
-        ensures driven { (outcome : outcomes.Outcome) × (server : Option (List Answer))
+        ensures driven { (outcome : outcomes.Outcome) × (server : Option (List SocketAnswer))
             × IsDriven settings.rules.aborts client.old.answers client.new.answers self.line.answers server self.seated.exchange outcome result.linked.seated.exchange
             × (result.given ≢ Given.Retries → result.linked.line.answers ≡ server)
             × (outcome ≡ outcomes.Outcome.Retries → result.given ≡ Given.Retries)

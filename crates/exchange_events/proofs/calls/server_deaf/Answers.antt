@@ -3,7 +3,7 @@ use Rattle.exchange_machine.specs.Histories.{signed}
 use Rattle.exchange_machine.proofs.EventLemmas.{forwarding_signed}
 use Rattle.exchange_events.proofs.StepLemmas.{at_as}
 use Rattle.exchange_machine.specs.declared.signs.Sign.TheVariants.{ServerDeaf}
-use Rattle.exchange_events.specs.Answers.{Hears, IsCutOff}
+use Rattle.exchange_events.specs.Answers.{RelayHears, IsCutOff}
 use Rattle.exchange_events.specs.declared.exchange.Exchange.{Exchange}
 use Rattle.exchange_events.proofs.calls.server_deaf.Goals as goal
 
@@ -14,5 +14,5 @@ returns-in-Forwarding-clause-at c h is = c.go_on-next.ensures.at (signed h Serve
 pub returns-in-Forwarding-clause-does : goal.returns-in-Forwarding-clause-does
 returns-in-Forwarding-clause-does c =
     let next = c.go_on-next.result in
-    subst (λ (x : Exchange). Hears IsCutOff x 0 next.outcome next.next) (sym c.in-Forwarding.is)
+    subst (λ (x : Exchange). RelayHears IsCutOff x 0 next.outcome next.next) (sym c.in-Forwarding.is)
     (c.cut_off.new.self, (refl, c.cut_off.ensures.cut), c.go_on-next.ensures.judged)

@@ -4,7 +4,7 @@ use Rattle.exchange_machine.specs.declared.signs.Sign.{Sign}
 use Rattle.exchange_machine.specs.Histories.{signed}
 use Rattle.exchange_machine.proofs.EventLemmas.{forwarding_signed, shows_last}
 use Rattle.exchange_events.proofs.StepLemmas.{at_as}
-use Rattle.exchange_events.specs.Answers.{HasHeardEnd, Hears, is_end_sign}
+use Rattle.exchange_events.specs.Answers.{HasHeardEnd, RelayHears, is_end_sign}
 use Rattle.exchange_events.specs.declared.exchange.Exchange.{Exchange}
 use Rattle.exchange_events.proofs.calls.server_ended.Goals as goal
 
@@ -19,5 +19,5 @@ returns-in-Forwarding-clause-does c =
     let forwarding = c.in-Forwarding.forwarding in
     let next = c.go_on-next.result in
     let now = subst (λ (well : Bool). c.server_ended.new.self ≡ record forwarding { ended = true; well = well }) c.is_end.ensures.same c.server_ended.ensures.ended in
-    subst (λ (x : Exchange). Hears (HasHeardEnd (is_end_sign c.args.sign)) x 0 next.outcome next.next) (sym c.in-Forwarding.is)
+    subst (λ (x : Exchange). RelayHears (HasHeardEnd (is_end_sign c.args.sign)) x 0 next.outcome next.next) (sym c.in-Forwarding.is)
     (c.server_ended.new.self, (refl, now), c.go_on-next.ensures.judged)

@@ -3,7 +3,7 @@ use Rattle.exchange_machine.specs.Histories.{server_got}
 use Rattle.exchange_events.specs.Steps.{IsAtItsStage, ended, to_server}
 use Rattle.exchange_events.specs.declared.exchange.Exchange.{Exchange}
 use Rattle.exchange_events.proofs.StepLemmas.{at_as}
-use Rattle.exchange_events.specs.Answers.{HasServed, Hears}
+use Rattle.exchange_events.specs.Answers.{HasServed, RelayHears}
 use Rattle.exchange_events.proofs.calls.server_took.Goals as goal
 
 pub returns-in-Settling-clause-at : goal.returns-in-Settling-clause-at
@@ -34,5 +34,5 @@ pub returns-in-Forwarding-clause-does : goal.returns-in-Forwarding-clause-does
 returns-in-Forwarding-clause-does c =
     let next = c.go_on-next.result in
     let used = subst (λ (l : List ℕ). c.fitting-used.result ≡ min c.args.count (length l)) c.to_server.ensures c.fitting-used.ensures.least in
-    subst (λ (x : Exchange). Hears (HasServed c.args.count) x c.fitting-used.result next.outcome next.next) (sym c.in-Forwarding.is)
+    subst (λ (x : Exchange). RelayHears (HasServed c.args.count) x c.fitting-used.result next.outcome next.next) (sym c.in-Forwarding.is)
     (c.server_took.new.self, (used, c.server_took.ensures.out, c.server_took.ensures.reached), c.go_on-next.ensures.judged)

@@ -76,6 +76,7 @@ impl<S: Socket> Line<S> {
         ensures left { IfSome result (λ socket. S.left socket ≡ self.left) }
         ensures taken { IfSome result (λ socket. S.taken socket ≡ self.taken) }
         ensures answers { IfSome result (λ socket. S.answers socket ≡ self.answers) }
+        ensures told { IfSome result (λ socket. (S.dry socket ≡ self.dry) × (S.full socket ≡ self.full)) }
     {
         let Line { socket, waits: _ } = self;
         socket

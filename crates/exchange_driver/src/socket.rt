@@ -1,5 +1,5 @@
-ghost use Rattle.std.specs.Prelude.{◌≡◌, ◌≤◌, ◌<◌, ◌∷◌, ℕ, List, [], Option, Bool, length, take};
-ghost use Rattle.std.specs.Io.KnownBytes.{Consumes, Appends};
+ghost use Rattle.std.specs.Prelude.{◌≡◌, ◌≤◌, ◌<◌, ◌∷◌, ℕ, List, [], Option, Bool, true, length, take};
+ghost use Rattle.std.specs.Io.KnownBytes.{Consumes, Appends, IsAtEnd};
 ghost use Rattle.exchange_driver.specs.Answers.{SocketAnswer, Heard, Said, came, went, is_nothing, is_full, is_still, with_answers};
 
 /// The result of a read.
@@ -48,6 +48,7 @@ pub trait Socket: Drop {
         ensures some { (count : ℕ) → result ≡ ReadResult.Bytes count → 0 < count }
         ensures left { Consumes (left self.old) (left self.new) (take (came result) buffer.new) }
         ensures dry { dry self.new ≡ is_nothing result }
+        ensures end { result ≡ ReadResult.Ended true → IsAtEnd (left self.new) }
         ensures taken { taken self.new ≡ taken self.old }
         ensures full { full self.new ≡ full self.old }
         ensures answers { answers self.new ≡ with_answers (Heard result ∷ []) (answers self.old) };

@@ -1,5 +1,5 @@
-ghost use Rattle.std.specs.Prelude.{◌≡◌, ◌≤◌, ◌<◌, ℕ, false, length, take};
-ghost use Rattle.std.specs.Io.KnownBytes.{Consumes, Appends};
+ghost use Rattle.std.specs.Prelude.{◌≡◌, ◌≤◌, ◌<◌, ℕ, true, false, length, take};
+ghost use Rattle.std.specs.Io.KnownBytes.{Consumes, Appends, IsAtEnd};
 ghost use Rattle.exchange_driver.specs.Answers.{came, went, is_nothing, is_full};
 
 use crate::meter::Meter;
@@ -197,6 +197,7 @@ fn read_ready<R: Read>(reads: &mut R, buffer: &mut [u8]) -> ReadResult
     ensures length { length buffer.new ≡ length buffer.old }
     ensures some { (count : ℕ) → result ≡ ReadResult.Bytes count → 0 < count }
     ensures left { Consumes (R.remaining reads.old) (R.remaining reads.new) (take (came result) buffer.new) }
+    ensures end { result ≡ ReadResult.Ended true → IsAtEnd (R.remaining reads.new) }
 {
     for _signal in 0..SIGNALS {
         match reads.read(buffer) {

@@ -10,6 +10,7 @@ use Rattle.http_texts.specs.Replies.{refusal_text}
 use Rattle.http_texts.specs.declared.refusals.Code.{Code}
 use Rattle.http_texts.specs.declared.refusals.Code.TheVariants.{BadGateway, BadRequest, Unavailable}
 use Rattle.exchange_machine.specs.Changes.{IsBegunOn, IsLeftOf, Uses, begun_after, left_after}
+use Rattle.exchange_machine.specs.Findings.{HeadStands}
 use Rattle.exchange_machine.specs.Histories.{ExchangeHistory, client_came, server_came}
 use Rattle.exchange_machine.specs.Reasons.{NoneFollows}
 use Rattle.exchange_machine.specs.Repeatables.{IsSentAgain, IsUntouched}
@@ -125,11 +126,19 @@ pub record LacksAnswerHead (p : forwardings.Forwarding) (outcome : Outcome) (nex
   pub none : NoneFollows p.view.method count p.down_held.items
   pub stops : StopsWith BadGateway p outcome next
 
--- before the answer's own head: none is there yet; or a head's text waits for room behind bytes for
--- the client; or what came has none; or there is no memory, or never room, for its text
+-- a head stands in what came, whose text waits for room behind bytes for the client
+pub record WaitsForRoom (p : forwardings.Forwarding) (outcome : Outcome) (next : Exchange) : Type 0 where
+  pub count : ℕ
+  pub heads : p.phase ≡ Heads count
+  pub stands : HeadStands p.view.method count p.down_held.items
+  pub behind : p.down.out ≢ []
+  pub relays : RelaysOn p outcome next
+
+-- before the answer's own head: none is there yet; or one's text waits for room; or what came has
+-- none; or there is no memory, or never room, for its text
 abbrev pub AwaitsAnswer : forwardings.Forwarding → Outcome → Exchange → Type 0
 AwaitsAnswer p outcome next = (HoldsNoHead p × AwaitsHead p outcome next)
-    ⊎ ((p.down.out ≢ []) × RelaysOn p outcome next) ⊎ LacksAnswerHead p outcome next ⊎ StarvesIn p outcome next
+    ⊎ WaitsForRoom p outcome next ⊎ LacksAnswerHead p outcome next ⊎ StarvesIn p outcome next
 
 -- An exchange with both sides active uses the bytes that it holds, as far as there is room, which is
 -- no event of its history, and is judged then.
@@ -186,9 +195,10 @@ HasReadOn outcome x = ⊥
 abbrev pub IsReadOn : Exchange → Type 0
 IsReadOn next = (outcome : Outcome) × HasReadOn outcome next
 
--- bytes came from the client
+-- bytes came from the client, of which none are used once the server takes no more
 abbrev pub HearsClient : List ℕ → Exchange → ℕ → Outcome → Exchange → Type 0
 HearsClient input (Asking a) used outcome next = HasReadOn outcome next
+HearsClient input (Forwarding p) used outcome next = RelayHears (HasUsed client_came input) (Forwarding p) used outcome next × (p.cut ≡ true → used ≡ 0)
 HearsClient input x used outcome next = RelayHears (HasUsed client_came input) x used outcome next
 
 -- bytes came from the server

@@ -89,11 +89,15 @@ writes_server (Leaving l) = false
 writes_server (Telling t) = false
 writes_server Over = false
 
--- no more of an event is taken than there is
+-- no more of an event is taken than there is: bytes, one pass, one connection, or nothing
 abbrev pub TakesNoMore : Event → ℕ → Type 0
 TakesNoMore (Events.ClientBytes input) used = used ≤ length input.now
 TakesNoMore (Events.ServerBytes input) used = used ≤ length input.now
-TakesNoMore event used = Unit {0}
+TakesNoMore (Events.ClientTook count) used = used ≤ count
+TakesNoMore (Events.ServerTook count) used = used ≤ count
+TakesNoMore (Events.Granted pass) used = used ≤ 1
+TakesNoMore (Events.Connected terms) used = used ≤ 1
+TakesNoMore event used = used ≡ 0
 
 -- an exchange ends when its client sends no more: where its request isn't whole, or where the rules say so
 abbrev pub is_left : Bool → Exchange → Bool

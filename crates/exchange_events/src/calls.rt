@@ -100,7 +100,7 @@ fn begun(turn: Turn) -> Turned
             next: Exchange::Waiting(waiting),
             outcome: Outcome::Quiet,
         },
-        Turn::Refused(_, why) => unread(why),
+        Turn::Refused(why) => unread(why),
     }
 }
 
@@ -140,6 +140,7 @@ fn take_request(forwarding: &mut Forwarding, input: &[u8]) -> usize
     ensures within { result ≤ length input.now }
     ensures uses { Uses forwarding.old forwarding.new }
     ensures phase { forwarding.new.phase ≡ forwarding.old.phase }
+    ensures cut { forwarding.old.cut ≡ true → result ≡ 0 }
     ensures passes { (h : ExchangeHistory) → IsForwarding forwarding.old h → IsForwarding forwarding.new (client_came h (take result input.now)) }
 {
     forwarding.use_held();
@@ -208,6 +209,7 @@ pub(crate) fn client_took(exchange: Exchange, alloc: Global, count: usize) -> St
     ensures at { (h : ExchangeHistory) → steps.IsAtItsStage exchange h
         → steps.IsAtItsStage result.next (steps.ended result.outcome (client_got h (take count (steps.to_client exchange)))) }
     ensures does { answers.TellsClient count exchange result.used result.outcome result.next }
+    ensures within { result.used ≤ count }
     ensures fails { steps.FailsInTurn result.outcome result.next }
 {
     match exchange {
@@ -247,6 +249,7 @@ pub(crate) fn server_took(exchange: Exchange, alloc: Global, count: usize) -> St
     ensures at { (h : ExchangeHistory) → steps.IsAtItsStage exchange h
         → steps.IsAtItsStage result.next (steps.ended result.outcome (server_got h (take count (steps.to_server exchange)))) }
     ensures does { answers.RelayHears (answers.HasServed count) exchange result.used result.outcome result.next }
+    ensures within { result.used ≤ count }
     ensures fails { steps.FailsInTurn result.outcome result.next }
 {
     match exchange {
@@ -273,6 +276,7 @@ pub(crate) fn server_took(exchange: Exchange, alloc: Global, count: usize) -> St
 pub(crate) fn granted(exchange: Exchange, pass: Pass) -> Step
     ensures at { (h : ExchangeHistory) → steps.IsAtItsStage exchange h → steps.IsAtItsStage result.next (steps.ended result.outcome (steps.came_pass result.used pass h)) }
     ensures does { answers.IsGranted exchange pass result.used result.outcome result.next }
+    ensures within { result.used ≤ 1 }
     ensures fails { steps.MayReturn result.outcome result.next }
 {
     match exchange {
@@ -289,6 +293,7 @@ pub(crate) fn unserved(exchange: Exchange, sign: Sign) -> Step
     requires { told_for sign ≡ Some codes.Code.Unavailable }
     ensures at { (h : ExchangeHistory) → steps.IsAtItsStage exchange h → steps.IsAtItsStage result.next (steps.ended result.outcome (signed h sign)) }
     ensures does { answers.IsUnserved exchange result.used result.outcome result.next }
+    ensures unused { result.used ≡ 0 }
     ensures fails { steps.FailsInTurn result.outcome result.next }
 {
     match exchange {
@@ -303,6 +308,7 @@ pub(crate) fn connected(exchange: Exchange, alloc: Global, terms: Terms) -> Step
     ensures at { (h : ExchangeHistory) → steps.IsAtItsStage exchange h
         → steps.IsAtItsStage result.next (steps.ended result.outcome (steps.connected_with result.used terms.adds h)) }
     ensures does { answers.IsConnected exchange terms result.used result.outcome result.next }
+    ensures within { result.used ≤ 1 }
     ensures fails { steps.FailsInTurn result.outcome result.next }
 {
     match exchange {
@@ -317,6 +323,7 @@ fn reconnected(mut forwarding: Forwarding, alloc: Global, terms: Terms) -> Step
     ensures at { (h : ExchangeHistory) → IsForwarding forwarding h
         → steps.IsAtItsStage result.next (steps.ended result.outcome (steps.connected_with result.used terms.adds h)) }
     ensures does { answers.GoesOnOn forwarding terms result.used result.outcome result.next }
+    ensures within { result.used ≤ 1 }
     ensures fails { steps.FailsInTurn result.outcome result.next }
 {
     if !forwarding.is_dialing() {
@@ -335,6 +342,7 @@ fn begin(dialing: Dialing, alloc: Global, terms: Terms) -> Step
     ensures at { (h : ExchangeHistory) → IsDialing dialing h
         → steps.IsAtItsStage result.next (steps.ended result.outcome (steps.connected_with result.used terms.adds h)) }
     ensures does { answers.StartsOn dialing terms result.used result.outcome result.next }
+    ensures within { result.used ≤ 1 }
     ensures fails { steps.FailsInTurn result.outcome result.next }
 {
     let Ok(up) = Way::new(alloc) else {
@@ -374,6 +382,7 @@ pub(crate) fn unreachable(exchange: Exchange, sign: Sign) -> Step
     requires { told_for sign ≡ Some codes.Code.Unavailable }
     ensures at { (h : ExchangeHistory) → steps.IsAtItsStage exchange h → steps.IsAtItsStage result.next (steps.ended result.outcome (signed h sign)) }
     ensures does { answers.IsUnreached exchange result.used result.outcome result.next }
+    ensures unused { result.used ≡ 0 }
     ensures fails { steps.FailsInTurn result.outcome result.next }
 {
     match exchange {
@@ -388,6 +397,7 @@ fn unreached_at_first(dialing: Dialing, sign: Sign) -> Step
     requires { told_for sign ≡ Some codes.Code.Unavailable }
     ensures at { (h : ExchangeHistory) → IsDialing dialing h → steps.IsAtItsStage result.next (steps.ended result.outcome (signed h sign)) }
     ensures does { answers.MissesServer dialing result.outcome result.next }
+    ensures unused { result.used ≡ 0 }
     ensures fails { steps.FailsInTurn result.outcome result.next }
 {
     if dialing.has_reached() {
@@ -410,6 +420,7 @@ fn unreached(forwarding: Forwarding, sign: Sign) -> Step
     requires { told_for sign ≡ Some codes.Code.Unavailable }
     ensures at { (h : ExchangeHistory) → IsForwarding forwarding h → steps.IsAtItsStage result.next (steps.ended result.outcome (signed h sign)) }
     ensures does { answers.LosesServer forwarding result.used result.outcome result.next }
+    ensures unused { result.used ≡ 0 }
     ensures fails { steps.FailsInTurn result.outcome result.next }
 {
     if !forwarding.is_dialing() {
@@ -428,6 +439,7 @@ pub(crate) fn gone(exchange: Exchange, sign: Sign) -> Step
     ensures over { result.next ≡ Exchange.Over }
     ensures at { (h : ExchangeHistory) → steps.IsAtItsStage exchange h → steps.IsAtItsStage result.next (steps.ended result.outcome (signed h sign)) }
     ensures does { answers.LosesClient exchange result.outcome result.next }
+    ensures unused { result.used ≡ 0 }
     ensures fails { steps.FailsInTurn result.outcome result.next }
 {
     match exchange {
@@ -461,6 +473,7 @@ pub(crate) fn client_ended(exchange: Exchange, aborts: bool) -> Step
     ensures leaves { steps.is_left aborts exchange ≡ true → result.next ≡ Exchange.Over }
     ensures stays { steps.is_left aborts exchange ≡ false → result.next ≡ exchange }
     ensures does { answers.IsHalfClosed aborts exchange result.used result.outcome result.next }
+    ensures unused { result.used ≡ 0 }
     ensures fails { steps.FailsInTurn result.outcome result.next }
 {
     if is_left(&exchange, aborts) {
@@ -490,6 +503,7 @@ pub(crate) fn server_ended(exchange: Exchange, alloc: Global, sign: Sign) -> Ste
     requires { told_for sign ≡ Some codes.Code.BadGateway }
     ensures at { (h : ExchangeHistory) → steps.IsAtItsStage exchange h → steps.IsAtItsStage result.next (steps.ended result.outcome (signed h sign)) }
     ensures does { answers.RelayHears (answers.HasHeardEnd (answers.is_end_sign sign)) exchange result.used result.outcome result.next }
+    ensures unused { result.used ≡ 0 }
     ensures fails { steps.FailsInTurn result.outcome result.next }
 {
     match exchange {
@@ -520,6 +534,7 @@ fn is_end(sign: Sign) -> bool
 pub(crate) fn server_deaf(exchange: Exchange, alloc: Global) -> Step
     ensures at { (h : ExchangeHistory) → steps.IsAtItsStage exchange h → steps.IsAtItsStage result.next (steps.ended result.outcome (signed h Sign.ServerDeaf)) }
     ensures does { answers.RelayHears answers.IsCutOff exchange result.used result.outcome result.next }
+    ensures unused { result.used ≡ 0 }
     ensures fails { steps.FailsInTurn result.outcome result.next }
 {
     match exchange {
@@ -539,6 +554,7 @@ pub(crate) fn server_deaf(exchange: Exchange, alloc: Global) -> Step
 pub(crate) fn time_over(exchange: Exchange, clock: TimeoutKind) -> Step
     ensures at { (h : ExchangeHistory) → steps.IsAtItsStage exchange h → steps.IsAtItsStage result.next (steps.ended result.outcome (signed h (steps.over clock))) }
     ensures does { answers.IsOverdue clock exchange result.used result.outcome result.next }
+    ensures unused { result.used ≡ 0 }
     ensures fails { steps.FailsInTurn result.outcome result.next }
 {
     match clock {
@@ -552,6 +568,7 @@ pub(crate) fn time_over(exchange: Exchange, clock: TimeoutKind) -> Step
 fn client_over(exchange: Exchange) -> Step
     ensures at { (h : ExchangeHistory) → steps.IsAtItsStage exchange h → steps.IsAtItsStage result.next (steps.ended result.outcome (signed h Sign.ClientOver)) }
     ensures does { answers.IsSilent exchange result.used result.outcome result.next }
+    ensures unused { result.used ≡ 0 }
     ensures fails { steps.FailsInTurn result.outcome result.next }
 {
     match exchange {
@@ -566,6 +583,7 @@ fn client_over(exchange: Exchange) -> Step
 fn asked_late(asking: Asking) -> Step
     ensures at { (h : ExchangeHistory) → IsAsking asking h → steps.IsAtItsStage result.next (steps.ended result.outcome (signed h Sign.ClientOver)) }
     ensures does { answers.IsSilent (Exchange.Asking asking) result.used result.outcome result.next }
+    ensures unused { result.used ≡ 0 }
     ensures fails { steps.FailsInTurn result.outcome result.next }
 {
     if asking.is_silent() {
@@ -578,6 +596,7 @@ fn asked_late(asking: Asking) -> Step
 fn server_over(exchange: Exchange) -> Step
     ensures at { (h : ExchangeHistory) → steps.IsAtItsStage exchange h → steps.IsAtItsStage result.next (steps.ended result.outcome (signed h Sign.ServerOver)) }
     ensures does { answers.IsMute exchange result.used result.outcome result.next }
+    ensures unused { result.used ≡ 0 }
     ensures fails { steps.FailsInTurn result.outcome result.next }
 {
     match exchange {

@@ -136,7 +136,7 @@ fn turned(turn: Turn) -> Exchange
     match turn {
         Turn::More(asking) => Exchange::Asking(asking),
         Turn::Whole(waiting) => Exchange::Waiting(waiting),
-        Turn::Refused(_, why) => unread(why),
+        Turn::Refused(why) => unread(why),
     }
 }
 

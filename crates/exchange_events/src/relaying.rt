@@ -1,6 +1,7 @@
-ghost use Rattle.std.specs.Prelude.{◌≡◌, ◌≢◌, ◌⊎◌, ℕ, Some, true, false, []};
+ghost use Rattle.std.specs.Prelude.{◌≡◌, ◌≢◌, ◌⊎◌, ◌+◌, ◌<◌, ◌≤◌, ℕ, Some, true, false, []};
 ghost use Rattle.http_bodies.specs.Stops.{is_bad};
 ghost use Rattle.exchange_machine.specs.Changes.{Uses};
+ghost use Rattle.exchange_machine.specs.Findings.{HeadStands};
 ghost use Rattle.exchange_machine.specs.declared.forwarding.Forwarding as forwardings;
 ghost use Rattle.exchange_machine.specs.Histories.{ExchangeHistory, posted, signed};
 ghost use Rattle.exchange_machine.specs.Reasons.{LacksAnswer, NoneFollows, told_for};
@@ -45,6 +46,8 @@ fn read_heads(forwarding: &mut Forwarding, alloc: Global, left: u8) -> Headed
     ensures body { result ≡ Headed.Answer → forwarding.new.phase ≡ Down.Body }
     ensures heads { result ≢ Headed.Answer → forwarding.new.phase ≢ Down.Body }
     ensures more { result ≡ Headed.More → forwarding.new.looks ≡ false }
+    ensures full { result ≡ Headed.Full → (count : ℕ) × (forwarding.new.phase ≡ Down.Heads count) × HeadStands forwarding.new.view.method count forwarding.new.down_held.items }
+    ensures few { result ≡ Headed.Interim → (before : ℕ) × (count : ℕ) × (forwarding.old.phase ≡ Down.Heads before) × (forwarding.new.phase ≡ Down.Heads count) × (before + left < count) × (count ≤ 8) }
     ensures none { result ≡ Headed.Refused → (count : ℕ) × (forwarding.new.phase ≡ Down.Heads count) × NoneFollows forwarding.new.view.method count forwarding.new.down_held.items }
     ensures uses { Uses forwarding.old forwarding.new }
     ensures stays { forwarding.old.phase ≡ Down.Body → forwarding.new.phase ≡ Down.Body }

@@ -24,7 +24,7 @@ use Rattle.exchange_machine.specs.Reasons.Reason.{of_sign, bad_answer, broken_an
 use Rattle.exchange_machine.specs.Reasons.NoneFollows.{never, unplanned, ninth}
 use Rattle.exchange_machine.specs.Findings.{NoneStands}
 use Rattle.exchange_machine.specs.Settlings.{IsSettling}
-use Rattle.exchange_machine.specs.Stages.{HistoryIsFresh, IsUnread, IsAsking, IsWaiting, IsDialing, IsForwarding, IsLeaving, IsTelling, IsOver}
+use Rattle.exchange_machine.specs.Stages.{HistoryIsFresh, AwaitsAnswerHead, IsUnread, IsAsking, IsWaiting, IsDialing, IsForwarding, IsLeaving, IsTelling, IsOver}
 use Rattle.exchange_machine.specs.declared.sides.Down.TheVariants.{Heads}
 use Rattle.exchange_machine.specs.declared.signs.Sign.{Sign}
 use Rattle.exchange_machine.specs.declared.signs.Sign.TheVariants.{ClientOver, NoMemory, ServerEnded}
@@ -37,7 +37,7 @@ use Rattle.exchange_machine.specs.declared.settling.Settling.{Settling}
 use Rattle.exchange_machine.specs.declared.telling.Telling.{Telling}
 use Rattle.exchange_machine.specs.Wholes.{Whole, Ends, EndsClean, told}
 use Rattle.exchange_machine.proofs.SideLemmas.{forwarding_ends, down_as}
-use Rattle.exchange_machine.proofs.HeadEnds.{has_feed, no_head_yet, no_head_at_all}
+use Rattle.exchange_machine.proofs.HeadEnds.{has_feed, no_head_yet, no_head_at_all, may_still, may_at_all}
 use Rattle.exchange_machine.proofs.SettlingLemmas.{clean_took, got_client, got_server, got_tried}
 
 -- one sign more
@@ -106,7 +106,7 @@ fresh_signed h s is = record {
 }
 
 pub asking_signed : (a : Asking) (h : ExchangeHistory) (s : Sign) → IsAsking a h → IsAsking a (signed h s)
-asking_signed a h s is = record { fresh = fresh_signed h s is.fresh; held = is.held; none = is.none }
+asking_signed a h s is = record { fresh = fresh_signed h s is.fresh; held = is.held; none = is.none; may = is.may }
 
 pub waiting_signed : (w : Waiting) (h : ExchangeHistory) (s : Sign) → IsWaiting w h → IsWaiting w (signed h s)
 waiting_signed w h s is = record {
@@ -239,6 +239,7 @@ asking_dry a b h bytes is held dry = record {
   fresh = fresh_came h bytes is.fresh;
   held = ap (λ l. l ++ bytes) is.held ∙ sym held;
   none = no_head_yet h.client_in bytes is.none dry;
+  may = may_still h.client_in bytes is.may dry;
 }
 
 -- and what then is held
@@ -251,6 +252,7 @@ asking_new a none = record {
   fresh = record { unsent = record { server = refl; answer = refl }; silent = refl; grants = refl; posts = refl; untried = refl };
   held = sym none;
   none = no_head_at_all;
+  may = may_at_all;
 }
 
 -- some of what was to be told went out
@@ -445,7 +447,7 @@ forwarding_ended p q h is ends ends_well same = subst (λ (r : Forwarding). IsFo
   looked = is.looked;
 })
 
-pub forwarding_marked : (p q : Forwarding) (h : ExchangeHistory) → IsForwarding p h → (q.looks ≡ false → (count : ℕ) → p.phase ≡ Heads count → HasNoAnswer p.down_held.items)
+pub forwarding_marked : (p q : Forwarding) (h : ExchangeHistory) → IsForwarding p h → (q.looks ≡ false → (count : ℕ) → p.phase ≡ Heads count → AwaitsAnswerHead p.down_held.items)
     → q ≡ record p { cut = q.cut; fresh = q.fresh; looks = q.looks; dialing = q.dialing } → IsForwarding q h
 forwarding_marked p q h is looked same = subst (λ (r : Forwarding). IsForwarding r h) (sym same) (record {
   behind = is.behind;

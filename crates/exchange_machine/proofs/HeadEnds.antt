@@ -8,6 +8,7 @@ use Rattle.httparse.specs.Grammar.LineEnd.{crlf, lf}
 use Rattle.httparse.specs.Ascii.{space}
 use Rattle.base_lists.proofs.Fronts.{two_fronts}
 use Rattle.req_view.specs.AnswerHeads.{HasNoAnswer}
+use Rattle.exchange_machine.specs.Requests.{MayCome}
 use Rattle.req_view.specs.Heads.{HasHead, HasNoHead}
 
 abbrev pub has_feed : List ℕ → Bool
@@ -95,3 +96,21 @@ pub no_head_at_all : HasNoHead []
 no_head_at_all h rest is =
     let feed = request_feed h in
     none_left feed.front rest (is.0.reads.1 ∙ ap (λ l. l ++ rest) feed.is)
+
+-- a head may still come, where no line has ended since
+pub may_still : {Awaits : List ℕ → Type 0} (input bytes : List ℕ) → MayCome Awaits input → has_feed bytes ≡ false → MayCome Awaits (input ++ bytes)
+may_still input bytes may dry = record {
+  front = may.front;
+  since = may.since ++ bytes;
+  input_is = ap (λ l. l ++ bytes) may.input_is ∙ append_assoc may.front may.since bytes;
+  waits = may.waits;
+  unended = list_any-append (λ byte. byte == 10) may.since bytes ∙ ap (λ b. b || has_feed bytes) may.unended ∙ dry;
+}
+
+-- what is waited on at a look
+pub may_come : {Awaits : List ℕ → Type 0} (input : List ℕ) → Awaits input → MayCome Awaits input
+may_come input waits = record { front = input; since = []; input_is = sym (append-nil input); waits = inr waits; unended = refl }
+
+-- where nothing came, too
+pub may_at_all : {Awaits : List ℕ → Type 0} → MayCome Awaits []
+may_at_all = record { front = []; since = []; input_is = refl; waits = inl refl; unended = refl }

@@ -2,7 +2,7 @@
 use Rattle.std.proofs.Common.{cond, ◌&&◌, ◌||◌, not, nat_lt, ◌≡◌, ◌≢◌, ◌∙◌, ℕ, ◌+◌, ◌-◌, ◌<◌, ◌≤◌, Bool, true, false, true≢false, Some, IsSome, List, [], ◌∷◌, ◌++◌, length, take, drop, refl, sym, ap, arith, append_assoc, append-nil, length-append, length-drop, subst, inr}
 use Rattle.std.proofs.lemmas.Bool.Decides.{nat_tests}
 use Rattle.httparse.specs.Grammar.{ResponseHead, print_response}
-use Rattle.exchange_machine.proofs.HeadEnds.{has_feed, no_answer_at_all, no_answer_yet}
+use Rattle.exchange_machine.proofs.HeadEnds.{has_feed, no_answer_at_all, no_answer_yet, may_still, may_at_all}
 use Rattle.exchange_machine.specs.Changes.{begun_after, looks_again}
 use Rattle.http_texts.specs.declared.refusals.Code.{Code}
 use Rattle.base_lists.specs.Fronts.{IsFront}
@@ -55,7 +55,7 @@ use Rattle.exchange_machine.specs.Headline.ClientText.{silent, refused_unread, l
 use Rattle.exchange_machine.specs.Headline.ArePosted.{all_posted, one_held}
 use Rattle.exchange_machine.specs.Histories.{Post, ExchangeHistory, client_came, server_came, client_got, connected_on, posted, passes_of, reached_by}
 use Rattle.exchange_machine.specs.Requests.{IsAskedBy, BreaksBody, IsNoRequest, LacksHead}
-use Rattle.exchange_machine.specs.Stages.{HistoryIsFresh, IsAsking, IsWaiting, IsDialing, IsForwarding, IsLeaving, HasLeave}
+use Rattle.exchange_machine.specs.Stages.{HistoryIsFresh, IsAsking, IsWaiting, IsDialing, IsForwarding, IsLeaving, HasLeave, AwaitsAnswerHead}
 use Rattle.exchange_machine.specs.declared.leaving.Leaving.{Leaving}
 use Rattle.grant_board.specs.Views.{Grant}
 use Rattle.base_verdict.specs.declared.Ending.{Ending}
@@ -419,7 +419,7 @@ dialing_passes d p h is view pass reach framing coding out held phase empty leav
         leave_is = ap leave_text view ∙ sym leave ∙ ap (λ l. l ++ p.down.out) (sym is.silent);
         out_is = sym (append-nil p.down.out);
       };
-      looked = λ dry count at. subst HasNoAnswer (sym empty) no_answer_at_all;
+      looked = λ dry count at. subst AwaitsAnswerHead (sym empty) (record { none = no_answer_at_all; may = may_at_all });
     }
 
 pub forwarding_server : (p : Forwarding) (h : ExchangeHistory) → IsForwarding p h → ToServer h
@@ -1033,7 +1033,11 @@ forwarding_held p q h bytes is held all looks same =
       leave = is.leave;
       looked = λ dry count at.
           let before = not_looked p.looks (has_feed bytes) (not (nat_lt all 16384)) (sym looks ∙ dry) in
-          subst HasNoAnswer (sym held) (no_answer_yet p.down_held.items bytes (is.looked before.0 count at) before.1);
+          let awaits = is.looked before.0 count at in
+          subst AwaitsAnswerHead (sym held) (record {
+            none = no_answer_yet p.down_held.items bytes awaits.none before.1;
+            may = may_still p.down_held.items bytes awaits.may before.1;
+          });
     })
 
 as_before : (looks : Bool) → looks ≡ looks_again looks [] 0

@@ -1,8 +1,9 @@
 -- What stands at the front of a server's bytes.
-use Rattle.std.specs.Prelude.{ℕ, List}
+use Rattle.std.specs.Prelude.{◌⊎◌, ℕ, List}
 use Rattle.http_texts.specs.Messages.{HasRole}
 use Rattle.http_texts.specs.declared.fault.Fault.{Fault}
 use Rattle.http_texts.specs.declared.fault.Fault.TheVariants as Faulty
+use Rattle.http_texts.specs.declared.plans.Plan.{Plan}
 use Rattle.http_texts.specs.declared.roles.Role.TheVariants as Roles
 use Rattle.req_view.specs.Answer.{Answer}
 use Rattle.req_view.specs.AnswerHeads.{NeverHasAnswer, SaysAnswer, WaitsForAnswer}
@@ -32,3 +33,10 @@ IsSeen method count held More = WaitsForAnswer held
 IsSeen method count held (Interim a len) = SaysAnswer held a len × HasRole method a count Roles.Interim
 IsSeen method count held (Final a len plan) = SaysAnswer held a len × HasRole method a count (Roles.Final plan)
 IsSeen method count held (Refused why) = NoneStands method count held why
+
+-- a whole head that is handed on stands there
+pub record HeadStands (method : List ℕ) (count : ℕ) (held : List ℕ) : Type 0 where
+  pub answer : Answer
+  pub len : ℕ
+  pub says : SaysAnswer held answer len
+  pub role : HasRole method answer count Roles.Interim ⊎ ((plan : Plan) × HasRole method answer count (Roles.Final plan))

@@ -1,5 +1,6 @@
 -- The client's bytes: a request, or something that the proxy refuses.
-use Rattle.std.specs.Prelude.{◌≡◌, ◌⊎◌, ℕ, List, ◌++◌, Some}
+use Rattle.std.specs.Prelude.{◌≡◌, ◌==◌, ◌⊎◌, ℕ, false, List, [], ◌++◌, Some}
+use Rattle.std.specs.List.{list_any}
 use Rattle.httparse.specs.Grammar.{RequestHead, print_request}
 use Rattle.http_bodies.specs.Framings.{LacksBody}
 use Rattle.http_bodies.specs.declared.framing.Framing as Framed
@@ -9,6 +10,15 @@ use Rattle.http_texts.specs.declared.fault.Fault.{Fault}
 use Rattle.http_texts.specs.declared.fault.Fault.TheVariants.{NoMemory, Head, Framing, Read, Write, Turns, Closed}
 use Rattle.req_view.specs.Heads.{NeverHasHead}
 use Rattle.req_view.specs.Request.{Request, request_of}
+
+-- A head may still come: these bytes were waited on at the last look, and no line has ended since.
+-- Awaits says which bytes are waited on, a request's or an answer's.
+pub record MayCome (Awaits : List ℕ → Type 0) (input : List ℕ) : Type 0 where
+  pub front : List ℕ
+  pub since : List ℕ
+  pub input_is : input ≡ front ++ since
+  pub waits : (front ≡ []) ⊎ Awaits front
+  pub unended : list_any (λ byte. byte == 10) since ≡ false
 
 -- the request that the client sent, and the bytes after its head
 pub record IsAskedBy (input : List ℕ) (r : Request) (behind : List ℕ) : Type 0 where

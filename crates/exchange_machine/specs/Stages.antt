@@ -7,8 +7,8 @@ use Rattle.http_texts.specs.Replies.{leave_text}
 use Rattle.http_texts.specs.Texts.{framed_for}
 use Rattle.http_texts.specs.declared.fault.Fault.{Fault}
 use Rattle.http_texts.specs.declared.persistence.Persistence.TheVariants.{Close}
-use Rattle.req_view.specs.AnswerHeads.{HasNoAnswer}
-use Rattle.req_view.specs.Heads.{HasNoHead}
+use Rattle.req_view.specs.AnswerHeads.{HasNoAnswer, WaitsForAnswer}
+use Rattle.req_view.specs.Heads.{HasNoHead, Waits}
 use Rattle.http_bodies.specs.Readings.{read, start_of}
 use Rattle.http_bodies.specs.Stops.{is_bad}
 use Rattle.exchange_machine.specs.Answerings.{TellsAnswer}
@@ -16,7 +16,7 @@ use Rattle.exchange_machine.specs.Headline.{AreTries, IsFair, ClientText, ToClie
 use Rattle.exchange_machine.specs.Histories.{ExchangeHistory, passes_of, reached_by}
 use Rattle.exchange_machine.specs.Reasons.{HasEnded, Shows}
 use Rattle.exchange_machine.specs.Repeats.{IsTry}
-use Rattle.exchange_machine.specs.Requests.{IsAskedBy, IsNoRequest, LacksHead}
+use Rattle.exchange_machine.specs.Requests.{IsAskedBy, IsNoRequest, LacksHead, MayCome}
 use Rattle.exchange_machine.specs.Sides.{IsUp, IsDown}
 use Rattle.exchange_machine.specs.Wholes.{EndsClean}
 use Rattle.exchange_machine.specs.declared.waiting.Asked.{Asked}
@@ -49,6 +49,7 @@ pub record IsAsking (a : Asking) (h : ExchangeHistory) : Type 0 where
   pub fresh : HistoryIsFresh h
   pub held : h.client_in ≡ a.held.items
   pub none : HasNoHead h.client_in
+  pub may : MayCome Waits h.client_in
 
 -- the head was read, with these bytes after it
 pub record IsAsked (a : Asked) (h : ExchangeHistory) : Type 0 where
@@ -81,6 +82,11 @@ pub record HasLeave (count : ℕ) (leave went out : List ℕ) : Type 0 where
   pub leave_is : leave ≡ went ++ left
   pub out_is : out ≡ left ++ behind
 
+-- no whole head of an answer stands in these bytes, and one may still come
+pub record AwaitsAnswerHead (bytes : List ℕ) : Type 0 where
+  pub none : HasNoAnswer bytes
+  pub may : MayCome WaitsForAnswer bytes
+
 -- both sides are active
 pub record IsForwarding (p : Forwarding) (h : ExchangeHistory) : Type 0 where
   pub behind : List ℕ
@@ -101,11 +107,11 @@ pub record IsForwarding (p : Forwarding) (h : ExchangeHistory) : Type 0 where
   pub agreed : p.says ≢ Close → (p.willing ≡ true) × (wished p.view ≡ p.says)
   pub adds : p.adds ≡ h.adds
   pub leave : p.begun ≡ false → HasLeave p.leave_left (leave_text p.view) h.to_client p.down.out
-  pub looked : p.looks ≡ false → (count : ℕ) → p.phase ≡ Heads count → HasNoAnswer p.down_held.items
+  pub looked : p.looks ≡ false → (count : ℕ) → p.phase ≡ Heads count → AwaitsAnswerHead p.down_held.items
 
--- no whole head of an answer stands in what it holds, after any history
+-- no whole head of an answer stands in what it holds, and one may still come, after any history
 abbrev pub HoldsNoHead : Forwarding → Type 0
-HoldsNoHead p = (h : ExchangeHistory) → IsForwarding p h → HasNoAnswer p.down_held.items
+HoldsNoHead p = (h : ExchangeHistory) → IsForwarding p h → AwaitsAnswerHead p.down_held.items
 
 -- the pass was posted, and the last bytes for the client wait
 pub record IsLeaving (l : Leaving) (h : ExchangeHistory) : Type 0 where
@@ -128,25 +134,25 @@ pub record IsUnread (why : Fault) (h : ExchangeHistory) : Type 0 where
 abbrev pub IsTurn : Turn → ExchangeHistory → Type 0
 IsTurn (Turns.More a) h = IsAsking a h
 IsTurn (Turns.Whole w) h = IsWaiting w h
-IsTurn (Turns.Refused held why) h = IsUnread why h
+IsTurn (Turns.Refused why) h = IsUnread why h
 
 abbrev pub IsMore : Turn → Type 0
 IsMore (Turns.More a) = Unit {0}
 IsMore (Turns.Whole w) = ⊥
-IsMore (Turns.Refused held why) = ⊥
+IsMore (Turns.Refused why) = ⊥
 
 -- the bytes after an accepted head are a front of a body, or a body and more
 abbrev pub IsChecked : Turn → Type 0
 IsChecked (Turns.More a) = Unit {0}
 IsChecked (Turns.Whole w) = is_bad (read (start_of w.asked.framing true) w.asked.held.items).coding ≡ false
-IsChecked (Turns.Refused held why) = Unit {0}
+IsChecked (Turns.Refused why) = Unit {0}
 
 -- the result of looking for a head alone in these bytes: all are held and more may come, or they
 -- lack a head for this reason
 abbrev pub HeadSays : Turn → List ℕ → Type 0
 HeadSays (Turns.More a) bytes = (a.held.items ≡ bytes) × (length bytes < 16384)
 HeadSays (Turns.Whole w) bytes = Unit {0}
-HeadSays (Turns.Refused held why) bytes = LacksHead why bytes
+HeadSays (Turns.Refused why) bytes = LacksHead why bytes
 
 -- a refusal is sent, without an outbox
 pub record IsTelling (t : Telling) (h : ExchangeHistory) : Type 0 where

@@ -1,6 +1,7 @@
 ghost use Rattle.std.specs.Prelude.{◌≡◌, ◌≤◌, ◌++◌, List, [], length, take, drop, false};
 ghost use Rattle.exchange_machine.specs.Histories.{ExchangeHistory, client_came, nothing_yet};
 ghost use Rattle.exchange_machine.specs.Reasons.{Shows};
+ghost use Rattle.exchange_machine.specs.Requests.{MayCome};
 ghost use Rattle.exchange_machine.specs.Stages as stages;
 ghost use Rattle.exchange_machine.specs.Wants.{is_none};
 ghost use Rattle.http_texts.specs.Heads.{LacksRequest};
@@ -28,7 +29,7 @@ pub enum Turn {
     Whole(Waiting),
     /// The bytes can't become a head, their framing is unsound, or the bytes after the head are no
     /// body: 400. Or memory is short.
-    Refused(Vec<u8>, Fault),
+    Refused(Fault),
 }
 
 impl Asking {
@@ -78,7 +79,7 @@ impl Asking {
         let came = &input[..used];
         match held.extend_from_slice(came) {
             Ok(()) => (used, look_further(alloc, held, has_feed(came))),
-            Err(_) => (0, Turn::Refused(held, Fault::NoMemory)),
+            Err(_) => (0, Turn::Refused(Fault::NoMemory)),
         }
     }
 
@@ -111,7 +112,8 @@ impl Asking {
 
 // Looks for a head where a line has ended since the last look; else there can be none.
 fn look_further(alloc: Global, held: Vec<u8>, feed: bool) -> Turn
-    ensures turn { (h : ExchangeHistory) → stages.HistoryIsFresh h → h.client_in ≡ held.items → (feed ≡ false → HasNoHead h.client_in) → stages.IsTurn result h }
+    ensures turn { (h : ExchangeHistory) → stages.HistoryIsFresh h → h.client_in ≡ held.items → (feed ≡ false → HasNoHead h.client_in × MayCome Waits h.client_in)
+        → stages.IsTurn result h }
     ensures says { stages.HeadSays result held.items }
 {
     if !feed && held.len() < HEAD_BYTES {
@@ -127,9 +129,9 @@ fn find_head(alloc: Global, held: Vec<u8>) -> Turn
 {
     match view(alloc, held.as_slice()) {
         Viewed::More => Turn::More(Asking { held }),
-        Viewed::Refused(why) => Turn::Refused(held, fault_of(why)),
+        Viewed::Refused(why) => Turn::Refused(fault_of(why)),
         Viewed::Whole(view, len) => match request_framing(&view) {
-            None => Turn::Refused(held, Fault::Framing),
+            None => Turn::Refused(Fault::Framing),
             Some(framing) => Turn::Whole(waiting_with(view, framing, held, len)),
         },
     }
@@ -162,7 +164,7 @@ fn look_behind(waiting: Waiting) -> Turn
 {
     let coding = Coding::new(waiting.asked.framing, true);
     if coding.breaks(waiting.asked.held.as_slice()) {
-        Turn::Refused(waiting.asked.held, Fault::Framing)
+        Turn::Refused(Fault::Framing)
     } else {
         Turn::Whole(waiting)
     }

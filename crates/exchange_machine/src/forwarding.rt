@@ -67,6 +67,7 @@ impl Forwarding {
         ensures only { self.new ≡ record self.old { up = self.new.up } }
         ensures uses { Uses self.old self.new }
         ensures within { result ≤ length input.now }
+        ensures cut { self.old.cut ≡ true → result ≡ 0 }
         ensures passes { (h : ExchangeHistory) → stages.IsForwarding self.old h → self.old.up_held.items ≡ []
             → stages.IsForwarding self.new (client_came h (take result input.now)) }
     {

@@ -4,10 +4,10 @@ ghost use Rattle.std.specs.Prelude.{◌≡◌, ◌≢◌, ◌<◌, ◌+◌, ◌�
 ghost use Rattle.exchange_machine.specs.Changes.{HasHeaded, Uses};
 ghost use Rattle.exchange_machine.specs.Histories.{ExchangeHistory};
 ghost use Rattle.exchange_machine.specs.Reasons.{LacksAnswer, NoneFollows};
-ghost use Rattle.exchange_machine.specs.Findings.{IsSeen};
+ghost use Rattle.exchange_machine.specs.Findings.{IsSeen, HeadStands};
 ghost use Rattle.exchange_machine.specs.Stages as stages;
 ghost use Rattle.http_texts.specs.Framings.{answer_plan, is_interim};
-ghost use Rattle.req_view.specs.AnswerHeads.{SaysAnswer};
+ghost use Rattle.req_view.specs.AnswerHeads.{SaysAnswer, WaitsForAnswer};
 
 use crate::forwarding::Forwarding;
 use crate::held::forget;
@@ -73,9 +73,11 @@ impl Forwarding {
         ensures body { result ≡ Headed.Answer → self.new.phase ≡ Down.Body }
         ensures heads { result ≢ Headed.Answer → self.new.phase ≢ Down.Body }
         ensures more { result ≡ Headed.More → self.new.looks ≡ false }
+        ensures awaits { result ≡ Headed.More → self.old.looks ≡ true → WaitsForAnswer self.old.down_held.items }
         ensures looks { result ≢ Headed.More → self.new.looks ≡ self.old.looks }
-        ensures interim { result ≡ Headed.Interim → (count : ℕ) × (self.old.phase ≡ Down.Heads count) × (self.new.phase ≡ Down.Heads (count + 1)) }
+        ensures interim { result ≡ Headed.Interim → (count : ℕ) × (self.old.phase ≡ Down.Heads count) × (self.new.phase ≡ Down.Heads (count + 1)) × (count < 8) }
         ensures headed { result ≡ Headed.Answer → (self.new ≡ self.old) ⊎ HasHeaded self.old self.new }
+        ensures full { result ≡ Headed.Full → (count : ℕ) × (self.new.phase ≡ Down.Heads count) × HeadStands self.new.view.method count self.new.down_held.items }
         ensures none { result ≡ Headed.Refused → (count : ℕ) × (self.new.phase ≡ Down.Heads count) × NoneFollows self.new.view.method count self.new.down_held.items }
         ensures refused { result ≡ Headed.Refused → (h : ExchangeHistory) → stages.IsForwarding self.old h → LacksAnswer self.new.view.method h.server_in }
     {
@@ -116,6 +118,7 @@ impl Forwarding {
         ensures passes { (h : ExchangeHistory) → stages.IsForwarding self.old h → stages.IsForwarding self.new h }
         ensures uses { Uses self.old self.new }
         ensures looks { self.new.looks ≡ self.old.looks }
+        ensures full { result ≡ Headed.Full → self.new ≡ self.old }
     {
         let framed = is_framed(self.view.version());
         let Ok(text) = interim_head(alloc, head, framed) else {
@@ -141,6 +144,7 @@ impl Forwarding {
         ensures passes { (h : ExchangeHistory) → stages.IsForwarding self.old h → stages.IsForwarding self.new h }
         ensures uses { Uses self.old self.new }
         ensures looks { self.new.looks ≡ self.old.looks }
+        ensures full { result ≡ Headed.Full → self.new ≡ self.old }
     {
         let framed = is_framed(self.view.version());
         let says = answer_says(self.willing, &self.view, plan);
@@ -162,7 +166,7 @@ impl Forwarding {
 
 fn headed_for(why: Fault) -> Headed
     ensures memory { result ≡ Headed.Refused → why ≢ Fault.NoMemory }
-    ensures unanswered { (result ≢ Headed.Answer) × (result ≢ Headed.More) × (result ≢ Headed.Interim) }
+    ensures unanswered { (result ≢ Headed.Answer) × (result ≢ Headed.More) × (result ≢ Headed.Interim) × (result ≢ Headed.Full) }
 {
     if why == Fault::NoMemory {
         Headed::Short

@@ -163,7 +163,7 @@ impl<N: BoardName + Ledger, S: Socket> Linked<N, S> {
             → IsOn opened before self.new.seated.exchange self.new.line) }
         ensures refused { IfErr result (λ _. self.new ≡ self.old) }
         ensures cause { IfErr result (λ back. (WantsNoUsed unused.server self.old.seated.exchange self.old.line × (back ≡ unused))
-            ⊎ (HasSpoken (S.answers unused.socket) (S.answers back.socket) × (S.taken back.socket ≡ S.taken unused.socket))) }
+            ⊎ (HasSpoken (S.answers unused.socket) (S.answers back.socket) × (S.taken back.socket ≡ S.taken unused.socket) × (back.server ≡ unused.server))) }
     {
         let Some(server) = self.wanted() else {
             return Err(unused);

@@ -1,10 +1,10 @@
 -- Texts that go to a sink one after the other.
-use Rattle.std.proofs.Common.{◌≡◌, ◌∙◌, ℕ, List, [], ◌++◌, refl, sym, ap, arith, append_assoc, append-nil, subst}
+use Rattle.std.proofs.Common.{◌≡◌, ◌∙◌, ◌<◌, ℕ, List, [], ◌++◌, refl, sym, ap, arith, append_assoc, append-nil, length, length-append, subst}
 use Rattle.base_streams.specs.Streams.{Stream}
 use Rattle.http_bodies.specs.declared.fault.Fault.{Fault}
 use Rattle.http_bodies.specs.declared.fault.Fault.TheVariants.{Framing, Read, Write, Turns}
 use Rattle.http_bodies.proofs.Writing.{Wrote-nil, Wrote-trans}
-use Rattle.http_bodies.specs.Texts.{Spends, Emits, StopsBy, Stops}
+use Rattle.http_bodies.specs.Texts.{Wrote, Spends, Emits, StopsBy, Stops}
 
 pub Spends-none : (s : Stream) (turns : ℕ) → Spends s s turns turns
 Spends-none s turns = record { same = refl; calls = omega arith; spent = refl }
@@ -59,6 +59,7 @@ emits_stops {a} {b} {c} {v = v} {p = p} {q = q} {first = first} {fault = fault} 
         ∙ ap (λ l. x.front ++ l) y.front.all
         ∙ sym (append_assoc x.front y.front.front y.front.rest);
   };
+  left = y.left;
   spends = Spends-trans x.spends y.spends;
   cause = stops_by fault a b c v x.fine y.cause;
 }
@@ -72,9 +73,21 @@ stops_more more x = record {
     wrote = x.front.wrote;
     all = ap (λ l. l ++ more) x.front.all ∙ append_assoc x.front.front x.front.rest more;
   };
+  left = omega (arith, x.left, length-append x.front.rest more);
   spends = x.spends;
   cause = x.cause;
 }
 
 pub stops_as : {a b : Stream} {t u : ℕ} {text same : List ℕ} {fault : Fault} → text ≡ same → Stops a b t u text fault → Stops a b t u same fault
 stops_as {a} {b} {t} {u} {fault = fault} e x = subst (λ (l : List ℕ). Stops a b t u l fault) e x
+
+-- none of the text was written
+pub stops_whole : {w0 w : Stream} {turns0 turns : ℕ} {text : List ℕ} {fault : Fault} → Wrote w0 w [] → Spends w0 w turns0 turns → StopsBy w0 w turns fault
+    → 0 < length text
+    → Stops w0 w turns0 turns text fault
+stops_whole {text = text} wrote spends cause some = record {
+  front = record { front = []; rest = text; wrote = wrote; all = refl };
+  left = some;
+  spends = spends;
+  cause = cause;
+}

@@ -6,7 +6,7 @@ use Rattle.std.proofs.KnownBytes.{Consumes-nil}
 use Rattle.std.proofs.lemmas.Bool.{false≢true}
 use Rattle.std.proofs.lemmas.List.{take-append-drop}
 use Rattle.base_streams.specs.Streams.{Stream}
-use Rattle.http_bodies.specs.Framings.{IsBody, PartOfBody, LacksBody}
+use Rattle.http_bodies.specs.Framings.{IsBody, PartOfBody, LacksBody, IsUnfinished}
 use Rattle.http_bodies.specs.declared.fault.Fault.{Fault}
 use Rattle.http_bodies.specs.declared.fault.Fault.TheVariants as Faulty
 use Rattle.http_bodies.specs.declared.framing.Framing.{Framing}
@@ -18,7 +18,7 @@ use Rattle.http_bodies.specs.declared.coding.Coding.{Coding}
 use Rattle.http_bodies.specs.declared.coding.Coding.TheVariants.{ToEnd}
 use Rattle.http_bodies.proofs.Derivatives.{feeds_nil, feeds_trans}
 use Rattle.http_bodies.proofs.Running.{read_nothing, run_text, run_done, run_bad, run_early}
-use Rattle.http_bodies.specs.Steps.{Ends, ends, Moves, Breaks, HoldsBack, LacksNothing}
+use Rattle.http_bodies.specs.Steps.{Ends, ends, Moves, Breaks, HoldsBack, LacksNothing, IsAll}
 use Rattle.http_bodies.specs.declared.outbox.TheConstants.{OUTBOX_BYTES}
 use Rattle.http_bodies.specs.declared.pipe.Pipe.{Pipe}
 use Rattle.http_bodies.proofs.Stepping.{moves_none, moves_trans, moves_as, moves_breaks, breaks_as, breaks_less, breaks_end, breaks_framing}
@@ -138,13 +138,27 @@ never_done c used text f =
     ap (λ (q : Reading). is_done q.coding) (sym (read_nothing c)) ∙ sym (ap (λ (q : Reading). is_done q.coding) (f.goes_on []))
 
 -- where nothing lacks, the bytes aren't at fault
-breaks_plainly : {a b : Ends} {used text : List ℕ} {fault : Fault} → fault ≡ Faulty.Framing → Breaks a b used text LacksNothing fault → ⊥
-breaks_plainly {a} {b} {used} {text} is breaks =
-    let plain = subst (λ (f : Fault). Breaks a b used text LacksNothing f) is breaks in
+breaks_plainly : {a b : Ends} {used text : List ℕ} {fault : Fault} (Wants : List ℕ → Type 0) → fault ≡ Faulty.Framing
+    → Breaks a b used text LacksNothing Wants fault
+    → ⊥
+breaks_plainly {a} {b} {used} {text} Wants is breaks =
+    let plain = subst (λ (f : Fault). Breaks a b used text LacksNothing Wants f) is breaks in
     plain.blames.2 []
 
 read_is_not_framing : Faulty.Read ≡ Faulty.Framing → ⊥
 read_is_not_framing is = cc
+
+is_to_end : (framing : Framing) → (framing ≡ Framed.ToEnd) ⊎ (framing ≢ Framed.ToEnd)
+is_to_end Framed.Empty = inr (λ is. cc)
+is_to_end (Framed.Length count) = inr (λ is. cc)
+is_to_end Framed.Chunked = inr (λ is. cc)
+is_to_end Framed.ToEnd = inl refl
+
+-- a fault was met amid a body
+abbrev pub StopsAmid : Framing → Bool → Ends → Ends → Fault → Type 0
+StopsAmid framing framed a b fault = (used : List ℕ) × (text : List ℕ) × PartOfBody framing framed used text
+    × Breaks a b used text (LacksBody framing) (IsUnfinished framing) fault
+    × (fault ≡ Faulty.Framing → HoldsBack a b text)
 
 still_holds : (a b : Ends) (text : List ℕ) → StillWaits a b text → HoldsBack a b (text ++ [])
 still_holds a b text late = λ same. elim (late same) [
@@ -169,42 +183,48 @@ module _ {framing : Framing} {framed : Bool} {c : Coding} {a b : Ends} (p : Forw
       (p.used, p.text, body, p.moves)
 
   -- a fault: the text is that of a part of a body at the front of what was used
-  part_of : {d : Ends} {fault : Fault} → (fault ≡ Faulty.Framing → HoldsBack a d (p.text ++ [])) → Breaks a d p.used p.text (LacksBody framing) fault
-      → (used : List ℕ) × (text : List ℕ) × PartOfBody framing framed used text × Breaks a d used text (LacksBody framing) fault
-      × (fault ≡ Faulty.Framing → HoldsBack a d text)
+  part_of : {d : Ends} {fault : Fault} → (fault ≡ Faulty.Framing → HoldsBack a d (p.text ++ []))
+      → Breaks a d p.used p.text (LacksBody framing) (IsUnfinished framing) fault
+      → StopsAmid framing framed a d fault
   part_of late breaks =
       let sent = run_text framing framed ((p.used, p.text) ∷ []) c (c, p.feeds, refl) in
       let front = sym (append-nil p.used) ∙ sent.input_is in (
         sent.used,
         p.text ++ [],
         sent.part,
-        breaks_less (LacksBody framing) sent.used sent.rest (breaks_as (LacksBody framing) front (sym (append-nil p.text)) breaks),
+        breaks_less (LacksBody framing) (IsUnfinished framing) sent.used sent.rest
+            (breaks_as (LacksBody framing) (IsUnfinished framing) front (sym (append-nil p.text)) breaks),
         late,
       )
 
+  -- what was used is no whole body yet
+  unfinished : is_done c ≡ false → (l : List ℕ) → IsAll [] l → IsUnfinished framing (p.used ++ l)
+  unfinished is l none = elim (is_to_end framing) [
+    | inl to_end ↦ inl to_end
+    | inr other ↦
+        inr (subst (λ (k : List ℕ). LacksBody framing (p.used ++ k)) (sym none) (run_early framing framed ((p.used, p.text) ∷ []) c (c, p.feeds, refl) other is))
+  ]
+
   -- of a call that failed
-  pub part_before : {d : Ends} {fault : Fault} → Breaks b d [] [] LacksNothing fault
-      → (used : List ℕ) × (text : List ℕ) × PartOfBody framing framed used text × Breaks a d used text (LacksBody framing) fault
-      × (fault ≡ Faulty.Framing → HoldsBack a d text)
-  part_before breaks =
-      part_of (λ is. absurd (breaks_plainly is breaks)) (breaks_as (LacksBody framing) (append-nil p.used) (append-nil p.text)
-      (moves_breaks LacksNothing (LacksBody framing) (λ l none. absurd none) p.moves breaks))
+  pub part_before : {d : Ends} {fault : Fault} → is_done c ≡ false → Breaks b d [] [] LacksNothing (IsAll []) fault → StopsAmid framing framed a d fault
+  part_before is breaks =
+      part_of (λ framed. absurd (breaks_plainly (IsAll []) framed breaks))
+      (breaks_as (LacksBody framing) (IsUnfinished framing) (append-nil p.used) (append-nil p.text)
+      (moves_breaks LacksNothing (LacksBody framing) (IsAll []) (IsUnfinished framing) (λ l none. absurd none) (unfinished is) p.moves breaks))
 
   -- of bytes that will never be a body
-  pub part_of_none : is_bad c ≡ true
-      → (used : List ℕ) × (text : List ℕ) × PartOfBody framing framed used text × Breaks a b used text (LacksBody framing) Faulty.Framing
-      × (Faulty.Framing ≡ Faulty.Framing → HoldsBack a b text)
+  pub part_of_none : is_bad c ≡ true → StopsAmid framing framed a b Faulty.Framing
   part_of_none is =
       let never = λ (more : List ℕ). run_bad framing framed ((p.used, p.text) ∷ []) c (c, p.feeds, refl) more is in
-      part_of (λ is. still_holds a b p.text p.late) (breaks_framing (LacksBody framing) p.moves
+      part_of (λ is. still_holds a b p.text p.late) (breaks_framing (LacksBody framing) (IsUnfinished framing) p.moves
       (λ more. subst (LacksBody framing)
       (ap (λ l. l ++ (b.pipe.inbox ++ more)) (append-nil p.used) ∙ sym (append_assoc p.used b.pipe.inbox more))
       (never (b.pipe.inbox ++ more))))
 
   -- of an input that ended too early
   pub part_at_end : is_done c ≡ false → framing ≢ Framed.ToEnd → IsAtEnd b.source.bytes → b.pipe.inbox ≡ []
-      → (used : List ℕ) × (text : List ℕ) × PartOfBody framing framed used text × Breaks a b used text (LacksBody framing) Faulty.Read
-      × (Faulty.Read ≡ Faulty.Framing → HoldsBack a b text)
+      → StopsAmid framing framed a b Faulty.Read
   part_at_end is other end none =
       let early = run_early framing framed ((p.used, p.text) ∷ []) c (c, p.feeds, refl) other is in
-      part_of (λ is. absurd (read_is_not_framing is)) (breaks_end (LacksBody framing) p.moves end (subst (LacksBody framing) (ap (λ l. p.used ++ l) (sym none)) early))
+      part_of (λ is. absurd (read_is_not_framing is)) (breaks_end (LacksBody framing) (IsUnfinished framing) p.moves end
+      (subst (LacksBody framing) (ap (λ l. p.used ++ l) (sym none)) early))

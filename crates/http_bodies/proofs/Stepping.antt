@@ -1,5 +1,5 @@
 -- Steps one after the other.
-use Rattle.std.proofs.Common.{◌≡◌, ◌∙◌, ℕ, ◌+◌, List, [], ◌++◌}
+use Rattle.std.proofs.Common.{◌≡◌, ◌∙◌, ◌<◌, ◌⊎◌, ℕ, ◌+◌, List, [], ◌++◌, length}
 use Rattle.std.proofs.Common.{refl, sym, ap, arith, append_assoc, append-nil, subst, inl, inr, length-append}
 use Rattle.std.specs.Io.KnownBytes.{IsAtEnd}
 use Rattle.std.proofs.KnownBytes.{Consumes-nil, Consumes-trans}
@@ -9,7 +9,7 @@ use Rattle.http_bodies.specs.declared.fault.Fault.TheVariants.{Framing, Read, Wr
 use Rattle.http_bodies.specs.declared.pipe.Pipe.{Pipe}
 use Rattle.http_bodies.specs.Texts.{Emits, StopsBy, Stops}
 use Rattle.http_bodies.proofs.Writing.{Wrote-nil, Wrote-trans}
-use Rattle.http_bodies.specs.Steps.{Ends, ends, Countable, Reads, Moves, Blames, Breaks, LacksNothing}
+use Rattle.http_bodies.specs.Steps.{Ends, ends, Countable, Reads, Moves, Blames, Breaks, LacksNothing, IsAll}
 
 -- a list whose front is taken off, twice
 pub joined : (a b c d e f g : List ℕ) → a ++ b ≡ c ++ d → d ++ e ≡ f ++ g → a ++ (b ++ e) ≡ (c ++ f) ++ g
@@ -89,11 +89,12 @@ blames_earlier Framing a b c Lacks Whole used input whole r w step e blame = (
   λ more. subst Whole (sym (ap (λ l. l ++ more) e ∙ append_assoc used input more)) (step (input ++ more) (blame.2 more)),
 )
 
--- a step, and then a fault; what lacks behind the step lacks in the whole
-pub moves_breaks : {a b c : Ends} {used text more_used more_text : List ℕ} {fault : Fault} (Lacks Whole : List ℕ → Type 0)
-    → ((l : List ℕ) → Lacks l → Whole (used ++ l)) → Moves a b used text → Breaks b c more_used more_text Lacks fault
-    → Breaks a c (used ++ more_used) (text ++ more_text) Whole fault
-moves_breaks {a} {b} {c} {used} {text} {more_used} {more_text} {fault} Lacks Whole step p q =
+-- a step, and then a fault; what lacks behind the step, or is wanted there, does so in the whole
+pub moves_breaks : {a b c : Ends} {used text more_used more_text : List ℕ} {fault : Fault} (Lacks Whole Wants All : List ℕ → Type 0)
+    → ((l : List ℕ) → Lacks l → Whole (used ++ l)) → ((l : List ℕ) → Wants l → All (used ++ l))
+    → Moves a b used text → Breaks b c more_used more_text Lacks Wants fault
+    → Breaks a c (used ++ more_used) (text ++ more_text) Whole All fault
+moves_breaks {a} {b} {c} {used} {text} {more_used} {more_text} {fault} Lacks Whole Wants All step want p q =
     let front : a.pipe.inbox ++ (p.taken ++ q.taken) ≡ used ++ (b.pipe.inbox ++ q.taken) =
     sym (append_assoc a.pipe.inbox p.taken q.taken) ∙ ap (λ l. l ++ q.taken) p.held ∙ append_assoc used b.pipe.inbox q.taken in record {
       taken = p.taken ++ q.taken;
@@ -108,15 +109,19 @@ moves_breaks {a} {b} {c} {used} {text} {more_used} {more_text} {fault} Lacks Who
       };
       blames = blames_earlier fault a b c Lacks Whole used (b.pipe.inbox ++ q.taken)
           (a.pipe.inbox ++ (p.taken ++ q.taken)) p.good_reads p.good_writes step front q.blames;
+      undone = λ spent. elim (q.undone spent) [
+        | inl some ↦ inl some
+        | inr wants ↦ inr (subst All (sym front) (want (b.pipe.inbox ++ q.taken) wants))
+      ];
     }
 
 pub moves_as : {a b : Ends} {used text same_used same_text : List ℕ} → used ≡ same_used → text ≡ same_text → Moves a b used text → Moves a b same_used same_text
 moves_as {a} {b} {used} {text} {same_used} e f p = subst (λ (l : List ℕ). Moves a b same_used l) f (subst (λ (l : List ℕ). Moves a b l text) e p)
 
-pub breaks_as : {a b : Ends} {used text same_used same_text : List ℕ} {fault : Fault} (Lacks : List ℕ → Type 0) → used ≡ same_used → text ≡ same_text
-    → Breaks a b used text Lacks fault → Breaks a b same_used same_text Lacks fault
-breaks_as {a} {b} {used} {text} {same_used} {fault = fault} Lacks e f p =
-    subst (λ (l : List ℕ). Breaks a b same_used l Lacks fault) f (subst (λ (l : List ℕ). Breaks a b l text Lacks fault) e p)
+pub breaks_as : {a b : Ends} {used text same_used same_text : List ℕ} {fault : Fault} (Lacks Wants : List ℕ → Type 0) → used ≡ same_used → text ≡ same_text
+    → Breaks a b used text Lacks Wants fault → Breaks a b same_used same_text Lacks Wants fault
+breaks_as {a} {b} {used} {text} {same_used} {fault = fault} Lacks Wants e f p =
+    subst (λ (l : List ℕ). Breaks a b same_used l Lacks Wants fault) f (subst (λ (l : List ℕ). Breaks a b l text Lacks Wants fault) e p)
 
 -- what was emitted, as a step that uses some of what is held
 pub moves_emit : {p0 p : Pipe} {w0 w : Stream} {text : List ℕ} (s : Stream) (used : List ℕ) → Emits w0 w p0.turns p.turns p0.outbox p.outbox text
@@ -148,10 +153,10 @@ stops_blame Turns p0 p w0 w s input by = (refl, by.0, by.1)
 stops_blame Framing p0 p w0 w s input by = absurd by
 
 -- a text that stopped on its way, as a step that breaks
-pub breaks_emit : {p0 p : Pipe} {w0 w : Stream} {text : List ℕ} {fault : Fault} (s : Stream) (used rest : List ℕ)
+pub breaks_emit : {p0 p : Pipe} {w0 w : Stream} {text : List ℕ} {fault : Fault} (s : Stream) (used rest : List ℕ) (Wants : List ℕ → Type 0)
     → Stops w0 w p0.turns p.turns (p0.outbox ++ text) fault → p0.inbox ≡ used ++ rest
-    → Breaks (ends p0 s w0) (ends p s w) used text LacksNothing fault
-breaks_emit {p0} {p} {w0} {w} {fault = fault} s used rest e same = record {
+    → Breaks (ends p0 s w0) (ends p s w) used text LacksNothing Wants fault
+breaks_emit {p0} {p} {w0} {w} {fault = fault} s used rest Wants e same = record {
   taken = [];
   reads = record {
     same_source = refl;
@@ -166,31 +171,41 @@ breaks_emit {p0} {p} {w0} {w} {fault = fault} s used rest e same = record {
   held = append-nil p0.inbox ∙ same;
   writes = e.front;
   blames = stops_blame fault p0 p w0 w s (p0.inbox ++ []) e.cause;
+  undone = λ spent. inl e.left;
 }
 
+read_is_not_turns : Read ≡ Turns → ⊥
+read_is_not_turns is = cc
+
+framing_is_not_turns : Framing ≡ Turns → ⊥
+framing_is_not_turns is = cc
+
 -- steps after which the input ended too early
-pub breaks_end : {a b : Ends} {used text : List ℕ} (Lacks : List ℕ → Type 0) → Moves a b used text → IsAtEnd b.source.bytes → Lacks (used ++ b.pipe.inbox)
-    → Breaks a b used text Lacks Read
-breaks_end {a} {b} {used} Lacks p end lacks = record {
+pub breaks_end : {a b : Ends} {used text : List ℕ} (Lacks Wants : List ℕ → Type 0) → Moves a b used text → IsAtEnd b.source.bytes
+    → Lacks (used ++ b.pipe.inbox)
+    → Breaks a b used text Lacks Wants Read
+breaks_end {a} {b} {used} Lacks Wants p end lacks = record {
   taken = p.taken;
   reads = p.reads;
   rest = b.pipe.inbox;
   held = p.held;
   writes = record { front = p.front; rest = b.pipe.outbox; wrote = p.writes; all = p.waiting };
   blames = (p.good_writes, inr (p.good_reads, end, subst Lacks (sym p.held) lacks));
+  undone = λ spent. absurd (read_is_not_turns spent);
 }
 
 -- no continuation of the input has what is wanted
-pub breaks_framing : {a b : Ends} {used text : List ℕ} (Lacks : List ℕ → Type 0) → Moves a b used text
+pub breaks_framing : {a b : Ends} {used text : List ℕ} (Lacks Wants : List ℕ → Type 0) → Moves a b used text
     → ((more : List ℕ) → Lacks ((used ++ b.pipe.inbox) ++ more))
-    → Breaks a b used text Lacks Framing
-breaks_framing {a} {b} {used} Lacks p never = record {
+    → Breaks a b used text Lacks Wants Framing
+breaks_framing {a} {b} {used} Lacks Wants p never = record {
   taken = p.taken;
   reads = p.reads;
   rest = b.pipe.inbox;
   held = p.held;
   writes = record { front = p.front; rest = b.pipe.outbox; wrote = p.writes; all = p.waiting };
   blames = (p.good_reads, p.good_writes, λ more. subst (λ (l : List ℕ). Lacks (l ++ more)) (sym p.held) (never more));
+  undone = λ spent. absurd (framing_is_not_turns spent);
 }
 
 -- the front of what is held is used, and nothing else is changed
@@ -216,13 +231,27 @@ moves_use p0 p s w used e same turns = record {
 }
 
 -- less is claimed to be used
-pub breaks_less : {a b : Ends} {text : List ℕ} {fault : Fault} (Lacks : List ℕ → Type 0) (used tail : List ℕ) → Breaks a b (used ++ tail) text Lacks fault
-    → Breaks a b used text Lacks fault
-breaks_less Lacks used tail p = record {
+pub breaks_less : {a b : Ends} {text : List ℕ} {fault : Fault} (Lacks Wants : List ℕ → Type 0) (used tail : List ℕ)
+    → Breaks a b (used ++ tail) text Lacks Wants fault
+    → Breaks a b used text Lacks Wants fault
+breaks_less Lacks Wants used tail p = record {
   taken = p.taken;
   reads = p.reads;
   rest = tail ++ p.rest;
   held = p.held ∙ append_assoc used tail p.rest;
   writes = p.writes;
   blames = p.blames;
+  undone = p.undone;
+}
+
+-- no turn is left, so nothing is asked
+pub breaks_unasked : (p : Pipe) (s w : Stream) → p.turns ≡ 0 → Breaks (ends p s w) (ends p s w) [] [] LacksNothing (IsAll p.inbox) Turns
+breaks_unasked p s w none = record {
+  taken = [];
+  reads = Reads-none (ends p s w);
+  rest = p.inbox;
+  held = append-nil p.inbox;
+  writes = record { front = []; rest = p.outbox ++ []; wrote = Wrote-nil w; all = refl };
+  blames = (refl, refl, none);
+  undone = λ spent. inr (append-nil p.inbox);
 }

@@ -1,5 +1,5 @@
 -- Bodies by their framing (RFC 9112, section 6): which input is one, and its text.
-use Rattle.std.specs.Prelude.{◌≡◌, ℕ, ◌≤◌, Bool, List, [], length}
+use Rattle.std.specs.Prelude.{◌≡◌, ◌⊎◌, ℕ, ◌≤◌, Bool, List, [], length}
 use Rattle.http_bodies.specs.declared.framing.Framing.{Framing}
 use Rattle.http_bodies.specs.declared.framing.Framing.TheVariants.{Empty, Length, Chunked, ToEnd}
 use Rattle.http_bodies.specs.Bodies.{ChunkedBody, IsChunked, print_chunked, chunked_text, PartOfChunked, LacksChunked}
@@ -25,3 +25,8 @@ LacksBody Empty input = ⊥
 LacksBody (Length count) input = LacksLength count input
 LacksBody Chunked input = LacksChunked input
 LacksBody ToEnd input = ⊥
+
+-- the input doesn't begin with a whole body, or the body goes on to the end of the input, which
+-- hasn't been met
+abbrev pub IsUnfinished : Framing → List ℕ → Type 0
+IsUnfinished framing input = (framing ≡ ToEnd) ⊎ LacksBody framing input

@@ -55,14 +55,16 @@ Blames old new Lacks input Framing = (new.source.failures ≡ old.source.failure
     × ((more : List ℕ) → Lacks (input ++ more))
 
 -- A fault was met. `used` stands at the front of what was held and read. A front of what waited and
--- of the text was written.
-pub record Breaks (old new : Ends) (used text : List ℕ) (Lacks : List ℕ → Type 0) (fault : Fault) : Type 0 where
+-- of the text was written. Where the turns were spent, some of these wasn't written, or Wants says of
+-- what was held and read that more is wanted.
+pub record Breaks (old new : Ends) (used text : List ℕ) (Lacks Wants : List ℕ → Type 0) (fault : Fault) : Type 0 where
   pub taken : List ℕ
   pub reads : Reads old new taken
   pub rest : List ℕ
   pub held : old.pipe.inbox ++ taken ≡ used ++ rest
   pub writes : WritesFront old.sink new.sink (old.pipe.outbox ++ text)
   pub blames : Blames old new Lacks (old.pipe.inbox ++ taken) fault
+  pub undone : fault ≡ Turns → (0 < length writes.rest) ⊎ Wants (old.pipe.inbox ++ taken)
 
 -- Where nothing was read, nothing was written either, unless there was no room for what waited, for
 -- the text, and for the longest text of one more byte of the input.
@@ -72,3 +74,7 @@ HoldsBack old new text = new.source.calls ≡ old.source.calls → (new.sink ≡
 -- the demand that nothing lacks
 abbrev pub LacksNothing : List ℕ → Type 0
 LacksNothing input = ⊥
+
+-- nothing was read beside these bytes
+abbrev pub IsAll : List ℕ → List ℕ → Type 0
+IsAll held input = input ≡ held

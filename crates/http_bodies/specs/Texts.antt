@@ -45,8 +45,9 @@ StopsBy w0 w turns Turns = (w.failures ≡ w0.failures) × (turns ≡ 0)
 StopsBy w0 w turns Read = ⊥
 StopsBy w0 w turns Framing = ⊥
 
--- a front of the text was written to the sink, and a fault was met
+-- a front of the text was written to the sink, and a fault was met before the rest of it
 pub record Stops (w0 w : Stream) (turns0 turns : ℕ) (text : List ℕ) (fault : Fault) : Type 0 where
   pub front : WritesFront w0 w text
+  pub left : 0 < length front.rest
   pub spends : Spends w0 w turns0 turns
   pub cause : StopsBy w0 w turns fault

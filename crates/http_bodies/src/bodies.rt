@@ -1,7 +1,7 @@
 ghost use Rattle.std.specs.Prelude.{◌≡◌, ◌≢◌, ◌⊎◌, ◌+◌, ◌<◌, ℕ, List, [], length, false, IfOk, OnOk, IfErr};
 ghost use Rattle.std.specs.Io.KnownBytes.{IsAtEnd};
-ghost use Rattle.http_bodies.specs.Steps.{ends, Countable, Moves, Breaks, HoldsBack, LacksNothing};
-ghost use Rattle.http_bodies.specs.Framings.{IsBody, PartOfBody, LacksBody};
+ghost use Rattle.http_bodies.specs.Steps.{ends, Countable, Moves, Breaks, HoldsBack, LacksNothing, IsAll};
+ghost use Rattle.http_bodies.specs.Framings.{IsBody, PartOfBody, LacksBody, IsUnfinished};
 
 use crate::coding::Coding;
 use crate::fault::Fault;
@@ -25,7 +25,7 @@ impl Pipe {
         ensures end { framing ≡ Framing.ToEnd → OnOk result (IsAtEnd (S.stream source.new).bytes) }
         ensures all { framing ≡ Framing.ToEnd → OnOk result (self.new.inbox ≡ []) }
         ensures err { IfErr result (λ fault. (used : List ℕ) × (text : List ℕ) × PartOfBody framing framed used text
-            × Breaks (ends self.old (S.stream source.old) (K.stream sink.old)) (ends self.new (S.stream source.new) (K.stream sink.new)) used text (LacksBody framing) fault
+            × Breaks (ends self.old (S.stream source.old) (K.stream sink.old)) (ends self.new (S.stream source.new) (K.stream sink.new)) used text (LacksBody framing) (IsUnfinished framing) fault
             × (fault ≡ Fault.Framing → HoldsBack (ends self.old (S.stream source.old) (K.stream sink.old)) (ends self.new (S.stream source.new) (K.stream sink.new)) text)) }
     {
         let mut coding = Coding::new(framing, framed);
@@ -50,14 +50,15 @@ impl Pipe {
         ensures read { self.old.inbox ≡ [] → OnOk result ((S.stream source.old).calls < (S.stream source.new).calls) }
         ensures end { IfOk result (λ more. more ≡ false → IsAtEnd (S.stream source.new).bytes) }
         ensures none { IfOk result (λ more. more ≡ false → self.new.inbox ≡ []) }
-        ensures err { IfErr result (Breaks (ends self.old (S.stream source.old) (K.stream sink.old)) (ends self.new (S.stream source.new) (K.stream sink.new)) [] [] LacksNothing) }
+        ensures err { IfErr result (Breaks (ends self.old (S.stream source.old) (K.stream sink.old)) (ends self.new (S.stream source.new) (K.stream sink.new)) [] [] LacksNothing (IsAll [])) }
     {
-        if self.held().is_empty() {
-            let count = self.supply(source, sink)?;
-            return Ok(0 < count);
-        }
+        let is_hungry = self.held().is_empty();
         self.flush(sink)?;
-        Ok(true)
+        if !is_hungry {
+            return Ok(true);
+        }
+        let count = self.fill(source)?;
+        Ok(0 < count)
     }
 }
 

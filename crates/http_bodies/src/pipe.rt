@@ -1,9 +1,9 @@
-ghost use Rattle.std.specs.Prelude.{◌≡◌, ◌⊎◌, ◌+◌, ◌^◌, ◌<◌, ◌≤◌, ◌++◌, ℕ, List, [], length, drop, true, false, IfOk, OnOk, IfErr, OnErr};
+ghost use Rattle.std.specs.Prelude.{◌≡◌, ◌⊎◌, ◌+◌, ◌^◌, ◌<◌, ◌≤◌, ◌++◌, ℕ, List, [], length, drop, true, false, Err, IfOk, OnOk, IfErr, OnErr};
 ghost use Rattle.std.specs.Io.KnownBytes.{IsAtEnd, Keeps};
 ghost use Rattle.http_bodies.specs.Readings.{Feeds};
 ghost use Rattle.http_bodies.specs.Stops.{is_done, is_bad};
 ghost use Rattle.base_streams.specs.Streams.{Stream};
-ghost use Rattle.http_bodies.specs.Steps.{ends, Countable, Moves, Breaks, LacksNothing};
+ghost use Rattle.http_bodies.specs.Steps.{ends, Moves, Breaks, LacksNothing, IsAll};
 ghost use Rattle.http_bodies.specs.Texts.{Emits, Stops, WaitsBehind};
 
 use crate::coding::Coding;
@@ -148,7 +148,8 @@ impl Pipe {
         ensures spent { OnOk result (self.new.turns < self.old.turns) }
         ensures waiting { self.new.outbox ≡ self.old.outbox }
         ensures kept { OnErr result ((self.new.inbox ≡ self.old.inbox) × Keeps (S.stream source.old).bytes (S.stream source.new).bytes) }
-        ensures err { (w : Stream) → IfErr result (Breaks (ends self.old (S.stream source.old) w) (ends self.new (S.stream source.new) w) [] [] LacksNothing) }
+        ensures err { (w : Stream) → IfErr result (Breaks (ends self.old (S.stream source.old) w) (ends self.new (S.stream source.new) w) [] [] LacksNothing (IsAll self.old.inbox)) }
+        ensures unasked { result ≡ Err Fault.Turns → S.stream source.new ≡ S.stream source.old }
     {
         if self.turns == 0 {
             return Err(Fault::Turns);
@@ -158,27 +159,5 @@ impl Pipe {
             Ok(count) => Ok(count),
             Err(_) => Err(Fault::Read),
         }
-    }
-
-    /// Writes all that waits, and then reads once: 0 at the end of the input.
-    pub fn supply<S: Source, K: Sink>(
-        &mut self,
-        source: &mut S,
-        sink: &mut K,
-    ) -> Result<usize, Fault>
-        requires room { length self.old.inbox < INBOX_BYTES }
-        requires countable { Countable (ends self.old (S.stream source.old) (K.stream sink.old)) }
-        ensures ok { OnOk result (Moves (ends self.old (S.stream source.old) (K.stream sink.old)) (ends self.new (S.stream source.new) (K.stream sink.new)) [] []) }
-        ensures more { IfOk result (λ count. length self.new.inbox ≡ length self.old.inbox + count) }
-        ensures end { IfOk result (λ count. count ≡ 0 → IsAtEnd (S.stream source.new).bytes) }
-        ensures none { IfOk result (λ count. count ≡ 0 → self.new.inbox ≡ self.old.inbox) }
-        ensures spent { OnOk result (self.new.turns < self.old.turns) }
-        ensures read { OnOk result ((S.stream source.old).calls < (S.stream source.new).calls) }
-        ensures kept { OnErr result (self.new.inbox ≡ self.old.inbox) }
-        ensures err { IfErr result (Breaks (ends self.old (S.stream source.old) (K.stream sink.old)) (ends self.new (S.stream source.new) (K.stream sink.new)) [] [] LacksNothing) }
-    {
-        self.flush(sink)?;
-        let count = self.fill(source)?;
-        Ok(count)
     }
 }

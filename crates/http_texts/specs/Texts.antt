@@ -57,11 +57,14 @@ client_text (Some address) = codes "X-Forwarded-For: " ++ (ip_text address ++ cr
 abbrev pub unnamed : Persistence → Additions
 unnamed asks = record { asks = asks; client = None }
 
+-- a request's head, with a line of the proxy's before its end
+abbrev pub request_text_with : List ℕ → Persistence → Request → Framing → List ℕ
+request_text_with line asks r framing =
+    request_line r ++ (fields_text (kept of_request r.fields) ++ (host_text (kept of_request r.fields) ++ (line ++ end_text asks framing)))
+
 -- a request's head
 abbrev pub request_text : Additions → Request → Framing → List ℕ
-request_text adds r framing =
-    request_line r ++ (fields_text (kept of_request r.fields)
-    ++ (host_text (kept of_request r.fields) ++ (client_text adds.client ++ end_text adds.asks framing)))
+request_text adds r framing = request_text_with (client_text adds.client) adds.asks r framing
 
 -- three digits
 abbrev pub status_text : ℕ → List ℕ

@@ -1,7 +1,6 @@
-ghost use Rattle.std.specs.Prelude.{◌≡◌, ◌+◌, ◌^◌, ◌<◌, ◌++◌, Option, OnOk, IfErr};
+ghost use Rattle.std.specs.Prelude.{◌≡◌, ◌+◌, ◌^◌, ◌<◌, ◌++◌, OnOk, IfErr};
 ghost use Rattle.http_texts.specs.Emissions.{Puts, Halts};
 ghost use Rattle.http_texts.specs.Texts as texts;
-ghost use Rattle.std.specs.declared.net.ip_addr.IpAddr.{IpAddr};
 
 use crate::fields::Way;
 use crate::lines::{put, put_end, put_fields, put_host, put_three};
@@ -39,12 +38,10 @@ pub fn put_request<P: Page, K: Sink>(
     added: Added<'_>,
 ) -> Result<(), Fault>
     requires { (K.stream sink.old).calls + (P.pipe page.old).turns < 2 ^ 64 }
-    ensures ok { (client : Option IpAddr) → added.entry.client.now ≡ texts.client_text client
-        → OnOk result (Puts (P.pipe page.old) (P.pipe page.new) (K.stream sink.old) (K.stream sink.new)
-        (texts.request_text (record { asks = added.entry.asks; client = client }) view.now framing)) }
-    ensures err { (client : Option IpAddr) → added.entry.client.now ≡ texts.client_text client
-        → IfErr result (Halts (P.pipe page.old) (P.pipe page.new) (K.stream sink.old) (K.stream sink.new)
-        (texts.request_text (record { asks = added.entry.asks; client = client }) view.now framing)) }
+    ensures ok { OnOk result (Puts (P.pipe page.old) (P.pipe page.new) (K.stream sink.old) (K.stream sink.new)
+        (texts.request_text_with added.entry.client.now added.entry.asks view.now framing)) }
+    ensures err { IfErr result (Halts (P.pipe page.old) (P.pipe page.new) (K.stream sink.old) (K.stream sink.new)
+        (texts.request_text_with added.entry.client.now added.entry.asks view.now framing)) }
 {
     put_request_line(page, sink, view)?;
     put_fields(page, sink, view.section(), Way::ToServer)?;

@@ -111,6 +111,7 @@ pub header_read : (all left : List (List ℕ)) (header : Settings) (number : ℕ
 header_read all left header number (before, are) begins =
     let parts = parted all before left number are.cut are.count in (
       record {
+        stepless = ap (list_any is_step) parts.0 ∙ are.stepless;
         begins = λ line rest next. begins line rest (sym parts.1 ∙ next);
         faultless = are.faultless ∙ ap (λ l. fault_behind l left) (sym parts.0) ∙ ap (fault_behind (take number all)) (sym parts.1);
       },

@@ -9,6 +9,7 @@ use Rattle.log_texts.specs.declared.step.Step.TheVariants.{Arrive, Done, Fail, A
 use Rattle.log_texts.specs.Steps.{step_of, is_skipped, steps_of}
 use Rattle.log_texts.specs.Headers.{setting_of, settings_of}
 use Rattle.log_texts.specs.Faults.{fault_of}
+use Rattle.log_texts.specs.Reading.{IsHeader}
 use Rattle.log_texts.specs.ScriptTexts.{server_number}
 use Rattle.log_reading.specs.declared.grant.Stay.{Stay}
 use Rattle.log_texts.specs.declared.setting.Setting.TheVariants.{Retries, Redispatch, QueueTimeout, Server}
@@ -332,3 +333,7 @@ report_behind_a_roll : roll_text names (record {
 } ∷ []) ≡ codes "roll\nqueue * class 0 granted 1 worst -90 due 100 after 0 to 8 critical 2\n"
 unfolding digits
 report_behind_a_roll = refl
+
+-- an only step is no header line
+only_step : ¬ (IsHeader (codes "7 tick" ∷ []) 1)
+only_step is = let wrong : true ≡ false = is.stepless in cc

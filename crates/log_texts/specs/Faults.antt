@@ -2,7 +2,6 @@
 use Rattle.std.specs.Prelude.{ℕ, ◌+◌, nat_lt, Bool, List, [], ◌∷◌, ◌++◌, length, Option, Some, None, is_some, if◌then◌else◌}
 use Rattle.std.specs.List.{list_any}
 use Rattle.std.specs.Str.Lines.{lines}
-use Rattle.log_texts.specs.declared.header.TheConstants.{MOST_BYTES}
 use Rattle.log_texts.specs.Steps.{step_of}
 use Rattle.log_texts.specs.Headers.{Settings, settings_of}
 use Rattle.log_texts.specs.Lines.{kind_of_line, is_fault}
@@ -22,6 +21,6 @@ fault_behind before (line ∷ rest) =
     if is_faulty (settings_of before) (list_any is_step before) line then Some (length before + 1)
     else fault_behind (before ++ line ∷ []) rest
 
--- the number of a script's first faulty line; 0 where the script is too long
+-- the number of a script's first faulty line; 0 where the script is too long: over 4 MiB
 abbrev pub fault_of : List ℕ → Option ℕ
-fault_of script = if nat_lt MOST_BYTES (length script) then Some 0 else fault_behind [] (lines script)
+fault_of script = if nat_lt 4194304 (length script) then Some 0 else fault_behind [] (lines script)

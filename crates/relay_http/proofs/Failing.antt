@@ -42,9 +42,11 @@ blames_earlier Closed a b c Why Whole used input whole r w step e blame = blame
 
 -- a step, and then a fault
 pub moves_fails : {a b c : Ends} {used text more_used more_text : List ℕ} {fault : Fault} (Why Whole : Fault → List ℕ → Type 0)
-    → ((l : List ℕ) → Why fault l → Whole fault (used ++ l)) → Moves a b used text → Fails b c more_used more_text Why fault
-    → Fails a c (used ++ more_used) (text ++ more_text) Whole fault
-moves_fails {a} {b} {c} {used} {text} {more_used} {more_text} {fault} Why Whole step p q =
+    (Wants All : List ℕ → Type 0)
+    → ((l : List ℕ) → Why fault l → Whole fault (used ++ l)) → ((l : List ℕ) → Wants l → All (used ++ l)) → Moves a b used text
+    → Fails b c more_used more_text Why Wants fault
+    → Fails a c (used ++ more_used) (text ++ more_text) Whole All fault
+moves_fails {a} {b} {c} {used} {text} {more_used} {more_text} {fault} Why Whole Wants All step want p q =
     let front : a.pipe.inbox ++ (p.taken ++ q.taken) ≡ used ++ (b.pipe.inbox ++ q.taken) =
     sym (append_assoc a.pipe.inbox p.taken q.taken) ∙ ap (λ l. l ++ q.taken) p.held ∙ append_assoc used b.pipe.inbox q.taken in record {
       taken = p.taken ++ q.taken;
@@ -59,7 +61,30 @@ moves_fails {a} {b} {c} {used} {text} {more_used} {more_text} {fault} Why Whole 
       };
       blames = blames_earlier fault a b c Why Whole used (b.pipe.inbox ++ q.taken)
           (a.pipe.inbox ++ (p.taken ++ q.taken)) p.good_reads p.good_writes step front q.blames;
+      undone = λ spent. elim (q.undone spent) [
+        | inl some ↦ inl some
+        | inr wants ↦ inr (subst All (sym front) (want (b.pipe.inbox ++ q.taken) wants))
+      ];
     }
+
+-- a fault of the relay's is one of a body of the same name
+relayed_turns : (fault : Body.Fault) → relayed fault ≡ Turns → fault ≡ OfBody.Turns
+relayed_turns OfBody.Turns is = refl
+relayed_turns OfBody.Read is = cc
+relayed_turns OfBody.Write is = cc
+relayed_turns OfBody.Framing is = cc
+
+head_is_not_turns : Head ≡ Turns → ⊥
+head_is_not_turns is = cc
+
+framing_is_not_turns : Framing ≡ Turns → ⊥
+framing_is_not_turns is = cc
+
+memory_is_not_turns : NoMemory ≡ Turns → ⊥
+memory_is_not_turns is = cc
+
+read_is_not_turns : Read ≡ Turns → ⊥
+read_is_not_turns is = cc
 
 blames_of : (fault : Body.Fault) (a b : Ends) (Lacks : List ℕ → Type 0) (Why : Fault → List ℕ → Type 0) (input : List ℕ)
     → ((l : List ℕ) → Lacks l → Why Read l) → ((l : List ℕ) → ((more : List ℕ) → Lacks (l ++ more)) → Why Framing l)
@@ -71,101 +96,116 @@ blames_of OfBody.Turns a b Lacks Why input early bad blame = (record { reads = b
 blames_of OfBody.Framing a b Lacks Why input early bad blame = (record { reads = blame.0; writes = blame.1 }, bad input blame.2)
 
 -- a fault of a body
-pub fails_of : {a b : Ends} {used text : List ℕ} {fault : Body.Fault} (Lacks : List ℕ → Type 0) (Why : Fault → List ℕ → Type 0)
+pub fails_of : {a b : Ends} {used text : List ℕ} {fault : Body.Fault} (Lacks : List ℕ → Type 0) (Why : Fault → List ℕ → Type 0) (Wants : List ℕ → Type 0)
     → ((l : List ℕ) → Lacks l → Why Read l) → ((l : List ℕ) → ((more : List ℕ) → Lacks (l ++ more)) → Why Framing l)
-    → Breaks a b used text Lacks fault → Fails a b used text Why (relayed fault)
-fails_of {a} {b} {fault = fault} Lacks Why early bad p = record {
+    → Breaks a b used text Lacks Wants fault → Fails a b used text Why Wants (relayed fault)
+fails_of {a} {b} {fault = fault} Lacks Why Wants early bad p = record {
   taken = p.taken;
   reads = p.reads;
   rest = p.rest;
   held = p.held;
   writes = p.writes;
   blames = blames_of fault a b Lacks Why (a.pipe.inbox ++ p.taken) early bad p.blames;
+  undone = λ spent. p.undone (relayed_turns fault spent);
 }
 
 -- one after which nothing lacks
-pub fails_plainly : {a b : Ends} {used text : List ℕ} {fault : Body.Fault} (Why : Fault → List ℕ → Type 0) → Breaks a b used text LacksNothing fault
-    → Fails a b used text Why (relayed fault)
-fails_plainly Why p = fails_of LacksNothing Why (λ l none. absurd none) (λ l none. absurd (none [])) p
+pub fails_plainly : {a b : Ends} {used text : List ℕ} {fault : Body.Fault} (Why : Fault → List ℕ → Type 0) (Wants : List ℕ → Type 0)
+    → Breaks a b used text LacksNothing Wants fault
+    → Fails a b used text Why Wants (relayed fault)
+fails_plainly Why Wants p = fails_of LacksNothing Why Wants (λ l none. absurd none) (λ l none. absurd (none [])) p
 
 -- steps, and what they read is bad
-pub fails_head : {a b : Ends} {used text : List ℕ} (Why : Fault → List ℕ → Type 0) → Moves a b used text → Why Head (used ++ b.pipe.inbox)
-    → Fails a b used text Why Head
-fails_head {a} {b} Why p why = record {
+pub fails_head : {a b : Ends} {used text : List ℕ} (Why : Fault → List ℕ → Type 0) (Wants : List ℕ → Type 0) → Moves a b used text
+    → Why Head (used ++ b.pipe.inbox)
+    → Fails a b used text Why Wants Head
+fails_head {a} {b} Why Wants p why = record {
   taken = p.taken;
   reads = p.reads;
   rest = b.pipe.inbox;
   held = p.held;
   writes = record { front = p.front; rest = b.pipe.outbox; wrote = p.writes; all = p.waiting };
   blames = (record { reads = p.good_reads; writes = p.good_writes }, subst (Why Head) (sym p.held) why);
+  undone = λ spent. absurd (head_is_not_turns spent);
 }
 
-pub fails_framing : {a b : Ends} {used text : List ℕ} (Why : Fault → List ℕ → Type 0) → Moves a b used text → Why Framing (used ++ b.pipe.inbox)
-    → Fails a b used text Why Framing
-fails_framing {a} {b} Why p why = record {
+pub fails_framing : {a b : Ends} {used text : List ℕ} (Why : Fault → List ℕ → Type 0) (Wants : List ℕ → Type 0) → Moves a b used text
+    → Why Framing (used ++ b.pipe.inbox)
+    → Fails a b used text Why Wants Framing
+fails_framing {a} {b} Why Wants p why = record {
   taken = p.taken;
   reads = p.reads;
   rest = b.pipe.inbox;
   held = p.held;
   writes = record { front = p.front; rest = b.pipe.outbox; wrote = p.writes; all = p.waiting };
   blames = (record { reads = p.good_reads; writes = p.good_writes }, subst (Why Framing) (sym p.held) why);
+  undone = λ spent. absurd (framing_is_not_turns spent);
 }
 
 -- or memory is wanting
-pub fails_memory : {a b : Ends} {used text : List ℕ} (Why : Fault → List ℕ → Type 0) → Moves a b used text → Why NoMemory (used ++ b.pipe.inbox)
-    → Fails a b used text Why NoMemory
-fails_memory {a} {b} Why p why = record {
+pub fails_memory : {a b : Ends} {used text : List ℕ} (Why : Fault → List ℕ → Type 0) (Wants : List ℕ → Type 0) → Moves a b used text
+    → Why NoMemory (used ++ b.pipe.inbox)
+    → Fails a b used text Why Wants NoMemory
+fails_memory {a} {b} Why Wants p why = record {
   taken = p.taken;
   reads = p.reads;
   rest = b.pipe.inbox;
   held = p.held;
   writes = record { front = p.front; rest = b.pipe.outbox; wrote = p.writes; all = p.waiting };
   blames = (record { reads = p.good_reads; writes = p.good_writes }, subst (Why NoMemory) (sym p.held) why);
+  undone = λ spent. absurd (memory_is_not_turns spent);
 }
 
 -- or the input ended
-pub fails_end : {a b : Ends} {used text : List ℕ} (Why : Fault → List ℕ → Type 0) → Moves a b used text → IsAtEnd b.source.bytes
+pub fails_end : {a b : Ends} {used text : List ℕ} (Why : Fault → List ℕ → Type 0) (Wants : List ℕ → Type 0) → Moves a b used text → IsAtEnd b.source.bytes
     → Why Read (used ++ b.pipe.inbox)
-    → Fails a b used text Why Read
-fails_end {a} {b} Why p end why = record {
+    → Fails a b used text Why Wants Read
+fails_end {a} {b} Why Wants p end why = record {
   taken = p.taken;
   reads = p.reads;
   rest = b.pipe.inbox;
   held = p.held;
   writes = record { front = p.front; rest = b.pipe.outbox; wrote = p.writes; all = p.waiting };
   blames = (p.good_writes, inr (p.good_reads, end, subst (Why Read) (sym p.held) why));
+  undone = λ spent. absurd (read_is_not_turns spent);
 }
 
 -- what was put, as a step
 pub moves_put : {p q : Pipe} {a b : Stream} {text : List ℕ} (s : Stream) → Sends p q a b text → Moves (ends p s a) (ends q s b) [] text
 moves_put s x = moves_emit s [] x.emits (sym x.inbox)
 
-pub fails_put : {p q : Pipe} {a b : Stream} {text : List ℕ} {fault : Body.Fault} (s : Stream) (Why : Fault → List ℕ → Type 0) → Halts p q a b text fault
-    → Fails (ends p s a) (ends q s b) [] text Why (relayed fault)
-fails_put {p} s Why x = fails_plainly Why (breaks_emit s [] p.inbox x.stops refl)
+pub fails_put : {p q : Pipe} {a b : Stream} {text : List ℕ} {fault : Body.Fault} (s : Stream) (Why : Fault → List ℕ → Type 0) (Wants : List ℕ → Type 0)
+    → Halts p q a b text fault
+    → Fails (ends p s a) (ends q s b) [] text Why Wants (relayed fault)
+fails_put {p} s Why Wants x = fails_plainly Why Wants (breaks_emit s [] p.inbox Wants x.stops refl)
 
-pub fails_as : {a b : Ends} {used text same_used same_text : List ℕ} {fault : Fault} (Why : Fault → List ℕ → Type 0) → used ≡ same_used → text ≡ same_text
-    → Fails a b used text Why fault → Fails a b same_used same_text Why fault
-fails_as {a} {b} {used} {text} {same_used} {fault = fault} Why e f p =
-    subst (λ (l : List ℕ). Fails a b same_used l Why fault) f (subst (λ (l : List ℕ). Fails a b l text Why fault) e p)
+pub fails_as : {a b : Ends} {used text same_used same_text : List ℕ} {fault : Fault} (Why : Fault → List ℕ → Type 0) (Wants : List ℕ → Type 0)
+    → used ≡ same_used → text ≡ same_text
+    → Fails a b used text Why Wants fault → Fails a b same_used same_text Why Wants fault
+fails_as {a} {b} {used} {text} {same_used} {fault = fault} Why Wants e f p =
+    subst (λ (l : List ℕ). Fails a b same_used l Why Wants fault) f (subst (λ (l : List ℕ). Fails a b l text Why Wants fault) e p)
 
 -- less is claimed to be used
-pub fails_less : {a b : Ends} {text : List ℕ} {fault : Fault} (Why : Fault → List ℕ → Type 0) (used tail : List ℕ) → Fails a b (used ++ tail) text Why fault
-    → Fails a b used text Why fault
-fails_less Why used tail p = record {
+pub fails_less : {a b : Ends} {text : List ℕ} {fault : Fault} (Why : Fault → List ℕ → Type 0) (Wants : List ℕ → Type 0) (used tail : List ℕ)
+    → Fails a b (used ++ tail) text Why Wants fault
+    → Fails a b used text Why Wants fault
+fails_less Why Wants used tail p = record {
   taken = p.taken;
   reads = p.reads;
   rest = tail ++ p.rest;
   held = p.held ∙ append_assoc used tail p.rest;
   writes = p.writes;
   blames = p.blames;
+  undone = p.undone;
 }
 
 -- a step, and then a text that stopped on its way
 pub moves_halts : {a : Ends} {p q : Pipe} {s w v : Stream} {used text more : List ℕ} {fault : Body.Fault} (Why : Fault → List ℕ → Type 0)
-    → Moves a (ends p s w) used text → Halts p q w v more fault → Fails a (ends q s v) used (text ++ more) Why (relayed fault)
-moves_halts {s = s} {used = used} Why so_far x =
-    fails_as Why (append-nil used) refl (moves_fails (λ f l. ⊥) Why (λ l none. absurd none) so_far (fails_put s (λ f l. ⊥) x))
+    (Wants : List ℕ → Type 0)
+    → Moves a (ends p s w) used text → Halts p q w v more fault → Fails a (ends q s v) used (text ++ more) Why Wants (relayed fault)
+moves_halts {s = s} {used = used} Why Wants so_far x =
+    fails_as Why Wants (append-nil used) refl
+    (moves_fails (λ f l. ⊥) Why LacksNothing Wants (λ l none. absurd none) (λ l none. absurd none) so_far (fails_put s (λ f l. ⊥) LacksNothing x))
 
 turns_same : (fault : Fault) (a : Ends) (p q : Pipe) (s w : Stream) (Why : Fault → List ℕ → Type 0) (input : List ℕ) → q.turns ≡ p.turns
     → Blames a (ends p s w) Why input fault → Blames a (ends q s w) Why input fault
@@ -178,9 +218,10 @@ turns_same Turns a p q s w Why input e blame = (record { reads = blame.0.reads; 
 turns_same Closed a p q s w Why input e blame = blame
 
 -- what a pipe does with its bytes after a fault doesn't matter
-pub fails_after : {a : Ends} {p : Pipe} {s w : Stream} {used text : List ℕ} {fault : Fault} (Why : Fault → List ℕ → Type 0) (q : Pipe) → q.turns ≡ p.turns
-    → Fails a (ends p s w) used text Why fault → Fails a (ends q s w) used text Why fault
-fails_after {a} {p} {s} {w} {fault = fault} Why q e x = record {
+pub fails_after : {a : Ends} {p : Pipe} {s w : Stream} {used text : List ℕ} {fault : Fault} (Why : Fault → List ℕ → Type 0) (Wants : List ℕ → Type 0)
+    (q : Pipe) → q.turns ≡ p.turns
+    → Fails a (ends p s w) used text Why Wants fault → Fails a (ends q s w) used text Why Wants fault
+fails_after {a} {p} {s} {w} {fault = fault} Why Wants q e x = record {
   taken = x.taken;
   reads = record {
     same_source = x.reads.same_source;
@@ -195,6 +236,7 @@ fails_after {a} {p} {s} {w} {fault = fault} Why q e x = record {
   held = x.held;
   writes = x.writes;
   blames = turns_same fault a p q s w Why (a.pipe.inbox ++ x.taken) e x.blames;
+  undone = x.undone;
 }
 
 explains : (fault : Fault) (a b : Ends) (Why : Fault → List ℕ → Type 0) (input : List ℕ) → Blames a b Why input fault → Explains Why fault input
@@ -216,9 +258,10 @@ pub passes_of : {a b : Ends} {used text : List ℕ} → a.pipe.outbox ≡ [] →
     → Conveys a.pipe.inbox b.pipe.inbox a.source.bytes b.source.bytes a.sink.bytes b.sink.bytes used text
 passes_of none left x = record { taken = x.taken; reads = x.reads.bytes; all = x.held; writes = (wrote_of none left x).bytes }
 
-pub misses_of : {a b : Ends} {used text : List ℕ} {fault : Fault} (Why : Fault → List ℕ → Type 0) → a.pipe.outbox ≡ [] → Fails a b used text Why fault
-    → Misses a.pipe.inbox a.source.bytes b.source.bytes a.sink.bytes b.sink.bytes used text Why fault
-misses_of {a} {b} {used} {text} {fault} Why none x = record {
+pub misses_of : {a b : Ends} {used text : List ℕ} {fault : Fault} (Why : Fault → List ℕ → Type 0) (Wants : List ℕ → Type 0) → a.pipe.outbox ≡ []
+    → Fails a b used text Why Wants fault
+    → Misses a.pipe.inbox a.source.bytes b.source.bytes a.sink.bytes b.sink.bytes used text Why Wants fault
+misses_of {a} {b} {used} {text} {fault} Why Wants none x = record {
   taken = x.taken;
   reads = x.reads.bytes;
   rest = x.rest;
@@ -228,6 +271,7 @@ misses_of {a} {b} {used} {text} {fault} Why none x = record {
   writes = x.writes.wrote.bytes;
   text_is = ap (λ l. l ++ text) (sym none) ∙ x.writes.all;
   why = explains fault a b Why (a.pipe.inbox ++ x.taken) x.blames;
+  undone = x.undone;
 }
 
 -- a fault of the bytes is one of a body
@@ -242,9 +286,10 @@ pub halts_unframed : {p q : Pipe} {a b : Stream} {text : List ℕ} (fault : Body
 halts_unframed {p} {q} {a} {b} {text} fault x is =
     (subst (λ (f : Body.Fault). Halts p q a b text f) (relayed_framing fault is) x).stops.cause
 
-pub breaks_unframed : {a b : Ends} {used text : List ℕ} (fault : Body.Fault) → Breaks a b used text LacksNothing fault → relayed fault ≡ Framing → ⊥
-breaks_unframed {a} {b} {used} {text} fault x is =
-    (subst (λ (f : Body.Fault). Breaks a b used text LacksNothing f) (relayed_framing fault is) x).blames.2 []
+pub breaks_unframed : {a b : Ends} {used text : List ℕ} (Wants : List ℕ → Type 0) (fault : Body.Fault) → Breaks a b used text LacksNothing Wants fault
+    → relayed fault ≡ Framing → ⊥
+breaks_unframed {a} {b} {used} {text} Wants fault x is =
+    (subst (λ (f : Body.Fault). Breaks a b used text LacksNothing Wants f) (relayed_framing fault is) x).blames.2 []
 
 -- a text that was put, and then more of which nothing was written before it had to be
 pub puts_hold : {p q : Pipe} {v w : Stream} {first : List ℕ} (s : Stream) (end : Ends) (text : List ℕ) → Puts p q v w first → HoldsBack (ends q s w) end text

@@ -6,4 +6,5 @@ pub mod Seeing
 pub mod Telling
 pub mod Thinning
 pub mod Turning
+pub mod Wanting
 pub mod WorkedRows

@@ -16,6 +16,7 @@ use Rattle.http_texts.specs.declared.plans.Plan.{Plan}
 use Rattle.http_texts.proofs.Alone.{answer_alone}
 use Rattle.http_texts.proofs.Forwarding.{bad_here, ninth_here}
 use Rattle.relay_http.specs.Failures.{Fails}
+use Rattle.relay_http.specs.Wants.{WantsAnswer}
 use Rattle.relay_http.proofs.Failing.{fails_head, fails_framing, fails_memory}
 use Rattle.req_view.specs.Answer.{Answer, answer_of}
 use Rattle.req_view.specs.AnswerHeads.{NeverHasAnswer}
@@ -32,9 +33,9 @@ pub fails_unseen : {a : Ends} {p : Pipe} {s w : Stream} {text : List ℕ} (metho
     (why : Fault)
     → AreInterims method hs → length hs ≡ count → other ≡ method → held ≡ p.inbox → NoneStands other count held why
     → Moves a (ends p s w) (print_heads hs) text
-    → Fails a (ends p s w) (print_heads hs) text (LacksAnswer method) why
+    → Fails a (ends p s w) (print_heads hs) text (LacksAnswer method) (WantsAnswer method) why
 fails_unseen {p = p} method other hs count held Faulty.Head are len same all none so_far =
-    fails_head (LacksAnswer method) so_far (record {
+    fails_head (LacksAnswer method) (WantsAnswer method) so_far (record {
       interims = hs;
       are = are;
       rest = p.inbox;
@@ -54,8 +55,9 @@ fails_unseen {p = p} method other hs count held Faulty.Framing are len same all 
       | inr many ↦ ninth_here method hs h says.rest are (omega (arith, len, many.2))
           (record { head = is; planned = subst (λ (o : Option Plan). IsSome o) planned many.0; interim = sym status ∙ many.1 })
     ] in
-    fails_framing (LacksAnswer method) so_far (subst (λ (l : List ℕ). LacksAnswer method Faulty.Framing l) whole bad)
-fails_unseen method other hs count held Faulty.NoMemory are len same all none so_far = fails_memory (LacksAnswer method) so_far tt
+    fails_framing (LacksAnswer method) (WantsAnswer method) so_far (subst (λ (l : List ℕ). LacksAnswer method Faulty.Framing l) whole bad)
+fails_unseen method other hs count held Faulty.NoMemory are len same all none so_far =
+    fails_memory (LacksAnswer method) (WantsAnswer method) so_far tt
 fails_unseen method other hs count held Faulty.Read are len same all none so_far = absurd none
 fails_unseen method other hs count held Faulty.Write are len same all none so_far = absurd none
 fails_unseen method other hs count held Faulty.Turns are len same all none so_far = absurd none

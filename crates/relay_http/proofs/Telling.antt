@@ -11,21 +11,22 @@ use Rattle.http_texts.specs.declared.fault.Fault.{Fault}
 use Rattle.http_texts.specs.declared.fault.Fault.TheVariants as Faulty
 use Rattle.http_bodies.specs.Steps.{Ends, Moves}
 use Rattle.std.specs.Io.KnownBytes.{IsAtEnd}
-use Rattle.exchange_machine.specs.Requests.{LacksHead}
+use Rattle.exchange_machine.specs.Requests.{LacksHead, MayCome}
 use Rattle.exchange_machine.specs.Stages.{IsAsking}
 use Rattle.exchange_machine.specs.Wholes.{begun}
 use Rattle.exchange_machine.specs.declared.asking.Asking.{Asking}
 use Rattle.relay_http.specs.Failures.{Fails}
 use Rattle.relay_http.proofs.Failing.{fails_head, fails_framing, fails_memory, fails_end}
-use Rattle.req_view.specs.Heads.{HasNoHead}
+use Rattle.req_view.specs.Heads.{HasNoHead, Waits}
 use Rattle.req_view.specs.Request.{Request}
 
 -- the machine's history of the bytes that it has
-pub asking_of : (a : Asking) → HasNoHead a.held.items → IsAsking a (begun a.held.items)
-asking_of a none = record {
+pub asking_of : (a : Asking) → HasNoHead a.held.items → MayCome Waits a.held.items → IsAsking a (begun a.held.items)
+asking_of a none may = record {
   fresh = record { unsent = record { server = refl; answer = refl }; silent = refl; grants = refl; posts = refl; untried = refl };
   held = refl;
   none = none;
+  may = may;
 }
 
 -- what is told now
@@ -75,10 +76,10 @@ pub is_some : (r s : Request) (framing : Framing) → s ≡ r → request_framin
 is_some r s framing same is = subst (λ (o : Option Framing). IsSome o) (sym (ap request_framing same ∙ is)) refl
 
 -- a head is wanting
-pub fails_lacking : {a b : Ends} (fault : Fault) → Moves a b [] [] → LacksHead fault b.pipe.inbox → Fails a b [] [] LacksRequest fault
-fails_lacking Faulty.Head so_far why = fails_head LacksRequest so_far why
-fails_lacking Faulty.Framing so_far why = fails_framing LacksRequest so_far why
-fails_lacking Faulty.NoMemory so_far why = fails_memory LacksRequest so_far tt
+pub fails_lacking : {a b : Ends} (fault : Fault) → Moves a b [] [] → LacksHead fault b.pipe.inbox → Fails a b [] [] LacksRequest HasNoHead fault
+fails_lacking Faulty.Head so_far why = fails_head LacksRequest HasNoHead so_far why
+fails_lacking Faulty.Framing so_far why = fails_framing LacksRequest HasNoHead so_far why
+fails_lacking Faulty.NoMemory so_far why = fails_memory LacksRequest HasNoHead so_far tt
 fails_lacking Faulty.Read so_far why = absurd why
 fails_lacking Faulty.Write so_far why = absurd why
 fails_lacking Faulty.Turns so_far why = absurd why
@@ -86,11 +87,11 @@ fails_lacking Faulty.Closed so_far why = absurd why
 
 -- at the input's end
 pub fails_ended : {a b : Ends} (fault : Fault) → Moves a b [] [] → IsAtEnd b.source.bytes → LacksRequest fault b.pipe.inbox
-    → Fails a b [] [] LacksRequest fault
-fails_ended Faulty.Head so_far end why = fails_head LacksRequest so_far why
-fails_ended Faulty.Framing so_far end why = fails_framing LacksRequest so_far why
-fails_ended Faulty.NoMemory so_far end why = fails_memory LacksRequest so_far tt
-fails_ended Faulty.Read so_far end why = fails_end LacksRequest so_far end why
+    → Fails a b [] [] LacksRequest HasNoHead fault
+fails_ended Faulty.Head so_far end why = fails_head LacksRequest HasNoHead so_far why
+fails_ended Faulty.Framing so_far end why = fails_framing LacksRequest HasNoHead so_far why
+fails_ended Faulty.NoMemory so_far end why = fails_memory LacksRequest HasNoHead so_far tt
+fails_ended Faulty.Read so_far end why = fails_end LacksRequest HasNoHead so_far end why
 fails_ended Faulty.Write so_far end why = absurd why
 fails_ended Faulty.Turns so_far end why = absurd why
 fails_ended Faulty.Closed so_far end why = absurd why

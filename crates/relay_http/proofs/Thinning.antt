@@ -45,11 +45,12 @@ thin {text = text} same none left x =
       writes = appends_as text same.writer0 same.writer p.writes;
     }
 
-pub thin_fault : {a b : Ends} {r0 r w0 w : Option (List ℕ)} {used text : List ℕ} {fault : Fault} (Why : Fault → List ℕ → Type 0) → Same a b r0 r w0 w
+pub thin_fault : {a b : Ends} {r0 r w0 w : Option (List ℕ)} {used text : List ℕ} {fault : Fault} (Why : Fault → List ℕ → Type 0)
+    (Wants : List ℕ → Type 0) → Same a b r0 r w0 w
     → a.pipe.outbox ≡ []
-    → Fails a b used text Why fault → Misses a.pipe.inbox r0 r w0 w used text Why fault
-thin_fault Why same none x =
-    let p = misses_of Why none x in record {
+    → Fails a b used text Why Wants fault → Misses a.pipe.inbox r0 r w0 w used text Why Wants fault
+thin_fault Why Wants same none x =
+    let p = misses_of Why Wants none x in record {
       taken = p.taken;
       reads = consumes_as p.taken same.reader0 same.reader p.reads;
       rest = p.rest;
@@ -59,6 +60,7 @@ thin_fault Why same none x =
       writes = appends_as p.front same.writer0 same.writer p.writes;
       text_is = p.text_is;
       why = p.why;
+      undone = p.undone;
     }
 
 -- a stream of which only the bytes matter
@@ -80,13 +82,13 @@ thin_read (Ok v) p q s t r0 r e f none left x = (
 )
 thin_read (Err fault) p q s t r0 r e f none left x = tt
 
-pub thin_read_fault : (result : Result Request Fault) (Why : Fault → List ℕ → Type 0) (p q : Pipe) (s t : Stream) (r0 r : Option (List ℕ)) → s.bytes ≡ r0
+pub thin_read_fault : (result : Result Request Fault) (Why : Fault → List ℕ → Type 0) (Wants : List ℕ → Type 0) (p q : Pipe) (s t : Stream) (r0 r : Option (List ℕ)) → s.bytes ≡ r0
     → t.bytes ≡ r
-    → p.outbox ≡ [] → ((w : Stream) → IfErr result (Fails (ends p s w) (ends q t w) [] [] Why)) → (w : Option (List ℕ))
-    → IfErr result (Misses p.inbox r0 r w w [] [] Why)
-thin_read_fault (Ok v) Why p q s t r0 r e f none x w = tt
-thin_read_fault (Err fault) Why p q s t r0 r e f none x w =
-    thin_fault Why (record { reader0 = e; reader = f; writer0 = refl; writer = refl }) none (x (silent s w))
+    → p.outbox ≡ [] → ((w : Stream) → IfErr result (Fails (ends p s w) (ends q t w) [] [] Why Wants)) → (w : Option (List ℕ))
+    → IfErr result (Misses p.inbox r0 r w w [] [] Why Wants)
+thin_read_fault (Ok v) Why Wants p q s t r0 r e f none x w = tt
+thin_read_fault (Err fault) Why Wants p q s t r0 r e f none x w =
+    thin_fault Why Wants (record { reader0 = e; reader = f; writer0 = refl; writer = refl }) none (x (silent s w))
 
 pub thin_write : {T : Type 0} (result : Result T Fault) (text : List ℕ) (p q : Pipe) (s t : Stream) (w0 w : Option (List ℕ)) → s.bytes ≡ w0 → t.bytes ≡ w
     → p.outbox ≡ [] → q.outbox ≡ [] → ((r : Stream) → OnOk result (Moves (ends p r s) (ends q r t) [] text))
@@ -95,25 +97,25 @@ thin_write (Ok v) text p q s t w0 w e f none left x r =
     thin (record { reader0 = refl; reader = refl; writer0 = e; writer = f }) none left (x (silent s r))
 thin_write (Err fault) text p q s t w0 w e f none left x r = tt
 
-pub thin_write_fault : {T : Type 0} (result : Result T Fault) (Why : Fault → List ℕ → Type 0) (text : List ℕ) (p q : Pipe) (s t : Stream)
+pub thin_write_fault : {T : Type 0} (result : Result T Fault) (Why : Fault → List ℕ → Type 0) (Wants : List ℕ → Type 0) (text : List ℕ) (p q : Pipe) (s t : Stream)
     (w0 w : Option (List ℕ))
-    → s.bytes ≡ w0 → t.bytes ≡ w → p.outbox ≡ [] → ((r : Stream) → IfErr result (Fails (ends p r s) (ends q r t) [] text Why))
-    → (r : Option (List ℕ)) → IfErr result (Misses p.inbox r r w0 w [] text Why)
-thin_write_fault (Ok v) Why text p q s t w0 w e f none x r = tt
-thin_write_fault (Err fault) Why text p q s t w0 w e f none x r =
-    thin_fault Why (record { reader0 = refl; reader = refl; writer0 = e; writer = f }) none (x (silent s r))
+    → s.bytes ≡ w0 → t.bytes ≡ w → p.outbox ≡ [] → ((r : Stream) → IfErr result (Fails (ends p r s) (ends q r t) [] text Why Wants))
+    → (r : Option (List ℕ)) → IfErr result (Misses p.inbox r r w0 w [] text Why Wants)
+thin_write_fault (Ok v) Why Wants text p q s t w0 w e f none x r = tt
+thin_write_fault (Err fault) Why Wants text p q s t w0 w e f none x r =
+    thin_fault Why Wants (record { reader0 = refl; reader = refl; writer0 = e; writer = f }) none (x (silent s r))
 
-pub thin_both_fault : {T : Type 0} (result : Result T Fault) (Part : List ℕ → List ℕ → Type 0) (Why : Fault → List ℕ → Type 0) (a b : Ends)
+pub thin_both_fault : {T : Type 0} (result : Result T Fault) (Part : List ℕ → List ℕ → Type 0) (Why : Fault → List ℕ → Type 0) (Wants : List ℕ → Type 0) (a b : Ends)
     (r0 r w0 w : Option (List ℕ))
     → a.source.bytes ≡ r0 → b.source.bytes ≡ r → a.sink.bytes ≡ w0 → b.sink.bytes ≡ w → a.pipe.outbox ≡ []
-    → IfErr result (λ fault. (x : List ℕ) × (y : List ℕ) × Part x y × Fails a b x y Why fault)
-    → IfErr result (λ fault. (x : List ℕ) × (y : List ℕ) × Part x y × Misses a.pipe.inbox r0 r w0 w x y Why fault)
-thin_both_fault (Ok v) Part Why a b r0 r w0 w e0 e f0 f none x = tt
-thin_both_fault (Err fault) Part Why a b r0 r w0 w e0 e f0 f none x = (
+    → IfErr result (λ fault. (x : List ℕ) × (y : List ℕ) × Part x y × Fails a b x y Why Wants fault)
+    → IfErr result (λ fault. (x : List ℕ) × (y : List ℕ) × Part x y × Misses a.pipe.inbox r0 r w0 w x y Why Wants fault)
+thin_both_fault (Ok v) Part Why Wants a b r0 r w0 w e0 e f0 f none x = tt
+thin_both_fault (Err fault) Part Why Wants a b r0 r w0 w e0 e f0 f none x = (
   x.0,
   x.1,
   x.2,
-  thin_fault Why (record { reader0 = e0; reader = e; writer0 = f0; writer = f }) none x.3,
+  thin_fault Why Wants (record { reader0 = e0; reader = e; writer0 = f0; writer = f }) none x.3,
 )
 
 pub thin_answer : {T : Type 0} (result : Result T Fault) (method : List ℕ) (framed : Bool) (a b : Ends) (r0 r w0 w : Option (List ℕ))

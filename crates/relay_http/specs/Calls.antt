@@ -12,6 +12,7 @@ use Rattle.http_texts.specs.Messages.{IsForwarded, PartOfForwarded, LacksForward
 use Rattle.http_texts.specs.Messages.PartOfAnswered.{some_heads, head_and_body}
 use Rattle.http_texts.specs.Texts.{answer_text, framed_for, unnamed}
 use Rattle.relay_http.specs.Failures.{Conveys, Misses}
+use Rattle.relay_http.specs.Wants.{WantsBody, WantsAnswer}
 use Rattle.req_view.specs.Answer.{answer_of}
 use Rattle.req_view.specs.Request.{Request}
 
@@ -22,7 +23,8 @@ Forwards view held rest r0 r w0 w = (used : List ℕ) × (text : List ℕ) × Is
 -- a fault was met before it was
 abbrev pub FailsToForward : Request → List ℕ → Option (List ℕ) → Option (List ℕ) → Option (List ℕ) → Option (List ℕ) → Fault → Type 0
 FailsToForward view held r0 r w0 w fault =
-    (used : List ℕ) × (text : List ℕ) × PartOfForwarded (unnamed Close) view used text × Misses held r0 r w0 w used text (LacksForwarded view) fault
+    (used : List ℕ) × (text : List ℕ) × PartOfForwarded (unnamed Close) view used text × Misses held r0 r w0 w used text (LacksForwarded view)
+    (WantsBody view) fault
 
 -- the answer was handed on: it is what was read, and its text was written
 abbrev pub Answers : Request → List ℕ → Option (List ℕ) → Option (List ℕ) → Option (List ℕ) → Option (List ℕ) → Type 0
@@ -35,7 +37,7 @@ Answers view rest r0 r w0 w =
 abbrev pub FailsToAnswer : Request → Option (List ℕ) → Option (List ℕ) → Option (List ℕ) → Option (List ℕ) → Fault → Type 0
 FailsToAnswer view r0 r w0 w fault =
     (used : List ℕ) × (text : List ℕ) × PartOfAnswered Close view.method (framed_for view.version) used text
-    × Misses [] r0 r w0 w used text (LacksAnswer view.method) fault
+    × Misses [] r0 r w0 w used text (LacksAnswer view.method) (WantsAnswer view.method) fault
 
 -- what a part of an answer becomes up to the answer's own head
 abbrev pub before_head : {says : Persistence} {method : List ℕ} {framed : Bool} {used text : List ℕ} → PartOfAnswered says method framed used text → List ℕ

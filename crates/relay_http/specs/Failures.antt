@@ -1,5 +1,5 @@
 -- Steps of a pipe that end in a fault, and the side where it arose.
-use Rattle.std.specs.Prelude.{◌≡◌, ℕ, ◌+◌, ◌⊎◌, List, ◌++◌, Option}
+use Rattle.std.specs.Prelude.{◌≡◌, ℕ, ◌+◌, ◌<◌, ◌⊎◌, List, ◌++◌, length, Option}
 use Rattle.std.specs.Io.KnownBytes.{Appends, Consumes, IsAtEnd}
 use Rattle.http_bodies.specs.Steps.{Ends, Reads}
 use Rattle.http_bodies.specs.Texts.{WritesFront}
@@ -29,14 +29,16 @@ abbrev pub NoCause : Fault → List ℕ → Type 0
 NoCause fault input = ⊥
 
 -- A fault was met. `used` stands at the front of what was held and read. A front of what waited and
--- of the text was written.
-pub record Fails (old new : Ends) (used text : List ℕ) (Why : Fault → List ℕ → Type 0) (fault : Fault) : Type 0 where
+-- of the text was written. Where the turns were spent, some of these wasn't written, or Wants says of
+-- what was held and read that more is wanted.
+pub record Fails (old new : Ends) (used text : List ℕ) (Why : Fault → List ℕ → Type 0) (Wants : List ℕ → Type 0) (fault : Fault) : Type 0 where
   pub taken : List ℕ
   pub reads : Reads old new taken
   pub rest : List ℕ
   pub held : old.pipe.inbox ++ taken ≡ used ++ rest
   pub writes : WritesFront old.sink new.sink (old.pipe.outbox ++ text)
   pub blames : Blames old new Why (old.pipe.inbox ++ taken) fault
+  pub undone : fault ≡ Turns → (0 < length writes.rest) ⊎ Wants (old.pipe.inbox ++ taken)
 
 -- the meaning of the fault for the input, where the fault is one of the bytes, or whether it can be met at all
 abbrev pub Explains : (Fault → List ℕ → Type 0) → Fault → List ℕ → Type 0
@@ -56,8 +58,10 @@ pub record Conveys (held rest : List ℕ) (r0 r w0 w : Option (List ℕ)) (used 
   pub all : held ++ taken ≡ used ++ rest
   pub writes : Appends w0 w text
 
--- A fault was met: `used` stands at the front of what was held and read, and a front of the text was written.
-pub record Misses (held : List ℕ) (r0 r w0 w : Option (List ℕ)) (used text : List ℕ) (Why : Fault → List ℕ → Type 0) (fault : Fault) : Type 0 where
+-- A fault was met: `used` stands at the front of what was held and read, and a front of the text was
+-- written; where the turns were spent, not all of it, or more is wanted.
+pub record Misses (held : List ℕ) (r0 r w0 w : Option (List ℕ)) (used text : List ℕ) (Why : Fault → List ℕ → Type 0) (Wants : List ℕ → Type 0)
+    (fault : Fault) : Type 0 where
   pub taken : List ℕ
   pub reads : Consumes r0 r taken
   pub rest : List ℕ
@@ -67,6 +71,7 @@ pub record Misses (held : List ℕ) (r0 r w0 w : Option (List ℕ)) (used text :
   pub writes : Appends w0 w front
   pub text_is : text ≡ front ++ left
   pub why : Explains Why fault (held ++ taken)
+  pub undone : fault ≡ Turns → (0 < length left) ⊎ Wants (held ++ taken)
 
 -- a front of the text was written
 pub record WrotePrefix (w0 w : Option (List ℕ)) (text : List ℕ) : Type 0 where

@@ -3,3 +3,4 @@ pub mod Askings
 pub mod Calls
 pub mod Failures
 pub mod States
+pub mod Wants

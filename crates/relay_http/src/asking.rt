@@ -1,5 +1,6 @@
-ghost use Rattle.std.specs.Prelude.{◌≡◌, ℕ, List, ◌+◌, ◌^◌, ◌<◌, [], IfOk, OnOk, IfErr, OnErr, IsSome, Option};
-ghost use Rattle.req_view.specs.Heads.{HasHead};
+ghost use Rattle.std.specs.Prelude.{◌≡◌, ℕ, List, ◌+◌, ◌^◌, ◌<◌, [], IfOk, OnOk, IfErr, OnErr, IsSome, Option, ◌⊎◌};
+ghost use Rattle.exchange_machine.specs.Requests.{MayCome};
+ghost use Rattle.req_view.specs.Heads.{HasHead, HasNoHead, Waits};
 ghost use Rattle.base_streams.specs.Streams.{Stream};
 ghost use Rattle.httparse.specs.Grammar.{RequestHead, print_request};
 ghost use Rattle.http_bodies.specs.Steps.{ends, Moves};
@@ -33,13 +34,16 @@ pub(crate) fn read_request<S: Source>(
     requires { (S.stream source.old).calls + pipe.old.turns < 2 ^ 64 }
     ensures ok { IfOk result (λ view. (h : RequestHead) × IsRequest h × (view ≡ request_of h) × IsSome (framings.request_framing view)
         × ((w : Stream) → Moves (ends pipe.old (S.stream source.old) w) (ends pipe.new (S.stream source.new) w) (print_request h) [])) }
-    ensures err { (w : Stream) → IfErr result (Fails (ends pipe.old (S.stream source.old) w) (ends pipe.new (S.stream source.new) w) [] [] LacksRequest) }
+    ensures err { (w : Stream) → IfErr result (Fails (ends pipe.old (S.stream source.old) w) (ends pipe.new (S.stream source.new) w) [] [] LacksRequest HasNoHead) }
     ensures kept { (w : Option (List ℕ))
         → OnErr result (Conveys pipe.old.inbox pipe.new.inbox (S.stream source.old).bytes (S.stream source.new).bytes w w [] []) }
     ensures waiting { pipe.new.outbox ≡ pipe.old.outbox }
 
     // Nothing is read where a head stands in the held bytes.
     ensures unread { OnOk result ((h : RequestHead) (rest : List ℕ) → HasHead pipe.old.inbox h rest → S.stream source.new ≡ S.stream source.old) }
+
+    // And only where a head may still come.
+    ensures needed { (S.stream source.new ≡ S.stream source.old) ⊎ MayCome Waits pipe.old.inbox }
 {
     let mut asking = Asking::new(alloc);
     'reading: loop {
@@ -64,7 +68,7 @@ fn ask(pipe: &mut Pipe, alloc: Global, asking: Asking) -> HeadProgress
     let (used, turn) = asking.head_bytes(alloc, &pipe.held()[before..]);
     match turn {
         Turn::More(more) => HeadProgress::More(more),
-        Turn::Refused(_, fault) => HeadProgress::Refused(fault),
+        Turn::Refused(fault) => HeadProgress::Refused(fault),
         Turn::Whole(waiting) => {
             let (view, behind) = waiting.parts();
             pipe.consume(before + used - behind.len());

@@ -1,6 +1,7 @@
 ghost use Rattle.std.specs.Prelude.{◌≡◌, ◌≢◌, ◌≤◌, ℕ, List, [], None, Err, IfOk, OnOk, IfErr, OnErr, IsSome, Some, IsTrue, IsFalse, false, true, Option, ◌<◌, length};
 ghost use Rattle.std.specs.Io.KnownBytes.{Appends, Keeps};
 ghost use Rattle.httparse.specs.Grammar.{RequestHead, print_request};
+ghost use Rattle.http_bodies.specs.Steps.{LacksNothing};
 ghost use Rattle.relay_http.specs.Calls.{Forwards, FailsToForward, Answers, FailsToAnswer};
 ghost use Rattle.relay_http.specs.Failures.{Conveys, Misses, NoCause, WrotePrefix};
 ghost use Rattle.http_texts.specs.Framings as framings;
@@ -8,6 +9,7 @@ ghost use Rattle.http_texts.specs.Heads.{IsRequest, LacksRequest};
 ghost use Rattle.http_texts.specs.Replies.{leave_text, refusal_text};
 ghost use Rattle.relay_http.specs.States as states;
 ghost use Rattle.relay_http.specs.States.{IsAtOrFailed, Serves};
+ghost use Rattle.req_view.specs.Heads.{HasNoHead};
 ghost use Rattle.req_view.specs.Request.{request_of};
 
 use crate::closing::Closing;
@@ -37,7 +39,7 @@ impl Exchange {
         ensures closed { self.old.stage ≡ Stage.Failed → result ≡ Err Fault.Closed }
         ensures untouched { self.old.stage ≡ Stage.Failed → (self.new ≡ self.old) × (R.remaining reader.new ≡ R.remaining reader.old) }
         ensures err { self.old.stage ≢ Stage.Failed → (w : Option (List ℕ))
-            → IfErr result (Misses self.old.pipe.inbox (R.remaining reader.old) (R.remaining reader.new) w w [] [] LacksRequest) }
+            → IfErr result (Misses self.old.pipe.inbox (R.remaining reader.old) (R.remaining reader.new) w w [] [] LacksRequest HasNoHead) }
         ensures kept { (w : Option (List ℕ))
             → OnErr result (Conveys self.old.pipe.inbox self.new.pipe.inbox (R.remaining reader.old) (R.remaining reader.new) w w [] []) }
         ensures failed { OnErr result (self.new.stage ≡ Stage.Failed) }
@@ -106,7 +108,8 @@ impl Exchange {
         ensures closed { self.old.stage ≡ Stage.Failed → result ≡ Err Fault.Closed }
         ensures untouched { self.old.stage ≡ Stage.Failed → (self.new ≡ self.old) × (W.contents writer.new ≡ W.contents writer.old) }
         ensures err { self.old.stage ≢ Stage.Failed → (r : Option (List ℕ))
-            → IfErr result (Misses self.old.pipe.inbox r r (W.contents writer.old) (W.contents writer.new) [] (leave_text view.now) NoCause) }
+            → IfErr result (Misses self.old.pipe.inbox r r (W.contents writer.old) (W.contents writer.new) [] (leave_text view.now) NoCause LacksNothing) }
+        ensures unread { self.old.stage ≢ Stage.Failed → IfErr result (λ fault. fault ≢ Fault.Read) }
         ensures held { self.new.pipe.inbox ≡ self.old.pipe.inbox }
         ensures failed { OnErr result (self.new.stage ≡ Stage.Failed) }
         ensures turns { self.new.pipe.turns ≤ self.old.pipe.turns }

@@ -1,6 +1,6 @@
 ghost use Rattle.std.specs.Prelude.{◌≡◌, ◌+◌, ◌^◌, ◌<◌, [], OnOk, IfErr};
 ghost use Rattle.base_streams.specs.Streams.{Stream};
-ghost use Rattle.http_bodies.specs.Steps.{ends, Moves};
+ghost use Rattle.http_bodies.specs.Steps.{ends, Moves, LacksNothing};
 ghost use Rattle.relay_http.specs.Failures.{Fails, NoCause};
 ghost use Rattle.http_texts.specs.Replies as replies;
 
@@ -18,7 +18,8 @@ pub(crate) fn give_leave<K: Sink>(pipe: &mut Pipe, view: &View, sink: &mut K) ->
         → OnOk result (Moves (ends pipe.old s (K.stream sink.old)) (ends pipe.new s (K.stream sink.new)) [] (replies.leave_text view.now)) }
     ensures empty { OnOk result (pipe.new.outbox ≡ []) }
     ensures err { (s : Stream)
-        → IfErr result (Fails (ends pipe.old s (K.stream sink.old)) (ends pipe.new s (K.stream sink.new)) [] (replies.leave_text view.now) NoCause) }
+        → IfErr result (Fails (ends pipe.old s (K.stream sink.old)) (ends pipe.new s (K.stream sink.new)) [] (replies.leave_text view.now) NoCause
+        LacksNothing) }
     ensures held { pipe.new.inbox ≡ pipe.old.inbox }
 {
     send_text(pipe, sink, given_leave(view))?;

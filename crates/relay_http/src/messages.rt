@@ -1,12 +1,13 @@
 ghost use Rattle.std.specs.Prelude.{◌≡◌, ◌<◌, ◌+◌, ◌^◌, ◌++◌, ℕ, List, [], IfOk, OnOk, IfErr};
 ghost use Rattle.std.specs.Io.KnownBytes.{IsAtEnd};
 ghost use Rattle.httparse.specs.Grammar.{ResponseHead, print_response};
-ghost use Rattle.http_bodies.specs.Framings.{IsBody, PartOfBody};
+ghost use Rattle.http_bodies.specs.Framings.{IsBody, PartOfBody, IsUnfinished};
 ghost use Rattle.http_bodies.specs.Steps.{ends, Countable, HoldsBack, Moves};
 ghost use Rattle.http_bodies.specs.Texts.{Wrote};
 ghost use Rattle.http_texts.specs.Emissions.{Sends, Halts};
 ghost use Rattle.relay_http.specs.Calls.{HoldsHead};
 ghost use Rattle.relay_http.specs.Failures.{Fails};
+ghost use Rattle.relay_http.specs.Wants.{WantsBody, WantsAnswer};
 ghost use Rattle.http_texts.specs.Messages as messages;
 ghost use Rattle.http_texts.specs.Texts.{answer_text, interim_text, framed_for, unnamed};
 ghost use Rattle.req_view.specs.Answer.{answer_of};
@@ -41,7 +42,7 @@ pub(crate) fn forward_request<S: Source, K: Sink>(
     ensures empty { OnOk result (pipe.new.outbox ≡ []) }
     ensures err { IfErr result (λ fault. (used : List ℕ) × (text : List ℕ) × messages.PartOfForwarded (unnamed Persistence.Close) view.now used text
         × Fails (ends pipe.old (S.stream source.old) (K.stream sink.old)) (ends pipe.new (S.stream source.new) (K.stream sink.new)) used text
-        (messages.LacksForwarded view.now) fault
+        (messages.LacksForwarded view.now) (WantsBody view.now) fault
         × (fault ≡ Fault.Framing → HoldsBack (ends pipe.old (S.stream source.old) (K.stream sink.old)) (ends pipe.new (S.stream source.new) (K.stream sink.new))
         text)) }
 {
@@ -76,7 +77,7 @@ pub(crate) fn forward_answer<S: Source, K: Sink>(
     ensures err { IfErr result (λ fault. (used : List ℕ) × (text : List ℕ)
         × (part : messages.PartOfAnswered Persistence.Close view.now.method (framed_for view.now.version) used text)
         × Fails (ends pipe.old (S.stream source.old) (K.stream sink.old)) (ends pipe.new (S.stream source.new) (K.stream sink.new)) used text
-        (messages.LacksAnswer view.now.method) fault
+        (messages.LacksAnswer view.now.method) (WantsAnswer view.now.method) fault
         × (fault ≡ Fault.Framing → pipe.old.inbox ≡ [] → pipe.old.outbox ≡ []
         → HoldsHead (S.stream source.old) (S.stream source.new) (K.stream sink.old) (K.stream sink.new) part)) }
 {
@@ -101,7 +102,8 @@ fn forward_planned<S: Source, K: Sink>(
     ensures empty { OnOk result (pipe.new.outbox ≡ []) }
     ensures err { IfErr result (λ fault. (body : List ℕ) × (sent_on : List ℕ) × PartOfBody planned.now.plan.body framed body sent_on
         × Fails (ends pipe.old (S.stream source.old) (K.stream sink.old)) (ends pipe.new (S.stream source.new) (K.stream sink.new)) body
-        (answer_text Persistence.Close framed planned.now.head planned.now.plan ++ sent_on) (messages.NoBody planned.now.plan.body) fault
+        (answer_text Persistence.Close framed planned.now.head planned.now.plan ++ sent_on) (messages.NoBody planned.now.plan.body)
+        (IsUnfinished planned.now.plan.body) fault
         × (fault ≡ Fault.Framing → HoldsBack (ends pipe.old (S.stream source.old) (K.stream sink.old)) (ends pipe.new (S.stream source.new) (K.stream sink.new))
         (answer_text Persistence.Close framed planned.now.head planned.now.plan ++ sent_on))) }
 {
@@ -134,7 +136,7 @@ fn read_answer<S: Source, K: Sink>(
     ensures empty { OnOk result (pipe.old.outbox ≡ [] → pipe.new.outbox ≡ []) }
     ensures err { IfErr result (λ fault. (hs : List ResponseHead) × messages.AreInterims view.now.method hs
         × Fails (ends pipe.old (S.stream source.old) (K.stream sink.old)) (ends pipe.new (S.stream source.new) (K.stream sink.new))
-        (messages.print_heads hs) (messages.interims_text (framed_for view.now.version) hs) (messages.LacksAnswer view.now.method) fault
+        (messages.print_heads hs) (messages.interims_text (framed_for view.now.version) hs) (messages.LacksAnswer view.now.method) (WantsAnswer view.now.method) fault
         × (fault ≡ Fault.Framing → pipe.old.outbox ≡ []
         → Wrote (K.stream sink.old) (K.stream sink.new) (messages.interims_text (framed_for view.now.version) hs))) }
 {

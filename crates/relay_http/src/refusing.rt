@@ -24,6 +24,7 @@ impl Exchange {
         ensures held { self.old.refused ≡ None → self.new.pipe.inbox ≡ [] }
         ensures stage { self.new.stage ≡ Stage.Failed }
         ensures turns { self.old.refused ≡ None → self.new.pipe.turns ≤ length (refusal_text code) }
+        ensures spent { self.old.refused ≡ None → (K.stream sink.new).calls + self.new.pipe.turns ≡ (K.stream sink.old).calls + length (refusal_text code) }
         ensures same_sink { (K.stream sink.new).name ≡ (K.stream sink.old).name }
         ensures most { self.new.most ≡ self.old.most }
         ensures marks { Marks (K.stream sink.old) (K.stream sink.new) self.old.begun self.new.begun }

@@ -1,10 +1,12 @@
-ghost use Rattle.std.specs.Prelude.{◌≡◌, ◌≢◌, ◌+◌, ◌^◌, ◌<◌, ◌≤◌, ℕ, Bool, ◌||◌, nat_lt, List, [], Err, IfOk, OnOk, IfErr, OnErr, IsSome, Some, IsTrue, Option};
+ghost use Rattle.std.specs.Prelude.{◌≡◌, ◌≢◌, ◌+◌, ◌^◌, ◌<◌, ◌≤◌, ℕ, Bool, ◌||◌, nat_lt, List, [], Err, IfOk, OnOk, IfErr, OnErr, IsSome, Some, IsTrue, Option, ◌⊎◌};
 ghost use Rattle.std.specs.Io.KnownBytes.{IsAtEnd};
+ghost use Rattle.exchange_machine.specs.Requests.{MayCome};
 ghost use Rattle.base_streams.specs.Streams.{Stream};
 ghost use Rattle.httparse.specs.Grammar.{RequestHead, print_request};
-ghost use Rattle.http_bodies.specs.Steps.{ends, Countable, HoldsBack, Moves};
+ghost use Rattle.http_bodies.specs.Steps.{ends, Countable, HoldsBack, Moves, LacksNothing};
 ghost use Rattle.relay_http.specs.Calls.{HoldsHead};
 ghost use Rattle.relay_http.specs.Failures.{Conveys, Fails, NoCause};
+ghost use Rattle.relay_http.specs.Wants.{WantsBody, WantsAnswer};
 ghost use Rattle.http_texts.specs.Framings as framings;
 ghost use Rattle.http_texts.specs.Heads.{IsRequest, LacksRequest};
 ghost use Rattle.http_texts.specs.Messages as messages;
@@ -12,6 +14,7 @@ ghost use Rattle.http_texts.specs.Replies.{leave_text};
 ghost use Rattle.relay_http.specs.States as states;
 ghost use Rattle.relay_http.specs.States.{IsAtOrFailed, Serves, emptied, Marks};
 ghost use Rattle.http_texts.specs.Texts.{framed_for, unnamed};
+ghost use Rattle.req_view.specs.Heads.{HasNoHead, Waits};
 ghost use Rattle.req_view.specs.Request.{request_of};
 
 use crate::asking::read_request;
@@ -41,7 +44,7 @@ impl Exchange {
         ensures closed { self.old.stage ≡ Stage.Failed → result ≡ Err Fault.Closed }
         ensures untouched { self.old.stage ≡ Stage.Failed → (self.new ≡ self.old) × (S.stream source.new ≡ S.stream source.old) }
         ensures err { self.old.stage ≢ Stage.Failed → (w : Stream)
-            → IfErr result (Fails (ends self.old.pipe (S.stream source.old) w) (ends self.new.pipe (S.stream source.new) w) [] [] LacksRequest) }
+            → IfErr result (Fails (ends self.old.pipe (S.stream source.old) w) (ends self.new.pipe (S.stream source.new) w) [] [] LacksRequest HasNoHead) }
         ensures kept { (w : Option (List ℕ))
             → OnErr result (Conveys self.old.pipe.inbox self.new.pipe.inbox (S.stream source.old).bytes (S.stream source.new).bytes w w [] []) }
         ensures failed { OnErr result (self.new.stage ≡ Stage.Failed) }
@@ -54,6 +57,7 @@ impl Exchange {
         ensures closes { self.old.stage ≢ Stage.Failed → IfErr result (λ fault. self.new.closing ≡ Some (Closing.Reading fault)) }
         ensures unclosed { OnOk result (self.new.closing ≡ self.old.closing) }
         ensures refused { self.new.refused ≡ self.old.refused }
+        ensures needed { (S.stream source.new ≡ S.stream source.old) ⊎ MayCome Waits self.old.pipe.inbox }
     {
         if self.is_closed() {
             return Err(Fault::Closed);
@@ -82,7 +86,8 @@ impl Exchange {
         ensures closed { self.old.stage ≡ Stage.Failed → result ≡ Err Fault.Closed }
         ensures untouched { self.old.stage ≡ Stage.Failed → (self.new ≡ self.old) × (K.stream sink.new ≡ K.stream sink.old) }
         ensures err { self.old.stage ≢ Stage.Failed → (s : Stream)
-            → IfErr result (Fails (ends self.old.pipe s (K.stream sink.old)) (ends self.new.pipe s (K.stream sink.new)) [] (leave_text view.now) NoCause) }
+            → IfErr result (Fails (ends self.old.pipe s (K.stream sink.old)) (ends self.new.pipe s (K.stream sink.new)) [] (leave_text view.now) NoCause LacksNothing) }
+        ensures unread { self.old.stage ≢ Stage.Failed → IfErr result (λ fault. fault ≢ Fault.Read) }
         ensures held { self.new.pipe.inbox ≡ self.old.pipe.inbox }
         ensures failed { OnErr result (self.new.stage ≡ Stage.Failed) }
         ensures turns { self.new.pipe.turns ≤ self.old.pipe.turns }
@@ -128,7 +133,7 @@ impl Exchange {
         ensures err { self.old.stage ≢ Stage.Failed
             → IfErr result (λ fault. (used : List ℕ) × (text : List ℕ) × messages.PartOfForwarded (unnamed Persistence.Close) view.now used text
             × Fails (ends self.old.pipe (S.stream source.old) (K.stream sink.old)) (ends self.new.pipe (S.stream source.new) (K.stream sink.new)) used text
-            (messages.LacksForwarded view.now) fault
+            (messages.LacksForwarded view.now) (WantsBody view.now) fault
             × (fault ≡ Fault.Framing → HoldsBack (ends self.old.pipe (S.stream source.old) (K.stream sink.old)) (ends self.new.pipe (S.stream source.new)
             (K.stream sink.new)) text)) }
         ensures held { self.old.stage ≢ Stage.Failed → OnErr result (self.new.pipe.inbox ≡ []) }
@@ -186,7 +191,7 @@ impl Exchange {
         ensures err { self.old.stage ≢ Stage.Failed → IfErr result (λ fault. (used : List ℕ) × (text : List ℕ)
             × (part : messages.PartOfAnswered Persistence.Close view.now.method (framed_for view.now.version) used text)
             × Fails (ends (emptied self.old.pipe) (S.stream source.old) (K.stream sink.old)) (ends self.new.pipe (S.stream source.new)
-            (K.stream sink.new)) used text (messages.LacksAnswer view.now.method) fault
+            (K.stream sink.new)) used text (messages.LacksAnswer view.now.method) (WantsAnswer view.now.method) fault
             × (fault ≡ Fault.Framing → HoldsHead (S.stream source.old) (S.stream source.new) (K.stream sink.old) (K.stream sink.new) part)) }
         ensures held { self.old.stage ≢ Stage.Failed → OnErr result (self.new.pipe.inbox ≡ []) }
         ensures failed { OnErr result (self.new.stage ≡ Stage.Failed) }

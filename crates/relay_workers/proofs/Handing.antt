@@ -1,5 +1,6 @@
 -- What was read and written while a request was handed on, call after call; and one client's end after the others'.
 use Rattle.std.proofs.Common.{◌≡◌, ℕ, List, [], ◌∷◌, ◌++◌, Option, None, Some, Bool, true, false, refl, subst, sym, ◌∙◌, append-nil, ap}
+use Rattle.http_bodies.specs.Steps.{LacksNothing}
 use Rattle.http_texts.specs.Replies.{leave_text}
 use Rattle.relay_http.specs.Calls.{Forwards, FailsToForward, Answers, FailsToAnswer}
 use Rattle.relay_http.specs.Failures.{Conveys, Misses, NoCause, WrotePrefix}
@@ -49,7 +50,7 @@ module _ {C S : Type 0} (left told : C → Option (List ℕ)) (left_there told_t
 
   -- the front of the `100`
   pub leaves : {view seen : Request} {held : List ℕ} {fault : Fault} {client client_then : C} {server : S} → seen ≡ view
-      → Misses held None None (told client) (told client_then) [] (leave_text seen) NoCause fault
+      → Misses held None None (told client) (told client_then) [] (leave_text seen) NoCause LacksNothing fault
       → IsRelayed left told left_there told_there (Some (Leaving fault)) view held client client_then server server
   leaves {view} {seen} {held} {fault} {client} {client_then} {server} same is = (
     subst (λ (it : Request). WrotePrefix (told client) (told client_then) (leave_text it)) same

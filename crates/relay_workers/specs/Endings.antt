@@ -26,6 +26,7 @@ use Rattle.relay_workers.specs.Turning.{IsAnswered}
 use Rattle.relay_workers.specs.declared.outcome.Outcome.{Outcome}
 use Rattle.relay_workers.specs.declared.outcome.Outcome.TheVariants.{Answered, Refused, Cut}
 use Rattle.relay_workers.specs.Outcomes.{after_reading, after_forwarding, after_answering, after_telling}
+use Rattle.req_view.specs.Heads.{HasNoHead}
 use Rattle.req_view.specs.Request.{Request}
 
 -- the outcome for a client whose exchange was closed so
@@ -65,7 +66,7 @@ module _ {C : Type 0} (left told : C → Option (List ℕ)) where
     pub read : C
     pub between : Option (List (Notice C S))
     pub cause : ((fault : Fault) × (exchange.closing ≡ Some (Reading fault)) × (outcome ≡ after_reading fault)
-        × Misses [] (left client) (left read) None None [] [] LacksRequest fault × (between ≡ before))
+        × Misses [] (left client) (left read) None None [] [] LacksRequest HasNoHead fault × (between ≡ before))
         ⊎ ((exchange.closing ≡ None) × (outcome ≡ Refused Unavailable)
         × ((request : Request) × (held : List ℕ) × (refusal : Refusal) × HasReadHead request held (left client) (left read)
         × WishIsTurnedAway terms setup config request refusal

@@ -1,4 +1,4 @@
-ghost use Rattle.std.specs.Prelude.{◌≡◌, ◌≢◌, ◌<◌, ℕ, IfOk, OnOk, IfErr, Ok, None, false};
+ghost use Rattle.std.specs.Prelude.{◌≡◌, ◌≢◌, ◌<◌, ◌≤◌, ℕ, IfOk, OnOk, IfErr, Ok, None, false};
 ghost use Rattle.log_entries.specs.declared.refusal.Refusal.TheVariants.{NoSuchServer};
 ghost use Rattle.relay_http.specs.Askings.{HasReadHead};
 ghost use Rattle.relay_http.specs.States.{IsFresh, IsOpen};
@@ -77,6 +77,7 @@ pub fn admit<R: Wait, N: DeskName, G: Gate + Drop>(
     ensures told { IfErr result (λ outcome. IsTurnedAway G.Client.remaining G.Client.contents N.terms N.setup proxy.now.config runner.new.exchange outcome client (G.notes runner.old.gate) (G.notes runner.new.gate)) }
     ensures sent { IfErr result (λ outcome. IsSent runner.new.exchange outcome) }
     ensures unclosed { OnOk result (IsOpen runner.new.exchange) }
+    ensures turns { OnOk result (runner.new.exchange.pipe.turns ≤ runner.old.exchange.pipe.turns) }
     ensures most { runner.new.exchange.most ≡ runner.old.exchange.most }
 {
     let mut client = client;
@@ -200,6 +201,7 @@ pub(crate) fn answer_refusal<W: Write>(
     ensures cut { outcome ≡ Cut → exchange.new ≡ exchange.old }
     ensures told { IsToldOutcome W.contents exchange.new result client.old client.new }
     ensures closing { exchange.new.closing ≡ exchange.old.closing }
+    ensures turns { exchange.new.refused ≡ None → exchange.new.pipe.turns ≤ exchange.old.pipe.turns }
     ensures most { exchange.new.most ≡ exchange.old.most }
 {
     if let Outcome::Refused(code) = outcome {

@@ -1,4 +1,4 @@
-ghost use Rattle.std.specs.Prelude.{◌≡◌, ℕ, List, [], ◌∷◌, Ok, None, Some, IfOk, IfErr, OnOk, OnErr, IfSome, IfNone, ◌↔◌, Option, false};
+ghost use Rattle.std.specs.Prelude.{◌≡◌, ◌≤◌, ℕ, List, [], ◌∷◌, Ok, None, Some, IfOk, IfErr, OnOk, OnErr, IfSome, IfNone, ◌↔◌, Option, false};
 ghost use Rattle.grant_board.specs.Views.{return_of};
 ghost use Rattle.relay_http.specs.declared.exchange.Stage.TheVariants as stage;
 ghost use Rattle.relay_http.specs.States.{Serves};
@@ -62,6 +62,7 @@ pub fn finish<R: Wait, N: DeskName, G: Gate + Drop>(
     ensures again { IfErr result (λ it. (it.client ≡ granted.admitted.client) × (it.at ≡ granted.admitted.at) × (it.view ≡ granted.admitted.view) × (runner.new.exchange ≡ runner.old.exchange)
         × HasTurned N.terms N.setup (noted (Posted seat.new.view) (noted (Missing granted.pass) (G.notes runner.old.gate))) (G.notes runner.new.gate)) }
     ensures same { IsSameSeat seat.old seat.new }
+    ensures turns { runner.new.exchange.refused ≡ None → runner.new.exchange.pipe.turns ≤ runner.old.exchange.pipe.turns }
     ensures most { runner.new.exchange.most ≡ runner.old.exchange.most }
 {
     let Granted { admitted, pass } = granted;
@@ -105,6 +106,7 @@ fn carry<N: DeskName, G: Gate + Drop>(
     ensures none { IfNone result (Serves pass.now.verdict × (runner.new.exchange ≡ runner.old.exchange) × (admitted.new.client ≡ admitted.old.client) × (G.notes runner.new.gate ≡ noted (Missing pass.now) (G.notes runner.old.gate))) }
     ensures relayed { IfSome result (λ outcome. IsServed G.Client.remaining G.Client.contents G.Server.remaining G.Server.contents pass.now.verdict pass.now runner.new.exchange outcome admitted.old.view runner.old.exchange.pipe.inbox admitted.old.client admitted.new.client (G.notes runner.old.gate) (G.notes runner.new.gate)) }
     ensures kept { (admitted.new.at ≡ admitted.old.at) × (admitted.new.view ≡ admitted.old.view) }
+    ensures turns { runner.new.exchange.refused ≡ None → runner.new.exchange.pipe.turns ≤ runner.old.exchange.pipe.turns }
     ensures most { runner.new.exchange.most ≡ runner.old.exchange.most }
 {
     match pass.verdict() {
@@ -136,6 +138,7 @@ fn hand_on<N: DeskName, C: Read + Write, S: Read + Write>(
     ensures handed { IsHandedOn C.remaining C.contents S.remaining S.contents exchange.new result slot.now.view.now exchange.old.pipe.inbox client.old client.new server.old server.new }
     ensures sent { IsSent exchange.new result }
     ensures answered { (result ≡ Answered) ↔ (exchange.new.stage ≡ stage.Answered) }
+    ensures turns { exchange.new.refused ≡ None → exchange.new.pipe.turns ≤ exchange.old.pipe.turns }
     ensures most { exchange.new.most ≡ exchange.old.most }
 {
     let (pass, view) = slot.parts();

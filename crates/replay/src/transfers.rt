@@ -1,4 +1,4 @@
-ghost use Rattle.std.specs.Prelude.{◌≡◌, ◌≢◌, ℕ, ◌+◌, ◌<◌, ◌≤◌, length, IfOk, IfErr, IfSome, OnOk, vec_len};
+ghost use Rattle.std.specs.Prelude.{◌≡◌, ◌≢◌, ℕ, List, ◌+◌, ◌<◌, ◌≤◌, length, Err, IfOk, IfErr, IfSome, OnOk, vec_len};
 ghost use Rattle.std.specs.Io.KnownBytes.{Appends, Consumes, IsAtEnd};
 ghost use Rattle.replay.specs.Transfers.{WritesFront, read_failures, write_failures};
 
@@ -24,6 +24,9 @@ pub(crate) fn read_whole<S: Source>(alloc: Global, source: &mut S) -> Result<Vec
     ensures short { IfOk result (λ all. vec_len all ≤ MOST_BYTES) }
     ensures too_long { IfErr result (λ fault. (line : ℕ) → fault ≡ Fault.Script line
         → (line ≡ 0) × IfSome (S.stream source.old).bytes (λ script. MOST_BYTES < length script)) }
+
+    // A read failed while the script wasn't too long yet.
+    ensures early { result ≡ Err Fault.Read → (taken : List ℕ) × Consumes (S.stream source.old).bytes (S.stream source.new).bytes taken × (length taken ≤ MOST_BYTES) }
     ensures of_reading { IfErr result (λ fault. fault ≢ Fault.Write) }
     ensures failed { (S.stream source.new).failures ≡ (S.stream source.old).failures + read_failures result }
     ensures few { (S.stream source.new).calls ≤ 4194305 }

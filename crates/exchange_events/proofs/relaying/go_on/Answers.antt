@@ -1,6 +1,8 @@
 -- What a look for the answer's head finds, and how the exchange is judged by it.
-use Rattle.std.proofs.Common.{◌≡◌, ◌≢◌, ◌∙◌, ◌⊎◌, inl, inr, [], sym}
+use Rattle.std.proofs.Common.{◌≡◌, ◌≢◌, ◌∙◌, ◌⊎◌, ℕ, inl, inr, [], sym, arith}
 use Rattle.exchange_machine.specs.declared.forwarding.Forwarding.{Forwarding}
+use Rattle.exchange_machine.specs.Findings.{HeadStands}
+use Rattle.exchange_machine.specs.declared.sides.Down.TheVariants.{Heads}
 use Rattle.exchange_machine.specs.declared.heading.Headed.TheVariants.{More, Interim, Full, Short, Refused, Answer}
 use Rattle.exchange_events.specs.Answers.{AwaitsAnswer, RelaysOn, StarvesIn}
 use Rattle.exchange_events.specs.declared.exchange.Exchange.{Exchange}
@@ -23,10 +25,13 @@ short_is_no_answer is = cc
 refused_is_no_answer : Refused ≡ Answer → ⊥
 refused_is_no_answer is = cc
 
-without_room : (p : Forwarding) (outcome : Outcome) (next : Exchange) → ((p.down.out ≢ []) × RelaysOn p outcome next) ⊎ StarvesIn p outcome next
+without_room : (p : Forwarding) (outcome : Outcome) (next : Exchange)
+    → (count : ℕ) × (p.phase ≡ Heads count) × HeadStands p.view.method count p.down_held.items
+    → ((p.down.out ≢ []) × RelaysOn p outcome next) ⊎ StarvesIn p outcome next
     → AwaitsAnswer p outcome next
-without_room p outcome next (inl waits) = inr (inl waits)
-without_room p outcome next (inr starves) = inr (inr (inr starves))
+without_room p outcome next head (inl waits) =
+    inr (inl (record { count = head.0; heads = head.1; stands = head.2; behind = waits.0; relays = waits.1 }))
+without_room p outcome next head (inr starves) = inr (inr (inr starves))
 
 pub returns-in-Answer-clause-judged : goal.returns-in-Answer-clause-judged
 returns-in-Answer-clause-judged c =
@@ -44,13 +49,13 @@ pub returns-in-Interim-clause-judged : goal.returns-in-Interim-clause-judged
 returns-in-Interim-clause-judged c =
     judged_at_head _ _ _ _ _ c.use_held.ensures.uses c.read_heads.ensures.uses
     (λ at. c.read_heads.ensures.stays (c.use_held.ensures.phase ∙ at)) (λ h is. c.read_heads.ensures.passes h (c.use_held.ensures.passes h is)) (c.read_heads.ensures.heads (λ answered. interim_is_no_answer (sym c.in-Interim.is ∙ answered)))
-    (without_room _ _ _ c.no_room.ensures.does)
+    (let few = c.read_heads.ensures.few c.in-Interim.is in absurd (omega (arith, few.4, few.5)))
 
 pub returns-in-Full-clause-judged : goal.returns-in-Full-clause-judged
 returns-in-Full-clause-judged c =
     judged_at_head _ _ _ _ _ c.use_held.ensures.uses c.read_heads.ensures.uses
     (λ at. c.read_heads.ensures.stays (c.use_held.ensures.phase ∙ at)) (λ h is. c.read_heads.ensures.passes h (c.use_held.ensures.passes h is)) (c.read_heads.ensures.heads (λ answered. full_is_no_answer (sym c.in-Full.is ∙ answered)))
-    (without_room _ _ _ c.no_room-in-Full.ensures.does)
+    (without_room _ _ _ (c.read_heads.ensures.full c.in-Full.is) c.no_room-in-Full.ensures.does)
 
 pub returns-in-Short-clause-judged : goal.returns-in-Short-clause-judged
 returns-in-Short-clause-judged c =

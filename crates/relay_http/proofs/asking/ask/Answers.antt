@@ -3,12 +3,12 @@ use Rattle.std.proofs.Common.{◌≡◌, ◌∙◌, ℕ, ◌-◌, List, ◌++◌
 use Rattle.httparse.specs.Grammar.{print_request}
 use Rattle.base_lists.proofs.Fronts.{behind}
 use Rattle.exchange_machine.specs.Histories.{client_came}
-use Rattle.exchange_machine.specs.Requests.{LacksHead}
+use Rattle.exchange_machine.specs.Requests.{LacksHead, MayCome}
 use Rattle.exchange_machine.specs.Stages.{HeadSays, IsMore, IsTurn}
 use Rattle.exchange_machine.specs.Wholes.{begun}
 use Rattle.exchange_machine.specs.declared.asking.Turn.{Turn}
 use Rattle.relay_http.proofs.Telling.{asking_of, input_is, all_told, part_told, lacks_more, told_count, is_some}
-use Rattle.req_view.specs.Heads.{HasNoHead}
+use Rattle.req_view.specs.Heads.{HasNoHead, Waits}
 use Rattle.relay_http.proofs.asking.ask.Goals as goal
 
 pub returns-in-More : goal.returns-in-More
@@ -26,11 +26,12 @@ returns-in-More c =
     let says = subst (λ (t : Turn). HeadSays t (front ++ take used input)) c.in-More.is c.head_bytes-used.ensures.says in
     let asking =
     subst (λ (t : Turn). IsTurn t (client_came (begun front) (take used input))) c.in-More.is
-    (c.head_bytes-used.ensures.turn (begun front) (asking_of c.args.asking c.requires.none)) in (
+    (c.head_bytes-used.ensures.turn (begun front) (asking_of c.args.asking c.requires.none c.requires.may)) in (
       refl,
       says.0 ∙ told,
       subst (λ (l : List ℕ). HasNoHead l) told asking.none,
       omega (arith, says.1, ap (length {A = ℕ}) told),
+      subst (λ (l : List ℕ). MayCome Waits l) told asking.may,
     )
 
 pub returns-in-Refused : goal.returns-in-Refused
@@ -55,7 +56,7 @@ overflow_sub-before c =
     let used = c.head_bytes-used.result.0 in
     let waiting =
     subst (λ (t : Turn). IsTurn t (client_came (begun front) (take used input))) c.in-Whole.is
-    (c.head_bytes-used.ensures.turn (begun front) (asking_of c.args.asking c.requires.none)) in
+    (c.head_bytes-used.ensures.turn (begun front) (asking_of c.args.asking c.requires.none c.requires.may)) in
     let asked = waiting.asked.asked in
     let count = told_count front input (print_request asked.head) c.in-Whole.waiting.asked.held.items used c.head_bytes-used.ensures.within asked.input_is in
     omega (arith, count, c.count-before.ensures, c.len.ensures, ap (length {A = ℕ}) c.parts-view.ensures.behind)
@@ -71,7 +72,7 @@ returns-in-Whole c =
     let same = input_is held inbox front c.requires.rest before c.held.ensures.value c.requires.all c.count-before.ensures in
     let waiting =
     subst (λ (t : Turn). IsTurn t (client_came (begun front) (take used input))) c.in-Whole.is
-    (c.head_bytes-used.ensures.turn (begun front) (asking_of c.args.asking c.requires.none)) in
+    (c.head_bytes-used.ensures.turn (begun front) (asking_of c.args.asking c.requires.none c.requires.may)) in
     let asked = waiting.asked.asked in
     let head = print_request asked.head in
     let rest = c.in-Whole.waiting.asked.held.items in

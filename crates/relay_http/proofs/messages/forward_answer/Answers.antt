@@ -3,12 +3,14 @@ use Rattle.std.proofs.Common.{◌≡◌, ◌∙◌, ℕ, List, ◌++◌, refl, a
 use Rattle.std.proofs.lemmas.Result.{IfErr-weaker, on_ok_weaker}
 use Rattle.httparse.specs.Grammar.{print_response}
 use Rattle.http_bodies.proofs.Exits.{at_exit}
-use Rattle.http_bodies.specs.Framings.{IsBody, PartOfBody}
+use Rattle.http_bodies.specs.Framings.{IsBody, PartOfBody, IsUnfinished}
 use Rattle.http_bodies.specs.Steps.{ends, HoldsBack}
 use Rattle.http_bodies.proofs.Stepping.{moves_trans, moves_as}
 use Rattle.http_texts.specs.Messages.{NoBody, LacksAnswer, print_heads, interims_text}
 use Rattle.http_texts.specs.Messages.PartOfAnswered.{some_heads, head_and_body}
 use Rattle.http_texts.specs.Texts.{answer_text, framed_for}
+use Rattle.relay_http.specs.Wants.{WantsAnswer}
+use Rattle.relay_http.proofs.Wanting.{body_wanted}
 use Rattle.relay_http.proofs.Failing.{moves_fails, fails_as}
 use Rattle.relay_http.proofs.Holding.{head_held}
 use Rattle.http_texts.proofs.Forwarding.{body_then}
@@ -72,8 +74,10 @@ returns-clause-err g c =
       print_heads hs ++ (print_response h ++ part.0),
       before ++ (text ++ part.1),
       head_and_body hs h plan part.0 part.1 read.2 read.3 (subst (λ b. PartOfBody plan.body b part.0 part.1) told part.2),
-      fails_as (LacksAnswer method) (append_assoc (print_heads hs) (print_response h) part.0) (ap (λ (l : List ℕ). before ++ (l ++ part.1)) same)
-          (moves_fails (NoBody plan.body) (LacksAnswer method) (λ l why. body_then method hs h plan _ l read.2 read.3 why) read.5 part.3),
+      fails_as (LacksAnswer method) (WantsAnswer method) (append_assoc (print_heads hs) (print_response h) part.0)
+          (ap (λ (l : List ℕ). before ++ (l ++ part.1)) same)
+          (moves_fails (NoBody plan.body) (LacksAnswer method) (IsUnfinished plan.body) (WantsAnswer method)
+          (λ l why. body_then method hs h plan _ l read.2 read.3 why) (λ l wants. body_wanted method hs h plan l read.2 read.3 wants) read.5 part.3),
       λ at held waits few. head_held {b = mid} {c = end} (text ++ part.1) (framed_for c.args.view.now.version) hs h held waits (c.in_ok-planned.ensures.empty waits) read.5 part.3.reads few
           (subst (λ (l : List ℕ). HoldsBack mid end (l ++ part.1)) same (part.4 at)),
     )) c.forward_planned.ensures.err

@@ -1,6 +1,6 @@
 -- The head, the body and what waits, one after the other.
 use Rattle.std.proofs.Common.{◌∙◌, [], ◌++◌, refl, sym, append-nil}
-use Rattle.http_bodies.specs.Framings.{LacksBody}
+use Rattle.http_bodies.specs.Framings.{LacksBody, IsUnfinished}
 use Rattle.http_bodies.specs.Steps.{ends}
 use Rattle.http_bodies.proofs.Exits.{at_exit}
 use Rattle.http_bodies.proofs.Stepping.{moves_trans, moves_as}
@@ -19,8 +19,8 @@ returns-in_err-put_answer-clause-err g c =
       [],
       [],
       part_none plan.body c.args.framed,
-      fails_as (NoBody plan.body) refl (sym (append-nil text))
-          (fails_put (g.S.Source.stream c.args.source.now) (NoBody plan.body) c.in_err-put_answer.ensures.err),
+      fails_as (NoBody plan.body) (IsUnfinished plan.body) refl (sym (append-nil text))
+          (fails_put (g.S.Source.stream c.args.source.now) (NoBody plan.body) (IsUnfinished plan.body) c.in_err-put_answer.ensures.err),
       λ at. absurd (halts_unframed _ c.in_err-put_answer.ensures.err at),
     )
 
@@ -33,8 +33,8 @@ returns-in_err-forward_body-clause-err g c =
       part.0,
       part.1,
       part.2,
-      moves_fails (NoBody plan.body) (NoBody plan.body) (λ l why. why) put
-          (fails_of (LacksBody plan.body) (NoBody plan.body) (λ l lacks. lacks) (λ l lacks. lacks) part.3),
+      moves_fails (NoBody plan.body) (NoBody plan.body) (IsUnfinished plan.body) (IsUnfinished plan.body) (λ l why. why) (λ l wants. wants) put
+          (fails_of (LacksBody plan.body) (NoBody plan.body) (IsUnfinished plan.body) (λ l lacks. lacks) (λ l lacks. lacks) part.3),
       λ at. puts_hold (g.S.Source.stream c.args.source.now) (ends c.forward_body.new.self (g.S.Source.stream c.forward_body.new.source) (g.K.Sink.stream c.forward_body.new.sink))
           part.1 c.in_ok-put_answer.ensures.ok (part.4 (relayed_framing _ at)),
     )
@@ -49,8 +49,8 @@ returns-in_err-send-clause-err g c =
       sent_on.0,
       sent_on.1,
       body_part plan.body c.args.framed sent_on.0 sent_on.1 sent_on.2,
-      fails_as (NoBody plan.body) refl (append-nil (text ++ sent_on.1))
-          (moves_halts (NoBody plan.body) (moves_trans put sent_on.3) c.in_err-send.ensures.err),
+      fails_as (NoBody plan.body) (IsUnfinished plan.body) refl (append-nil (text ++ sent_on.1))
+          (moves_halts (NoBody plan.body) (IsUnfinished plan.body) (moves_trans put sent_on.3) c.in_err-send.ensures.err),
       λ at. absurd (halts_unframed _ c.in_err-send.ensures.err at),
     )
 

@@ -14,6 +14,9 @@ use Rattle.http_texts.specs.declared.fault.Fault.TheVariants.{Framing, Read}
 use Rattle.http_texts.specs.declared.plans.Plan.{Plan}
 use Rattle.http_texts.proofs.Alone.{answer_alone}
 use Rattle.http_texts.proofs.Forwarding.{heads_then, interims_more, interims_text_more}
+use Rattle.http_bodies.specs.Steps.{IsAll}
+use Rattle.relay_http.specs.Wants.{WantsAnswer}
+use Rattle.relay_http.proofs.Wanting.{head_wanted}
 use Rattle.relay_http.proofs.Failing.{moves_fails, moves_put, moves_halts, fails_as, fails_plainly, fails_end, wrote_of, halts_unframed, breaks_unframed}
 use Rattle.relay_http.proofs.Seeing.{used_front, fails_unseen}
 use Rattle.req_view.specs.Answer.{Answer, answer_of}
@@ -99,7 +102,8 @@ returns-in_err-forward_before-in-Interim-clause-err g c =
     at_exit _ _ _ c.from_residual.ensures.1 (
       hs ++ h ∷ [],
       interims_more method hs h so_far.1 below is,
-      fails_as (LacksAnswer method) (flat_last print_response hs h) text (moves_halts (LacksAnswer method) read c.in_err-forward_before-in-Interim.ensures.err),
+      fails_as (LacksAnswer method) (WantsAnswer method) (flat_last print_response hs h) text
+          (moves_halts (LacksAnswer method) (WantsAnswer method) read c.in_err-forward_before-in-Interim.ensures.err),
       λ at. absurd (halts_unframed _ c.in_err-forward_before-in-Interim.ensures.err at),
     )
 
@@ -145,13 +149,15 @@ returns-in_err-came-in-More-clause-err g c =
     let so_far = c.heads.invariant in
     let hs = so_far.0 in
     let are : AreInterims method hs = record { each = so_far.1; few = omega (arith, so_far.2, so_far.3) } in
+    let none = subst (λ (l : List ℕ). HasNoAnswer l) c.held.ensures.value c.in-More.ensures.none in
     at_exit _ _ _ c.from_residual-in_err-came-in-More.ensures.1 (
       hs,
       are,
-      fails_as (LacksAnswer method) (append-nil (print_heads hs)) (append-nil (interims_text framed hs))
-          (moves_fails NoAnswer (LacksAnswer method) (λ l why. heads_then method hs _ l are why) so_far.4
-          (fails_plainly NoAnswer (c.in_err-came-in-More.ensures.err (g.K.Sink.stream c.heads.sink)))),
-      λ at. absurd (breaks_unframed _ (c.in_err-came-in-More.ensures.err (g.K.Sink.stream c.heads.sink)) at),
+      fails_as (LacksAnswer method) (WantsAnswer method) (append-nil (print_heads hs)) (append-nil (interims_text framed hs))
+          (moves_fails NoAnswer (LacksAnswer method) (IsAll c.heads.pipe.inbox) (WantsAnswer method) (λ l why. heads_then method hs _ l are why)
+          (λ l all. head_wanted method hs c.heads.pipe.inbox l are none all) so_far.4
+          (fails_plainly NoAnswer (IsAll c.heads.pipe.inbox) (c.in_err-came-in-More.ensures.err (g.K.Sink.stream c.heads.sink)))),
+      λ at. absurd (breaks_unframed (IsAll c.heads.pipe.inbox) _ (c.in_err-came-in-More.ensures.err (g.K.Sink.stream c.heads.sink)) at),
     )
 
 pub returns-then-came-eq0-clause-err : goal.returns-then-came-eq0-clause-err
@@ -167,7 +173,7 @@ returns-then-came-eq0-clause-err g c =
     moves_as (append-nil (print_heads hs)) (append-nil (interims_text framed hs)) (moves_trans so_far.4 (came.ok (g.K.Sink.stream c.heads.sink))) in (
       hs,
       are,
-      fails_end (LacksAnswer method) read (came.end c.if-came-eq0.true)
+      fails_end (LacksAnswer method) (WantsAnswer method) read (came.end c.if-came-eq0.true)
           (heads_then method hs Read c.fill.new.self.inbox are (subst (λ (l : List ℕ). HasNoAnswer l) same c.in-More.ensures.none)),
       λ at. absurd (read_not_framing at),
     )

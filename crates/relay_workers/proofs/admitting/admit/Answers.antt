@@ -9,9 +9,9 @@ from_nothing : {held rest used text : List ℕ} {r0 r w0 w : Option (List ℕ)} 
     → Conveys [] rest r0 r w0 w used text
 from_nothing {held} {rest} {used} {text} {r0} {r} {w0} {w} none is = subst (λ (it : List ℕ). Conveys it rest r0 r w0 w used text) none is
 
-misses_nothing : {held used text : List ℕ} {r0 r w0 w : Option (List ℕ)} {Why : Fault → List ℕ → Type 0} {fault : Fault} → held ≡ []
-    → Misses held r0 r w0 w used text Why fault → Misses [] r0 r w0 w used text Why fault
-misses_nothing {held} {used} {text} {r0} {r} {w0} {w} {Why} {fault} none is = subst (λ (it : List ℕ). Misses it r0 r w0 w used text Why fault) none is
+misses_nothing : {held used text : List ℕ} {r0 r w0 w : Option (List ℕ)} {Why : Fault → List ℕ → Type 0} {Wants : List ℕ → Type 0} {fault : Fault} → held ≡ []
+    → Misses held r0 r w0 w used text Why Wants fault → Misses [] r0 r w0 w used text Why Wants fault
+misses_nothing {held} {used} {text} {r0} {r} {w0} {w} {Why} {Wants} {fault} none is = subst (λ (it : List ℕ). Misses it r0 r w0 w used text Why Wants fault) none is
 
 still_new : {stage : Stage} → stage ≡ New → stage ≡ Failed → ⊥
 still_new is = λ failed. cc

@@ -1,6 +1,7 @@
 use Rattle.exchange_machine.proofs.EventLemmas.{forwarding_marked, head_refused, none_follows}
 use Rattle.std.proofs.Common.{List, ℕ, refl, subst}
-use Rattle.req_view.specs.AnswerHeads.{HasNoAnswer}
+use Rattle.exchange_machine.specs.Stages.{AwaitsAnswerHead}
+use Rattle.exchange_machine.proofs.HeadEnds.{may_come}
 use Rattle.exchange_machine.specs.Reasons.{NoneFollows}
 use Rattle.exchange_machine.proofs.forwarding.Forwarding.read_head.Goals as goal
 
@@ -20,7 +21,10 @@ returns-in-Interim-clause-headed c answered = absurd (c.forward_interim.ensures.
 
 pub returns-in-More-clause-passes : goal.returns-in-More-clause-passes
 returns-in-More-clause-passes c h is =
-    forwarding_marked c.args.self.now _ h is (λ dry count at. subst HasNoAnswer c.as_slice.ensures.value c.in-More.ensures.none) refl
+    forwarding_marked c.args.self.now _ h is (λ dry count at. subst AwaitsAnswerHead c.as_slice.ensures.value (record {
+      none = c.in-More.ensures.none;
+      may = may_come c.as_slice.result.now c.in-More.ensures;
+    })) refl
 
 pub returns-in-Final-clause-interim : goal.returns-in-Final-clause-interim
 returns-in-Final-clause-interim c interim = absurd (c.forward_final.ensures.answered.2 interim)

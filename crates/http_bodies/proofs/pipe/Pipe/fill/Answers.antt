@@ -1,9 +1,10 @@
-use Rattle.std.proofs.Common.{arith}
+use Rattle.std.proofs.Common.{arith, rules}
 use Rattle.std.proofs.lemmas.Grind.{common_steps}
+use Rattle.http_bodies.proofs.Stepping.{breaks_unasked}
 use Rattle.http_bodies.proofs.pipe.Pipe.fill.Goals as goal
 
 pub returns-then-self-eq0-clause-err : goal.returns-then-self-eq0-clause-err
-returns-then-self-eq0-clause-err g c = grind (arith, common_steps)
+returns-then-self-eq0-clause-err g c = λ w. breaks_unasked c.args.self.now (g.S.Source.stream c.args.source.now) w (search rules)
 
 pub returns-in-Ok-clause-more : goal.returns-in-Ok-clause-more
 returns-in-Ok-clause-more g c = grind (arith, common_steps)

@@ -38,7 +38,7 @@ advance-requires-clause-countable g c =
 pub returns-in_err-more-clause-err : goal.returns-in_err-more-clause-err
 returns-in_err-more-clause-err g c =
     let fed = forwarding_feed refl refl c.forwarding.invariant (c.feed.ensures.moves (g.S.Source.stream c.forwarding.source) (g.K.Sink.stream c.forwarding.sink)) in
-    at_exit c.from_residual-in_err-more.result _ _ c.from_residual-in_err-more.ensures.1 (part_before fed c.in_err-more.ensures.err)
+    at_exit c.from_residual-in_err-more.result _ _ c.from_residual-in_err-more.ensures.1 (part_before fed (c.in_ok-whole.ensures.part c.if-whole.false).0 c.in_err-more.ensures.err)
 
 pub returns-then-not-more-clause-ok : goal.returns-then-not-more-clause-ok
 returns-then-not-more-clause-ok g c =

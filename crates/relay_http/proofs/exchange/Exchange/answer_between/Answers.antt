@@ -2,6 +2,7 @@
 use Rattle.std.proofs.Common.{◌<◌, ◌∙◌, ℕ, length, arith, ap, length-append}
 use Rattle.http_texts.specs.Messages.{LacksAnswer}
 use Rattle.std.proofs.lemmas.Grind.{common_steps}
+use Rattle.relay_http.specs.Wants.{WantsAnswer}
 use Rattle.relay_http.proofs.Failing.{fails_after}
 use Rattle.relay_http.proofs.Marking.{marks, begun_by, pipe_emptied, answered_some}
 use Rattle.relay_http.proofs.Turning.{moves_turns, fails_turns, fails_spent}
@@ -48,7 +49,7 @@ returns-in-Err-clause-err g c =
       part.0,
       part.1,
       part.2,
-      rw (← empty) (fails_after (LacksAnswer c.args.view.now.method) c.hold-in-Err.new.self (c.hold-in-Err.ensures.turns ∙ c.forget_waiting.ensures.turns) part.3),
+      rw (← empty) (fails_after (LacksAnswer c.args.view.now.method) (WantsAnswer c.args.view.now.method) c.hold-in-Err.new.self (c.hold-in-Err.ensures.turns ∙ c.forget_waiting.ensures.turns) part.3),
       λ at. part.4 at c.hold.ensures.inbox (c.hold.ensures.outbox ∙ c.args.self.now.drained),
     )
 
@@ -74,12 +75,12 @@ returns-in-Ok-clause-turns g c = omega (arith, moves_turns c.in-Ok.ensures.ok.3,
 
 pub returns-in-Err-clause-turns : goal.returns-in-Err-clause-turns
 returns-in-Err-clause-turns g c =
-    let after = fails_after (LacksAnswer c.args.view.now.method) c.hold-in-Err.new.self (c.hold-in-Err.ensures.turns ∙ c.forget_waiting.ensures.turns) c.in-Err.ensures.err.3 in
+    let after = fails_after (LacksAnswer c.args.view.now.method) (WantsAnswer c.args.view.now.method) c.hold-in-Err.new.self (c.hold-in-Err.ensures.turns ∙ c.forget_waiting.ensures.turns) c.in-Err.ensures.err.3 in
     omega (arith, fails_turns after, c.hold.ensures.turns)
 
 pub returns-in-Err-clause-spent : goal.returns-in-Err-clause-spent
 returns-in-Err-clause-spent g c = λ is.
-    let after = fails_after (LacksAnswer c.args.view.now.method) c.hold-in-Err.new.self (c.hold-in-Err.ensures.turns ∙ c.forget_waiting.ensures.turns) c.in-Err.ensures.err.3 in
+    let after = fails_after (LacksAnswer c.args.view.now.method) (WantsAnswer c.args.view.now.method) c.hold-in-Err.new.self (c.hold-in-Err.ensures.turns ∙ c.forget_waiting.ensures.turns) c.in-Err.ensures.err.3 in
     fails_spent c.in-Err.fault after is
 
 pub returns-in-Err-clause-stays : goal.returns-in-Err-clause-stays

@@ -1,4 +1,5 @@
 use Rattle.std.proofs.Common.{rules}
+use Rattle.http_bodies.specs.Steps.{LacksNothing}
 use Rattle.relay_http.specs.Failures.{NoCause}
 use Rattle.http_texts.specs.Replies.{leave_text}
 use Rattle.relay_http.proofs.Thinning.{thin_write, thin_write_fault, thin_same}
@@ -11,7 +12,7 @@ returns-clause-ok g c =
 
 pub returns-clause-err : goal.returns-clause-err
 returns-clause-err g c = λ open_still.
-    thin_write_fault _ NoCause (leave_text c.args.view.now) _ _ _ _ _ _ (search rules) (search rules) c.args.self.now.drained
+    thin_write_fault _ NoCause LacksNothing (leave_text c.args.view.now) _ _ _ _ _ _ (search rules) (search rules) c.args.self.now.drained
     (c.go_on_to.ensures.err open_still)
 
 pub returns-clause-untouched : goal.returns-clause-untouched

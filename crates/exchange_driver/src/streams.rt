@@ -193,6 +193,7 @@ impl WriteResult {
 
 // Reads once, and again where a signal interrupted it.
 fn read_ready<R: Read>(reads: &mut R, buffer: &mut [u8]) -> ReadResult
+    requires { 0 < length buffer.old }
     ensures within { came result ≤ length buffer.new }
     ensures length { length buffer.new ≡ length buffer.old }
     ensures some { (count : ℕ) → result ≡ ReadResult.Bytes count → 0 < count }

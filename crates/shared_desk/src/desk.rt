@@ -63,11 +63,12 @@ impl<N: DeskName> Desk<N> {
         // Nobody follows its log at first.
         ensures unread { result.0.tail.tail.first.value ≡ None }
     {
-        let (book, keys) = DeskKeys::of(Locked::new(Book::new(core, seat, running)));
+        let (book, tail) = Locked::of_desk(Book::new(core, seat, running));
+        let (book, keys) = DeskKeys::of(book);
         let desk = Desk {
             book,
             board,
-            tail: Followed::new(),
+            tail: Followed::of(tail),
         };
         (desk, keys)
     }

@@ -26,13 +26,11 @@ pub(crate) struct Followed {
 }
 
 impl Followed {
-    /// Makes one that no reader follows.
-    pub(crate) fn new() -> Followed
-        ensures { result.tail.first.value ≡ None }
+    /// Makes the one behind this lock.
+    pub(crate) fn of(tail: Locked<Option<Tail>>) -> Followed
+        ensures { result.tail ≡ tail }
     {
-        Followed {
-            tail: Locked::new(None),
-        }
+        Followed { tail }
     }
 
     /// Makes the call `Desk::follow`.

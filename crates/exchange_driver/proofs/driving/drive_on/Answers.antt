@@ -1,9 +1,11 @@
-use Rattle.std.proofs.Common.{◌≡◌, ◌∙◌, ◌<◌, sym, subst}
+use Rattle.std.proofs.Common.{◌≡◌, ◌∙◌, ◌<◌, arith, sym, subst}
+use Rattle.std.proofs.lemmas.Grind.{common_steps}
 use Rattle.exchange_events.specs.declared.exchange.Outcome.{Outcome}
 use Rattle.exchange_events.specs.Steps.{IsOwn}
 use Rattle.exchange_driver.specs.Drives.{Drives, at_client, at_server}
 use Rattle.exchange_driver.specs.Moves.{IsDriven}
 use Rattle.exchange_driver.specs.declared.driving.Rest.TheVariants.{Waits, Again}
+use Rattle.exchange_driver.specs.declared.moves.Did.TheVariants.{Rests}
 use Rattle.exchange_driver.proofs.Moving.{drives_none, drives_on}
 use Rattle.exchange_driver.proofs.Telling.{driven_none, driven_on}
 use Rattle.exchange_driver.proofs.driving.drive_on.Goals as goal
@@ -67,3 +69,26 @@ loop-turn-preserved g c =
           down.result.exchange o up.result.exchange) c.in-Quiet-outcome.is up.ensures.driven);
       buffer = subst (λ n. 0 < n) (sym (up.ensures.buffer ∙ down.ensures.buffer)) c.loop-turn.invariant.buffer;
     }
+
+pub returns-then-eq-2-clause-at : goal.returns-then-eq-2-clause-at
+returns-then-eq-2-clause-at g c =
+    let came = c.comes_to.ensures in
+    let first = c.with-moves.ensures in
+    let second = c.with-moves-in-loop-turn.ensures in
+    let down = c.move_down-between in
+    let up = c.move_up-behind in
+    λ h is. rw (came.moves.0, came.moves.1, second.0, second.1, first.0, first.1, came.exchange, came.outcome)
+    (drives_on _ _ _ _ _ _ _ _ _ _ h _ _ _ (drives_on _ _ _ _ _ _ _ _ _ _ h _ _ _ (c.loop-turn.invariant.at h is)
+    (λ k at. subst (λ (o : Outcome). Drives c.loop-turn.client down.new.client c.loop-turn.server down.new.server (at_client down.result.did)
+    (at_server down.result.did) k down.result.exchange o) c.in-Quiet.is (down.ensures.at k at)))
+    (λ k at. subst (λ (o : Outcome). Drives down.new.client up.new.client down.new.server up.new.server (at_client up.result.did)
+    (at_server up.result.did) k up.result.exchange o) c.in-Quiet-outcome.is (up.ensures.at k at)))
+
+pub returns-then-eq-2-clause-down : goal.returns-then-eq-2-clause-down
+returns-then-eq-2-clause-down g c = λ e.
+    let rests : c.move_down-between.result.did ≡ Rests = grind (arith, common_steps) in
+    let still : c.move_up-behind.result.did ≡ Rests = grind (arith, common_steps) in
+    let first = c.move_down-between.ensures.rests rests in
+    let second = c.move_up-behind.ensures.rests still in
+    rw (c.comes_to.ensures.exchange, second.exchange, first.exchange, second.client, first.client, second.server, first.server)
+    (c.move_down-between.ensures.quiet rests)

@@ -137,7 +137,7 @@ fn setup_of(alloc: Global, places: usize, limit: u32) -> Result<Setup>
     })
 }
 
-fn start<N: DeskName>(opened: Opened) -> (Desk<N>, DeskKeys<N>, RelaySeat)
+fn start<N: DeskName, R: Threads>(rt: &R, opened: Opened) -> (Desk<N>, DeskKeys<N>, RelaySeat)
     requires named { opened.board ≡ N.board }
     requires terms { N.terms ≡ terms_for opened.core.setup }
     requires setup { N.setup ≡ opened.core.setup }
@@ -151,17 +151,17 @@ fn start<N: DeskName>(opened: Opened) -> (Desk<N>, DeskKeys<N>, RelaySeat)
         relay,
         running,
     } = opened;
-    let (desk, keys) = Desk::new(core, board, seat, running);
+    let (desk, keys) = Desk::new(rt, core, board, seat, running);
     (desk, keys, relay)
 }
 
 // Serves the requests with one thread, and returns how many were served.
-fn one<N: DeskName, R: Wait>(rt: &R, alloc: Global, opened: Opened, share: Share) -> u64
+fn one<N: DeskName, R: Threads + Wait>(rt: &R, alloc: Global, opened: Opened, share: Share) -> u64
     requires named { opened.board ≡ N.board }
     requires terms { N.terms ≡ terms_for opened.core.setup }
     requires setup { N.setup ≡ opened.core.setup }
 {
-    let (desk, keys, relay) = start::<N>(opened);
+    let (desk, keys, relay) = start::<N, _>(rt, opened);
     serve(rt, alloc, (&desk, &keys), relay, share)
 }
 
@@ -176,7 +176,7 @@ fn four<N: DeskName + Send + Sync, R: Threads + Wait + Sync>(
     requires terms { N.terms ≡ terms_for opened.core.setup }
     requires setup { N.setup ≡ opened.core.setup }
 {
-    let (desk, keys, first) = start::<N>(opened);
+    let (desk, keys, first) = start::<N, _>(rt, opened);
     let seats = split(desk.board(), first);
     let share = Share {
         live: share.live / 4,

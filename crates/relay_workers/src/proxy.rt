@@ -31,6 +31,7 @@ use shared_desk::{Changed, Desk, DeskKey, DeskKeys, DeskQueue, LogKey, OpenDesk,
 use std::alloc::{AllocError, Global};
 use std::marker::PhantomData;
 use std::sync::Wait;
+use std::thread::Threads;
 
 /// What all threads of a proxy share: its dispatcher, its configuration, and the allocator. The
 /// board is one of the configuration's, and the setup that N names is one that the configuration
@@ -89,26 +90,28 @@ impl<G: Gate + Drop, P: Pause + Drop> Worker<G, P> {
 
 impl<N: DeskName> Proxy<N> {
     /// Makes a proxy of an accepted configuration, over a fresh dispatcher with the configuration's
-    /// setup, and a board that was opened for it. Returns the keys that aren't its own, too.
-    pub fn new(
+    /// setup and an empty running worst, and a board that was opened for it. Returns the keys that
+    /// aren't its own, too.
+    pub fn new<R: Threads>(
+        rt: &R,
         alloc: Global,
         config: Config,
-        core: Core<DeskQueue>,
-        running: Running,
+        fresh: (Core<DeskQueue>, Running),
         opened: (Board, KeeperSeat),
     ) -> (Proxy<N>, ProxyKeys<N>)
         requires sound { IsSoundConfig config }
-        requires asked { SetupIsAsked config core.setup }
-        requires first { core ≡ first_window core.setup [] }
-        requires running { IsNew running (length core.setup.servers) }
+        requires asked { SetupIsAsked config fresh.0.setup }
+        requires first { fresh.0 ≡ first_window fresh.0.setup [] }
+        requires running { IsNew fresh.1 (length fresh.0.setup.servers) }
         requires board { (opened.0 ≡ N.board) × (opened.1.board ≡ N.board) }
-        requires terms { N.terms ≡ terms_for core.setup }
-        requires setup { N.setup ≡ core.setup }
+        requires terms { N.terms ≡ terms_for fresh.0.setup }
+        requires setup { N.setup ≡ fresh.0.setup }
         requires seat { opened.1.view ≡ new_keeper N.terms }
         ensures config { result.0.config ≡ config }
     {
+        let (core, running) = fresh;
         let (board, seat) = opened;
-        let (desk, keys) = Desk::new(core, board, seat, running);
+        let (desk, keys) = Desk::new(rt, core, board, seat, running);
         let DeskKeys {
             desk: key,
             log,

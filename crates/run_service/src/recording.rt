@@ -118,7 +118,7 @@ fn serve_on<
     requires parts { (setup : Setup) × AreNew setup parts × SetupIsAsked config setup × (N.terms ≡ terms_for setup) × (N.setup ≡ setup) × (setup.places ≡ watched.crew.threads.places) }
 {
     let alloc = rt.alloc();
-    let (proxy, keys, source) = proxy_of::<N>(alloc, config, parts);
+    let (proxy, keys, source) = proxy_of::<N, _>(rt, alloc, config, parts);
     let options = RunOptions {
         keeping: None,
         reusing: None,

@@ -91,7 +91,7 @@ fn serve_on<
     requires parts { (setup : Setup) × AreNew setup parts × SetupIsAsked config setup × (N.terms ≡ terms_for setup) × (N.setup ≡ setup) × (setup.places ≡ crew.threads.places) }
 {
     let alloc = rt.alloc();
-    let (proxy, keys, source) = proxy_of::<N>(alloc, config, parts);
+    let (proxy, keys, source) = proxy_of::<N, _>(rt, alloc, config, parts);
     let Doors { listener, options } = doors;
     let ProxyKeys { log: key, wake } = keys;
     let beside = service_parts_of(rt, &proxy.config, options, crew.threads, wake)?;
@@ -112,7 +112,8 @@ fn serve_on<
 
 /// Makes a fresh proxy of these parts, which are what the configuration describes, and the source
 /// of its relays' seats.
-pub(crate) fn proxy_of<N: DeskName + Ledger>(
+pub(crate) fn proxy_of<N: DeskName + Ledger, R: Threads>(
+    rt: &R,
     alloc: Global,
     config: Config,
     parts: Parts,
@@ -133,7 +134,7 @@ pub(crate) fn proxy_of<N: DeskName + Ledger>(
         relay,
         ledger,
     } = parts;
-    let (proxy, keys) = Proxy::new(alloc, config, core, running, (board, keeper));
+    let (proxy, keys) = Proxy::new(rt, alloc, config, (core, running), (board, keeper));
     let source = SeatSource {
         first: relay,
         ledger,

@@ -14,7 +14,7 @@ use Rattle.grant_board.specs.declared.board.BoardName as board_name
 use Rattle.locked_book.proofs.book.Book.TheSendSync as book
 use Rattle.locked_book.specs.declared.name.DeskName as desk_name
 use Rattle.due_key.proofs.key.Key.TheSendSync as key
-use Rattle.log_reading.proofs.tail.Tail.TheSendSync as tail
+use Rattle.shared_desk.proofs.unread.Unread.TheSendSync as unread
 use Rattle.grant_board.proofs.board.Board.TheSendSync as board
 use Rattle.shared_desk.specs.contracts.desk.Desk as desk
 use Rattle.shared_desk.specs.contracts.locked.Locked as locked
@@ -40,6 +40,6 @@ desk_sync N d g =
       search (locked_sync, queue_send, single_send, key.the_send, book.the_send, crosses, sendable) depth 60 fits 20000,
       (
         search (board.the_sync, crosses, sendable) depth 60 fits 20000,
-        (search (locked_sync, tail.the_send, crosses, sendable) depth 60 fits 20000, tt),
+        (search (locked_sync, unread.the_send, crosses, sendable) depth 60 fits 20000, tt),
       ),
     ))

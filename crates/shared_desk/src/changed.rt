@@ -5,9 +5,9 @@ ghost use Rattle.shared_desk.specs.Changes.{AreNone, tail_change};
 use crate::desk::DeskBook;
 use crate::keys::{LogKey, WakeKey};
 use crate::locked::Step;
+use crate::unread::Unread;
 use base_places::PlaceSet;
 use locked_book::DeskName;
-use log_reading::Tail;
 use std::marker::Model;
 use std::snapshot::Snapshot;
 
@@ -16,7 +16,7 @@ use std::snapshot::Snapshot;
 /// takes the places.
 pub struct Changed<N: DeskName> {
     book: Step<DeskBook<N>>,
-    tail: Option<Step<Option<Tail>>>,
+    tail: Option<Step<Unread>>,
     places: PlaceSet,
 }
 
@@ -26,7 +26,7 @@ impl<N: DeskName> Model for Changed<N> {
 
     ghost Value = { Change };
 
-    ghost view = { λ changed. record { old = changed.book.old.value; new = changed.book.new.value; tail = option_map (λ tail. tail_change tail.old.value tail.new.value) changed.tail; places = changed.places } };
+    ghost view = { λ changed. record { old = changed.book.old.value; new = changed.book.new.value; tail = option_map (λ tail. tail_change tail.old.value.tail tail.new.value.tail) changed.tail; places = changed.places } };
 }
 
 impl<N: DeskName> Changed<N> {
@@ -45,10 +45,10 @@ impl<N: DeskName> Changed<N> {
     }
 
     /// Tells what was changed of the book and of the entries that wait to be read.
-    pub(crate) fn with_tail(book: Step<DeskBook<N>>, tail: Step<Option<Tail>>) -> Changed<N>
+    pub(crate) fn with_tail(book: Step<DeskBook<N>>, tail: Step<Unread>) -> Changed<N>
         ensures old { result.old ≡ book.old.value }
         ensures new { result.new ≡ book.new.value }
-        ensures tail { result.tail ≡ Some (tail_change tail.old.value tail.new.value) }
+        ensures tail { result.tail ≡ Some (tail_change tail.old.value.tail tail.new.value.tail) }
         ensures places { AreNone result.places }
     {
         Changed {
@@ -74,7 +74,7 @@ impl<N: DeskName> Changed<N> {
 /// What a call changed of the entries that wait to be read. It can't be dropped: who has the `LogKey`
 /// forgets it.
 pub struct TailChanged {
-    tail: Step<Option<Tail>>,
+    tail: Step<Unread>,
 }
 
 impl Model for TailChanged {
@@ -82,13 +82,13 @@ impl Model for TailChanged {
 
     ghost Value = { TailChange };
 
-    ghost view = { λ changed. tail_change changed.tail.old.value changed.tail.new.value };
+    ghost view = { λ changed. tail_change changed.tail.old.value.tail changed.tail.new.value.tail };
 }
 
 impl TailChanged {
     /// Tells what was changed.
-    pub(crate) fn of(tail: Step<Option<Tail>>) -> TailChanged
-        ensures { result ≡ tail_change tail.old.value tail.new.value }
+    pub(crate) fn of(tail: Step<Unread>) -> TailChanged
+        ensures { result ≡ tail_change tail.old.value.tail tail.new.value.tail }
     {
         TailChanged { tail }
     }
@@ -118,8 +118,8 @@ impl<N: DeskName> Model for LogRead<N> {
 
 impl<N: DeskName> LogRead<N> {
     /// Tells what was changed, and what was looked at.
-    pub(crate) fn of(tail: Step<Option<Tail>>, seen: Option<Snapshot<DeskBook<N>>>) -> LogRead<N>
-        ensures tail { result.tail ≡ tail_change tail.old.value tail.new.value }
+    pub(crate) fn of(tail: Step<Unread>, seen: Option<Snapshot<DeskBook<N>>>) -> LogRead<N>
+        ensures tail { result.tail ≡ tail_change tail.old.value.tail tail.new.value.tail }
         ensures seen { result.seen ≡ option_map (λ seen. seen.value) seen }
     {
         LogRead {

@@ -11,6 +11,7 @@ use crate::changed::{LogRead, TailChanged};
 use crate::followed::Followed;
 use crate::keys::DeskKeys;
 use crate::locked::{Held, Locked, Looking};
+use crate::unread::Unread;
 use binom_queue::BinomQueue;
 use dispatch_core::Core;
 use due_key::Key;
@@ -20,6 +21,7 @@ use locked_book::{Book, DeskName};
 use log_reading::Batch;
 use std::alloc::{AllocError, Global};
 use std::sync::Wait;
+use std::thread::Threads;
 
 /// The queues of a desk's dispatcher.
 pub type DeskQueue = BinomQueue<Key, usize>;
@@ -45,8 +47,10 @@ pub struct Desk<N: DeskName> {
 impl<N: DeskName> Desk<N> {
     /// Makes a desk of a fresh dispatcher of the setup that N names and a fresh keeper's seat,
     /// where the board was opened for the dispatcher's places and limits, and of an empty running
-    /// worst for the dispatcher's servers. Returns its keys, too.
-    pub fn new(
+    /// worst for the dispatcher's servers. Returns its keys, too. Only who may start threads makes
+    /// a desk: code that is lent one can't make another, for the keys of that.
+    pub fn new<R: Threads>(
+        _rt: &R,
         core: Core<DeskQueue>,
         board: Board,
         seat: KeeperSeat,
@@ -61,14 +65,14 @@ impl<N: DeskName> Desk<N> {
         // What its lock holds at first.
         ensures first { result.0.book.first.value ≡ record { history = core; view = seat.view } }
         // Nobody follows its log at first.
-        ensures unread { result.0.tail.tail.first.value ≡ None }
+        ensures unread { result.0.tail.unread.first.value.tail ≡ None }
     {
-        let (book, tail) = Locked::of_desk(Book::new(core, seat, running));
-        let (book, keys) = DeskKeys::of(book);
+        let (book, unread) = Unread::of(Book::new(core, seat, running));
+        let (book, keys) = DeskKeys::of(Locked::new(book));
         let desk = Desk {
             book,
             board,
-            tail: Followed::of(tail),
+            tail: Followed::new(unread),
         };
         (desk, keys)
     }

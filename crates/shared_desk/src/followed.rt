@@ -10,6 +10,7 @@ ghost use Rattle.shared_desk.specs.Tails.{nothing_waits, ReadsNew, HasCaughtUp, 
 use crate::changed::{Changed, LogRead, TailChanged};
 use crate::desk::DeskBook;
 use crate::locked::Locked;
+use crate::unread::Unread;
 use dispatch_reports::EndedWindow;
 use locked_book::DeskName;
 use log_entries::Entry;
@@ -22,15 +23,17 @@ use std::sync::Wait;
 /// own. Only these calls reach it. A thread that takes both locks takes this one first.
 #[derive(Drop)]
 pub(crate) struct Followed {
-    tail: Locked<Option<Tail>>,
+    unread: Locked<Unread>,
 }
 
 impl Followed {
-    /// Makes the one behind this lock.
-    pub(crate) fn of(tail: Locked<Option<Tail>>) -> Followed
-        ensures { result.tail ≡ tail }
+    /// Makes the lock of these.
+    pub(crate) fn new(unread: Unread) -> Followed
+        ensures { result.unread.first.value ≡ unread }
     {
-        Followed { tail }
+        Followed {
+            unread: Locked::new(unread),
+        }
     }
 
     /// Makes the call `Desk::follow`.
@@ -44,8 +47,8 @@ impl Followed {
         ensures { IfOk result (λ change. change.new ≡ Some (nothing_waits room)) }
     {
         let made = Tail::with_room(alloc, room)?;
-        let mut tail = self.tail.change(rt);
-        *tail.guard = Some(made);
+        let mut tail = self.unread.change(rt);
+        tail.guard.tail = Some(made);
         Ok(TailChanged::of(tail.end()))
     }
 
@@ -59,9 +62,9 @@ impl Followed {
         ensures { ReadsNew N.terms N.setup (vec_capacity batch.old.entries) result.tail.old result.tail.new result.seen batch.new }
     {
         batch.clear();
-        let mut tail = self.tail.change(rt);
+        let mut tail = self.unread.change(rt);
         let mut seen = None;
-        if let Some(tail) = &mut *tail.guard {
+        if let Some(tail) = &mut tail.guard.tail {
             let book = book.look(rt);
             // This call states the book's invariant.
             book.book().places();
@@ -81,11 +84,11 @@ impl Followed {
         ensures answer { AnswersRoll N.terms N.setup result.0 result.1 }
         ensures tail { KeepsWindow result.0 result.1 }
     {
-        let mut tail = self.tail.change(rt);
+        let mut tail = self.unread.change(rt);
         let mut book = book.change(rt);
         // This call states the book's invariant.
         book.guard.places();
-        let ended = end_window(&mut tail.guard, &mut book.guard, alloc);
+        let ended = end_window(&mut tail.guard.tail, &mut book.guard, alloc);
         (ended, Changed::with_tail(book.end(), tail.end()))
     }
 
@@ -99,11 +102,11 @@ impl Followed {
         ensures answer { MakesRoom N.terms N.setup result.0 result.1 }
         ensures tail { KeepsFullWindow result.0 result.1 }
     {
-        let mut tail = self.tail.change(rt);
+        let mut tail = self.unread.change(rt);
         let mut book = book.change(rt);
         // This call states the book's invariant.
         book.guard.places();
-        let made = make_room(&mut tail.guard, &mut book.guard, alloc);
+        let made = make_room(&mut tail.guard.tail, &mut book.guard, alloc);
         (made, Changed::with_tail(book.end(), tail.end()))
     }
 }

@@ -10,6 +10,7 @@ mod followed;
 mod keys;
 mod locked;
 mod opened;
+mod unread;
 
 pub use changed::{Changed, LogRead, TailChanged};
 pub use desk::{Desk, DeskBook, DeskQueue};

@@ -1,14 +1,11 @@
 //! A lock that changes nothing unseen. It lends what it holds to look at; who changes that gets in
-//! return what was changed, which can't be dropped. To the calls that look and change, what it holds
-//! is of any type, so that they can't change it themselves.
+//! return what was changed, which can't be dropped. What it holds is of any type, so that no call
+//! here can change it.
 
-ghost use Rattle.std.specs.Prelude.{◌≡◌, None};
+ghost use Rattle.std.specs.Prelude.{◌≡◌};
 ghost use Rattle.std.specs.Sync.Mutex.{mutex_guard_value};
 
-use crate::desk::DeskBook;
 use crate::keys::{LogKey, WakeKey};
-use locked_book::DeskName;
-use log_reading::Tail;
 use std::snapshot::Snapshot;
 use std::sync::{Mutex, MutexGuard, Wait};
 
@@ -47,19 +44,8 @@ pub struct Held<B> {
     last: Snapshot<B>,
 }
 
-impl<N: DeskName> Locked<DeskBook<N>> {
-    /// Makes the lock of a desk's book, and the one of what waits to be read, at first nothing. Who
-    /// is only lent a desk has no book, and so makes neither.
-    pub(crate) fn of_desk(book: DeskBook<N>) -> (Locked<DeskBook<N>>, Locked<Option<Tail>>)
-        ensures book { result.0.first.value ≡ book }
-        ensures tail { result.1.first.value ≡ None }
-    {
-        (Locked::new(book), Locked::new(None))
-    }
-}
-
 impl<B: Drop> Locked<B> {
-    fn new(book: B) -> Locked<B>
+    pub(crate) fn new(book: B) -> Locked<B>
         ensures { result.first.value ≡ book }
     {
         let first = Snapshot::of(&book);

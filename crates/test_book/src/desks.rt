@@ -20,6 +20,7 @@ use std::alloc::{AllocError, Global};
 use std::marker::Brand;
 use std::process::Abort;
 use std::sync::Wait;
+use std::thread::Threads;
 
 mod changes;
 mod events;
@@ -115,7 +116,7 @@ fn setup_of_one(alloc: Global, places: usize, log: usize, limit: u32) -> Result<
 }
 
 // Makes a desk of what was opened, and the first of the seats that take passes.
-fn start<N: DeskName>(opened: Opened) -> (Desk<N>, DeskKeys<N>, RelaySeat)
+fn start<N: DeskName, R: Threads>(rt: &R, opened: Opened) -> (Desk<N>, DeskKeys<N>, RelaySeat)
     requires named { opened.board ≡ N.board }
     requires terms { N.terms ≡ terms_for opened.core.setup }
     requires setup { N.setup ≡ opened.core.setup }
@@ -129,7 +130,7 @@ fn start<N: DeskName>(opened: Opened) -> (Desk<N>, DeskKeys<N>, RelaySeat)
         relay,
         running,
     } = opened;
-    let (desk, keys) = Desk::new(core, board, seat, running);
+    let (desk, keys) = Desk::new(rt, core, board, seat, running);
     (desk, keys, relay)
 }
 

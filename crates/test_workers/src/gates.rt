@@ -24,6 +24,7 @@ use std::os::fd::AsRawFd;
 use std::process::Abort;
 use std::sync::Wait;
 use std::thread;
+use std::thread::Threads;
 use std::time::{Clock, Duration, Instant};
 
 #[test]
@@ -143,7 +144,7 @@ fn connects<N: DeskName, R: Abort + Wait, G: Gate>(
 fn asks<
     'a,
     N: DeskName,
-    R: Abort + Net<Listener = TcpListener, Stream = TcpStream> + Clock + Print + Wait,
+    R: Abort + Net<Listener = TcpListener, Stream = TcpStream> + Clock + Print + Threads + Wait,
 >(rt: &'a R, front: &'a GateShared<'a>, proxy: &Proxy<N>, idle: Idle<N>, far: TcpListener)
     requires fresh { idle.seat.view ≡ new_relay N.terms true }
 {
@@ -160,14 +161,14 @@ fn asks<
 // The same with the gate of a fresh proxy, whose clients come to `near` and whose server is `far`.
 fn asks_anew<
     N: DeskName,
-    R: Abort + Net<Listener = TcpListener, Stream = TcpStream> + Clock + Print + Wait,
+    R: Abort + Net<Listener = TcpListener, Stream = TcpStream> + Clock + Print + Threads + Wait,
 >(rt: &R, alloc: Global, opened: Opened, near: TcpListener, far: TcpListener)
     requires named { opened.board ≡ N.board }
     requires terms { N.terms ≡ terms_for opened.core.setup }
     requires setup { N.setup ≡ opened.core.setup }
     requires sound { IsSoundConfig opened.config }
 {
-    let (proxy, keys, idle) = start::<N>(alloc, opened);
+    let (proxy, keys, idle) = start::<N, _>(rt, alloc, opened);
     let names = Names::new(Vec::new(alloc));
     let windows = WindowPrinter::new(alloc, names, 1).expect(rt, "memory");
     let addresses = Addresses::new(alloc, &proxy.config).expect(rt, "memory");

@@ -25,6 +25,7 @@ use std::marker::Brand;
 use std::process::Abort;
 use std::sync::Wait;
 use std::sync::atomic::{AtomicU64, Ordering};
+use std::thread::Threads;
 
 mod checks;
 mod crews;
@@ -98,7 +99,11 @@ fn open_text(rt: &impl Abort, alloc: Global, text: &[u8], log: usize) -> Opened
 
 /// Makes a proxy of what was opened, with the keys that aren't its own, and the first of the seats
 /// that take passes.
-pub(crate) fn start<N: DeskName>(alloc: Global, opened: Opened) -> (Proxy<N>, ProxyKeys<N>, Idle<N>)
+pub(crate) fn start<N: DeskName, R: Threads>(
+    rt: &R,
+    alloc: Global,
+    opened: Opened,
+) -> (Proxy<N>, ProxyKeys<N>, Idle<N>)
     requires named { opened.board ≡ N.board }
     requires terms { N.terms ≡ terms_for opened.core.setup }
     requires setup { N.setup ≡ opened.core.setup }
@@ -113,7 +118,7 @@ pub(crate) fn start<N: DeskName>(alloc: Global, opened: Opened) -> (Proxy<N>, Pr
         relay,
         running,
     } = opened;
-    let (proxy, keys) = Proxy::new(alloc, config, core, running, (board, seat));
+    let (proxy, keys) = Proxy::new(rt, alloc, config, (core, running), (board, seat));
     (proxy, keys, Idle::new(relay))
 }
 

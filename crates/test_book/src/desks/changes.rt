@@ -4,6 +4,7 @@ ghost use Rattle.locked_book.specs.Books.{terms_for};
 
 use super::*;
 use crate::assertions::{holds, same};
+use std::thread::Threads;
 
 // Sets the server's limit, and returns the first place that was woken.
 fn limit<N: DeskName, R: Abort + Wait>(
@@ -51,7 +52,7 @@ fn lower_and_lift<N: DeskName, R: Abort + Wait>(
     reports(rt, alloc, desk)
 }
 
-fn change_limits<N: DeskName, R: Abort + Wait>(
+fn change_limits<N: DeskName, R: Abort + Threads + Wait>(
     rt: &R,
     alloc: Global,
     opened: Opened,
@@ -60,7 +61,7 @@ fn change_limits<N: DeskName, R: Abort + Wait>(
     requires terms { N.terms ≡ terms_for opened.core.setup }
     requires setup { N.setup ≡ opened.core.setup }
 {
-    let (desk, keys, mut relay) = start::<N>(opened);
+    let (desk, keys, mut relay) = start::<N, _>(rt, opened);
     let told = lower_and_lift(rt, alloc, (&desk, &keys), &mut relay);
     let (closing, _) = desk.close(relay);
     (told, closing)

@@ -4,6 +4,7 @@ ghost use Rattle.locked_book.specs.Books.{terms_for};
 
 use super::*;
 use crate::assertions::same;
+use std::thread::Threads;
 
 // Four requests: one is served, one is aborted, one waits too long, and one finds no server.
 #[derive(Clone, Copy)]
@@ -76,7 +77,7 @@ fn tell_each<N: DeskName, R: Abort + Wait>(
     verdicts
 }
 
-fn each_event<N: DeskName, R: Abort + Wait>(
+fn each_event<N: DeskName, R: Abort + Threads + Wait>(
     rt: &R,
     alloc: Global,
     opened: Opened,
@@ -85,7 +86,7 @@ fn each_event<N: DeskName, R: Abort + Wait>(
     requires terms { N.terms ≡ terms_for opened.core.setup }
     requires setup { N.setup ≡ opened.core.setup }
 {
-    let (desk, keys, mut relay) = start::<N>(opened);
+    let (desk, keys, mut relay) = start::<N, _>(rt, opened);
     let told = tell_each(rt, alloc, (&desk, &keys), &mut relay);
     let (closing, _) = desk.close(relay);
     (told, closing)
@@ -177,12 +178,12 @@ fn ask_on<N: DeskName, R: Abort + Wait>(
     same(rt, tick(rt, desk, 12), (true, false));
 }
 
-fn ask<N: DeskName, R: Abort + Wait>(rt: &R, alloc: Global, opened: Opened)
+fn ask<N: DeskName, R: Abort + Threads + Wait>(rt: &R, alloc: Global, opened: Opened)
     requires named { opened.board ≡ N.board }
     requires terms { N.terms ≡ terms_for opened.core.setup }
     requires setup { N.setup ≡ opened.core.setup }
 {
-    let (desk, keys, relay) = start::<N>(opened);
+    let (desk, keys, relay) = start::<N, _>(rt, opened);
     ask_on(rt, alloc, (&desk, &keys), relay);
     drop(desk);
 }

@@ -5,6 +5,7 @@ ghost use Rattle.locked_book.specs.Books.{terms_for};
 use super::*;
 use crate::assertions::same;
 use std::test::Fail;
+use std::thread::Threads;
 
 // The test succeeds whichever single allocation is refused: it makes the same call again.
 
@@ -126,7 +127,7 @@ fn use_up<N: DeskName, R: Wait>(
     Ok(tell(rt, alloc, desk)?)
 }
 
-fn use_up_one<N: DeskName, R: Wait>(
+fn use_up_one<N: DeskName, R: Threads + Wait>(
     rt: &R,
     alloc: Global,
     opened: Opened,
@@ -135,7 +136,7 @@ fn use_up_one<N: DeskName, R: Wait>(
     requires terms { N.terms ≡ terms_for opened.core.setup }
     requires setup { N.setup ≡ opened.core.setup }
 {
-    let (desk, keys, mut relay) = start::<N>(opened);
+    let (desk, keys, mut relay) = start::<N, _>(rt, opened);
     let told = use_up(rt, alloc, (&desk, &keys), &mut relay);
     let (closing, _) = desk.close(relay);
     (told, closing)

@@ -4,6 +4,7 @@ ghost use Rattle.locked_book.specs.Books.{terms_for};
 
 use super::*;
 use crate::assertions::{holds, same};
+use std::thread::Threads;
 
 // Of two waiting requests the later one is due earlier: it is woken and served first.
 fn overtake<N: DeskName, R: Abort + Wait>(
@@ -77,7 +78,7 @@ fn overtake_and_tell<N: DeskName, R: Abort + Wait>(
     told
 }
 
-fn overtake_once<N: DeskName, R: Abort + Wait>(
+fn overtake_once<N: DeskName, R: Abort + Threads + Wait>(
     rt: &R,
     alloc: Global,
     opened: Opened,
@@ -86,7 +87,7 @@ fn overtake_once<N: DeskName, R: Abort + Wait>(
     requires terms { N.terms ≡ terms_for opened.core.setup }
     requires setup { N.setup ≡ opened.core.setup }
 {
-    let (desk, keys, mut relay) = start::<N>(opened);
+    let (desk, keys, mut relay) = start::<N, _>(rt, opened);
     let told = overtake_and_tell(rt, alloc, (&desk, &keys), &mut relay);
     let (closing, _) = desk.close(relay);
     (told, closing)

@@ -3,6 +3,7 @@ ghost use Rattle.locked_book.specs.Books.{terms_for};
 
 use super::*;
 use crate::assertions::{holds, same};
+use std::thread::Threads;
 
 // Three servers with one slot each; three failed checks in a row take the first one down.
 fn three_servers(rt: &impl Abort, alloc: Global) -> Opened {
@@ -48,7 +49,7 @@ fn take_down<N: DeskName, R: Abort + Wait>(
     (worst(rt, desk, 0), reports(rt, alloc, desk))
 }
 
-fn fall_once<N: DeskName, R: Abort + Wait>(
+fn fall_once<N: DeskName, R: Abort + Threads + Wait>(
     rt: &R,
     alloc: Global,
     opened: Opened,
@@ -57,7 +58,7 @@ fn fall_once<N: DeskName, R: Abort + Wait>(
     requires terms { N.terms ≡ terms_for opened.core.setup }
     requires setup { N.setup ≡ opened.core.setup }
 {
-    let (desk, keys, _) = start::<N>(opened);
+    let (desk, keys, _) = start::<N, _>(rt, opened);
     let told = take_down(rt, alloc, (&desk, &keys));
     drop(desk);
     told

@@ -214,7 +214,7 @@ fn two_come<N: DeskName + Send + Sync, R: Abort + Threads + Wait + Sync>(
     requires terms { N.terms ≡ terms_for opened.core.setup }
     requires setup { N.setup ≡ opened.core.setup }
 {
-    let (desk, keys, mut first) = start::<N>(opened);
+    let (desk, keys, mut first) = start::<N, _>(rt, opened);
     let second = first.split(desk.board());
     let (mut first, second, sums) = pair(rt, alloc, (&desk, &keys), (first, second), 100);
     let sums = finish(rt, alloc, (&desk, &keys), sums);
@@ -283,7 +283,7 @@ fn four_come<N: DeskName + Send + Sync, R: Abort + Threads + Wait + Sync>(
     requires terms { N.terms ≡ terms_for opened.core.setup }
     requires setup { N.setup ≡ opened.core.setup }
 {
-    let (desk, keys, mut first) = start::<N>(opened);
+    let (desk, keys, mut first) = start::<N, _>(rt, opened);
     let second = first.split(desk.board());
     let third = first.split(desk.board());
     let fourth = first.split(desk.board());

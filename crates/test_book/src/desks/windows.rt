@@ -4,6 +4,7 @@ ghost use Rattle.locked_book.specs.Books.{terms_for};
 
 use super::*;
 use crate::assertions::{holds, same};
+use std::thread::Threads;
 
 // Two requests wait when the next window begins, and are served in it.
 fn wait_over_a_roll<N: DeskName, R: Abort + Wait>(
@@ -33,12 +34,16 @@ fn wait_over_a_roll<N: DeskName, R: Abort + Wait>(
     reports(rt, alloc, desk)
 }
 
-fn roll_once<N: DeskName, R: Abort + Wait>(rt: &R, alloc: Global, opened: Opened) -> Reports
+fn roll_once<N: DeskName, R: Abort + Threads + Wait>(
+    rt: &R,
+    alloc: Global,
+    opened: Opened,
+) -> Reports
     requires named { opened.board ≡ N.board }
     requires terms { N.terms ≡ terms_for opened.core.setup }
     requires setup { N.setup ≡ opened.core.setup }
 {
-    let (desk, keys, mut relay) = start::<N>(opened);
+    let (desk, keys, mut relay) = start::<N, _>(rt, opened);
     let told = wait_over_a_roll(rt, alloc, (&desk, &keys), &mut relay);
     drop(desk);
     told
@@ -76,7 +81,7 @@ fn make_room<N: DeskName, R: Abort + Wait>(
     window
 }
 
-fn fill<N: DeskName, R: Abort + Wait>(
+fn fill<N: DeskName, R: Abort + Threads + Wait>(
     rt: &R,
     alloc: Global,
     opened: Opened,
@@ -85,7 +90,7 @@ fn fill<N: DeskName, R: Abort + Wait>(
     requires terms { N.terms ≡ terms_for opened.core.setup }
     requires setup { N.setup ≡ opened.core.setup }
 {
-    let (desk, keys, mut relay) = start::<N>(opened);
+    let (desk, keys, mut relay) = start::<N, _>(rt, opened);
     let window = make_room(rt, alloc, (&desk, &keys), &mut relay);
     let (closing, _) = desk.close(relay);
     (window, closing)
@@ -134,7 +139,7 @@ fn leave<N: DeskName, R: Abort + Wait>(
     turned(rt, desk, 1)
 }
 
-fn leave_one<N: DeskName, R: Abort + Wait>(
+fn leave_one<N: DeskName, R: Abort + Threads + Wait>(
     rt: &R,
     alloc: Global,
     opened: Opened,
@@ -143,7 +148,7 @@ fn leave_one<N: DeskName, R: Abort + Wait>(
     requires terms { N.terms ≡ terms_for opened.core.setup }
     requires setup { N.setup ≡ opened.core.setup }
 {
-    let (desk, keys, mut relay) = start::<N>(opened);
+    let (desk, keys, mut relay) = start::<N, _>(rt, opened);
     let refused = leave(rt, alloc, (&desk, &keys), &mut relay);
     let (closing, _) = desk.close(relay);
     (refused, closing)

@@ -7,6 +7,7 @@ use super::fakes::{Fake, Few, Scene, Seen};
 use super::scenes::plain;
 use super::*;
 use std::sync::atomic::AtomicBool;
+use std::thread::Threads;
 
 // The result of a checker: how often it looked, and whether the server is up afterwards.
 type Checked = (u64, bool);
@@ -31,13 +32,17 @@ fn check_thrice<N: DeskName, R: Abort + Wait>(
 }
 
 // A server fails its checks, isn't checked by a checker that was told to stop, and then passes.
-fn down_and_up<N: DeskName, R: Abort + Wait>(rt: &R, alloc: Global, opened: Opened) -> [Checked; 3]
+fn down_and_up<N: DeskName, R: Abort + Threads + Wait>(
+    rt: &R,
+    alloc: Global,
+    opened: Opened,
+) -> [Checked; 3]
     requires named { opened.board ≡ N.board }
     requires terms { N.terms ≡ terms_for opened.core.setup }
     requires setup { N.setup ≡ opened.core.setup }
     requires sound { IsSoundConfig opened.config }
 {
-    let (proxy, keys, idle) = start::<N>(alloc, opened);
+    let (proxy, keys, idle) = start::<N, _>(rt, alloc, opened);
     let seen = Seen::new(keys.wake);
     let found = [
         check_thrice(rt, &proxy, &seen, false, false),

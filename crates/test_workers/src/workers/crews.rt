@@ -20,7 +20,7 @@ fn serve_two<N: DeskName + Send + Sync, R: Abort + Threads + Wait + Sync>(
     requires setup { N.setup ≡ opened.core.setup }
     requires sound { IsSoundConfig opened.config }
 {
-    let (proxy, keys, idle) = start::<N>(alloc, opened);
+    let (proxy, keys, idle) = start::<N, _>(rt, alloc, opened);
     let seen = Seen::new(keys.wake);
     let one = Scene {
         clients: 1,

@@ -7,15 +7,21 @@ ghost use Rattle.proxy_config.specs.Sound.{IsSoundConfig};
 use super::fakes::{Fake, Few, Scene, Seen};
 use super::scenes::{ANSWERED, BAD_GATEWAY, BAD_REQUEST, FORWARDED, UNAVAILABLE, plain};
 use super::*;
+use std::thread::Threads;
 
 // One worker serves all clients of a scene; then the board is closed.
-fn work<N: DeskName, R: Wait>(rt: &R, alloc: Global, opened: Opened, scene: Scene) -> Found
+fn work<N: DeskName, R: Threads + Wait>(
+    rt: &R,
+    alloc: Global,
+    opened: Opened,
+    scene: Scene,
+) -> Found
     requires named { opened.board ≡ N.board }
     requires terms { N.terms ≡ terms_for opened.core.setup }
     requires setup { N.setup ≡ opened.core.setup }
     requires sound { IsSoundConfig opened.config }
 {
-    let (proxy, keys, mut idle) = start::<N>(alloc, opened);
+    let (proxy, keys, mut idle) = start::<N, _>(rt, alloc, opened);
     let seen = Seen::new(keys.wake);
     let gate = Fake::new(scene, &seen);
     let tally = work_with(rt, &proxy, &mut idle, gate, Few::new(100));

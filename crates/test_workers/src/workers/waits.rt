@@ -12,6 +12,7 @@ use dispatch_state::Ticketed;
 use grant_board::Taking;
 use relay_workers::arrive;
 use req_view::{Viewed, view};
+use std::thread::Threads;
 
 // A request that has a slot before any client comes.
 fn come_first<N: DeskName, R: Abort + Wait>(
@@ -67,7 +68,7 @@ fn come_behind<N: DeskName, R: Abort + Wait>(
     tally
 }
 
-fn work_behind<N: DeskName, R: Abort + Wait>(
+fn work_behind<N: DeskName, R: Abort + Threads + Wait>(
     rt: &R,
     alloc: Global,
     opened: Opened,
@@ -78,7 +79,7 @@ fn work_behind<N: DeskName, R: Abort + Wait>(
     requires setup { N.setup ≡ opened.core.setup }
     requires sound { IsSoundConfig opened.config }
 {
-    let (proxy, keys, mut idle) = start::<N>(alloc, opened);
+    let (proxy, keys, mut idle) = start::<N, _>(rt, alloc, opened);
     let seen = Seen::new(keys.wake);
     let gates = (Fake::new(scene, &seen), Fake::new(scene, &seen));
     let tally = come_behind(rt, &proxy, &mut idle, gates.0, gates.1);

@@ -75,7 +75,7 @@ impl<G: Gate + Drop, P: Pause + Drop> Worker<G, P> {
     /// that, it gives the gate and the pauses back.
     pub fn new(alloc: Global, gate: G, pause: P) -> Result<Worker<G, P>, (G, P)>
         ensures parts { IfOk result (λ it. (it.runner.gate ≡ gate) × (it.pause ≡ pause)) }
-        ensures exchange { IfOk result (λ it. IsFresh TURNS it.runner.exchange) }
+        ensures exchange { IfOk result (λ it. IsFresh 1000000000 it.runner.exchange) }
         ensures back { IfErr result (λ back. (back.0 ≡ gate) × (back.1 ≡ pause)) }
     {
         match Exchange::new(alloc, TURNS) {

@@ -1,4 +1,4 @@
-ghost use Rattle.std.specs.Prelude.{◌≡◌, ◌+◌, ◌≤◌, ◌⊎◌, List, true, All, [], length, vec_len, IfOk};
+ghost use Rattle.std.specs.Prelude.{◌≡◌, ◌+◌, ◌≤◌, ◌⊎◌, List, true, All, [], length, vec_len};
 ghost use Rattle.std.specs.Thread.{IsSend};
 ghost use Rattle.std.specs.Vec.Iter.{into_iter_items};
 ghost use Rattle.proxy_config.specs.declared.parts.Server.{Server};
@@ -49,7 +49,7 @@ pub fn serve<
     ensures idle { result.0.view.passes ≡ [] }
     ensures looks { result.0.view.looks ≡ seat.view.looks }
     ensures joined { result.0.view.split + seat.view.joined ≡ result.0.view.joined + seat.view.split }
-    ensures each { IfOk result.1 (λ tally. result.0.view.split ≡ seat.view.split + vec_len crew) }
+    ensures each { (result.0.view.split ≡ seat.view.split + vec_len crew) ⊎ (result.1 ≡ Err NoMemory) }
     ensures all { (result.1 ≡ Err NoMemory) ⊎ IsOfCrew (SomeHasWorked G.Client.remaining G.Client.contents G.Server.remaining G.Server.contents N.terms N.setup) G.notes crew.items result.1 }
     ensures checks { CrewHasChecked N.terms N.setup proxy.now.config.servers (G.notes checks.0) (P.most checks.1) (G.notes result.2.gate) }
     ensures joins { JoinsSeats N.terms (HasLeftSeat G.Client.remaining G.Client.contents G.Server.remaining G.Server.contents N.terms N.setup) seat.view result.0.view }

@@ -54,7 +54,7 @@ fn down_and_up<N: DeskName, R: Abort + Threads + Wait>(
 }
 
 // Each call of the gate's clock is a millisecond later.
-fn check_with<R: Abort + Wait>(rt: &R, alloc: Global, text: &[u8]) -> [Checked; 3] {
+fn check_with<R: Abort + Threads + Wait>(rt: &R, alloc: Global, text: &[u8]) -> [Checked; 3] {
     let opened = open_text(rt, alloc, text, 4096);
     down_and_up::<Brand, _>(rt, alloc, opened)
 }

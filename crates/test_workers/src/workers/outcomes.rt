@@ -33,7 +33,7 @@ fn work<N: DeskName, R: Threads + Wait>(
 }
 
 // Returns the outcome of a scene, with a log of this length.
-fn play<R: Abort + Wait>(rt: &R, alloc: Global, log: usize, scene: Scene) -> Found
+fn play<R: Abort + Threads + Wait>(rt: &R, alloc: Global, log: usize, scene: Scene) -> Found
     requires log { (0 < log) × (log ≤ 262144) }
 {
     let opened = open_text(rt, alloc, TWO_SLOTS, log);
@@ -42,7 +42,13 @@ fn play<R: Abort + Wait>(rt: &R, alloc: Global, log: usize, scene: Scene) -> Fou
 
 // Checks that a scene has this tally, its peers are sent this number of expected bytes and no
 // others, and nothing is left on the board.
-fn expect<R: Abort + Wait>(rt: &R, alloc: Global, scene: Scene, told: usize, tally: Tally) {
+fn expect<R: Abort + Threads + Wait>(
+    rt: &R,
+    alloc: Global,
+    scene: Scene,
+    told: usize,
+    tally: Tally,
+) {
     let found = play(rt, alloc, 4096, scene);
     assert_eq!(rt; found.tally, Ok(tally));
     assert_eq!(rt; found.seen.right.load(Ordering::SeqCst), told as u64);

@@ -93,7 +93,7 @@ fn work_behind<N: DeskName, R: Abort + Threads + Wait>(
 
 // Checks that six clients that leave after this number of looks get nothing, each is asked that
 // often, and nothing is left on the board.
-fn expect<R: Abort + Wait>(rt: &R, alloc: Global, patience: u32) {
+fn expect<R: Abort + Threads + Wait>(rt: &R, alloc: Global, patience: u32) {
     let opened = open_text(rt, alloc, ONE_SLOT, 4096);
     let scene = Scene {
         patience,

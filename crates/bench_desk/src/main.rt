@@ -75,7 +75,7 @@ fn serve_all<R: AllocGlobal + Threads + Wait + Sync>(rt: &R, asked: Asked) -> Re
         live: asked.places,
         requests: asked.requests,
     };
-    let opened = open(rt.alloc(), asked.places)?;
+    let opened = open(rt, rt.alloc(), asked.places)?;
     match asked.threads {
         1 => Ok(one::<Brand, _>(rt, rt.alloc(), opened, share)),
         4 => Ok(four::<Brand, _>(rt, rt.alloc(), opened, share)),
@@ -99,14 +99,14 @@ fn read(words: &[String]) -> Result<Asked> {
 }
 
 // Opens a dispatcher with one server that serves half as many requests at once as there are places.
-fn open(alloc: Global, places: usize) -> Result<Opened> {
+fn open<R: Threads>(rt: &R, alloc: Global, places: usize) -> Result<Opened> {
     let limit = u32::try_from(places / 2).context("how many places")?;
     let setup = setup_of(alloc, places, limit)?;
     if !setup.sound() {
         bail!("not a sound setup");
     }
     let running = Running::new(alloc, 1)?;
-    let (board, seat, relay) = Board::open(alloc, places, &[limit])?;
+    let (board, seat, relay) = Board::open(rt, alloc, places, &[limit])?;
     Ok(Opened {
         core: Core::new(alloc, setup)?,
         board,

@@ -25,12 +25,13 @@ fn main(rt: HostRuntime) -> Result<()> {
     let mut input = Vec::new(rt.alloc());
     rt.stdin().read_to_end(&mut input)?;
     let mut output = BufWriter::new(rt.alloc(), io::writer(&rt))?;
-    play_all(rt.alloc(), input.as_slice(), &mut output)?;
+    play_all(&rt, input.as_slice(), &mut output)?;
     output.flush()?;
     Ok(())
 }
 
-fn play_all<W: Write>(alloc: Global, input: &[u8], output: &mut W) -> Result<()> {
+fn play_all<W: Write>(rt: &HostRuntime, input: &[u8], output: &mut W) -> Result<()> {
+    let alloc = rt.alloc();
     let mut script = Script::new(alloc);
     for line in Lines::new(input) {
         let mut words = Words::new(line);
@@ -42,7 +43,7 @@ fn play_all<W: Write>(alloc: Global, input: &[u8], output: &mut W) -> Result<()>
             }
             Some(b"end") => {
                 let whole = mem::replace(&mut script, Script::new(alloc));
-                print(alloc, whole, output)?;
+                print(rt, whole, output)?;
                 true
             }
             Some(_) => script.add(alloc, line)?,
@@ -55,8 +56,9 @@ fn play_all<W: Write>(alloc: Global, input: &[u8], output: &mut W) -> Result<()>
 }
 
 // Plays a script and prints its outcome.
-fn print<W: Write>(alloc: Global, script: Script, output: &mut W) -> Result<()> {
-    let record = played(alloc, script)?;
+fn print<W: Write>(rt: &HostRuntime, script: Script, output: &mut W) -> Result<()> {
+    let alloc = rt.alloc();
+    let record = played(rt, alloc, script)?;
     let mut text = Vec::new(alloc);
     record.add_to(alloc, &mut text)?;
     output.write_all(text.as_slice())?;

@@ -25,12 +25,12 @@ enum Entry {
 }
 
 /// Plays a script, and returns the record of the client's connection.
-pub(crate) fn played(alloc: Global, script: Script) -> Result<Record, AllocError> {
+pub(crate) fn played(rt: &HostRuntime, alloc: Global, script: Script) -> Result<Record, AllocError> {
     let most = script.steps.len();
     let mut play = Play::new(alloc, script)?;
     let mut entry = Entry::Comes;
     for _ in 0..=most {
-        match visit(alloc, &mut play, entry)? {
+        match visit(rt, &mut play, entry)? {
             None => break,
             Some(queued) => match verdict_of(&mut play, queued) {
                 None => break,
@@ -64,11 +64,12 @@ fn verdict_of(play: &mut Play, queued: WaitingExchange) -> Option<Entry> {
 
 // Drives an exchange until it waits for a pass or is over.
 fn visit(
-    alloc: Global,
+    rt: &HostRuntime,
     play: &mut Play,
     entry: Entry,
 ) -> Result<Option<WaitingExchange>, AllocError> {
-    let (board, keeper, relay) = Board::open(alloc, 1, &[1])?;
+    let alloc = rt.alloc();
+    let (board, keeper, relay) = Board::open(rt, alloc, 1, &[1])?;
     let mut keeper = keeper;
     if let Entry::Granted(_) = &entry {
         keeper.offer(&board, 0, 1, Verdict::Serve(0));

@@ -30,7 +30,7 @@ fn main(rt: HostRuntime) -> Result<()> {
 
 fn hand_on_as(rt: &HostRuntime, words: &[String]) -> Result<()> {
     match words {
-        [_, what] => println!(rt; "{}", in_memory(rt.alloc(), what.as_str())?)?,
+        [_, what] => println!(rt; "{}", in_memory(rt, what.as_str())?)?,
         [_, what, from, to] => between(rt, what.as_str(), from.as_str(), to.as_str())?,
         _ => bail!("forward or answer, and two addresses"),
     }
@@ -38,27 +38,29 @@ fn hand_on_as(rt: &HostRuntime, words: &[String]) -> Result<()> {
 }
 
 // Hands a message on in memory, and returns the number of bytes written.
-fn in_memory(alloc: Global, what: &str) -> Result<usize> {
+fn in_memory(rt: &HostRuntime, what: &str) -> Result<usize> {
+    let alloc = rt.alloc();
     let mut message = if what == "forward" { REQUEST } else { ANSWER };
     let mut written = Vec::new(alloc);
-    hand_on(alloc, what, &mut message, &mut written)?;
+    hand_on(rt, what, &mut message, &mut written)?;
     Ok(written.len())
 }
 
 fn between(rt: &HostRuntime, what: &str, from: &str, to: &str) -> Result<()> {
     let mut reader = TcpStream::connect(rt, from)?;
     let mut writer = TcpStream::connect(rt, to)?;
-    hand_on(rt.alloc(), what, &mut reader, &mut writer)
+    hand_on(rt, what, &mut reader, &mut writer)
 }
 
 // Hands a message on under a pass, and posts it.
 fn hand_on<R: Read, W: Write>(
-    alloc: Global,
+    rt: &HostRuntime,
     what: &str,
     reader: &mut R,
     writer: &mut W,
 ) -> Result<()> {
-    let (board, mut keeper, mut seat) = Board::open(alloc, 1, &[1])?;
+    let alloc = rt.alloc();
+    let (board, mut keeper, mut seat) = Board::open(rt, alloc, 1, &[1])?;
     keeper.offer(&board, 0, 1, Verdict::Serve(0));
     match seat.try_take(&board, 0, 1) {
         Taking::Taken(pass) => {

@@ -17,6 +17,7 @@ use crate::tally::Tally;
 use crate::view::Plan;
 use atomic_table::{Closed, Table};
 use std::alloc::{AllocError, Global};
+use std::thread::Threads;
 
 /// What a board held when it was closed.
 #[derive(Clone, Copy, Debug, PartialEq, Eq)]
@@ -28,8 +29,10 @@ pub struct Closing {
 impl Board {
     /// Opens a board whose places are empty, with the keeper's seat and the first relay's. The
     /// limits are the servers' first bounds, by number; 0 is without limit. It allocates a word for
-    /// each place and each server.
-    pub fn open(
+    /// each place and each server. Only who may start threads opens a board: code that is lent one
+    /// can't open another, for passes that are none of that.
+    pub fn open<R: Threads>(
+        _rt: &R,
         alloc: Global,
         places: usize,
         limits: &[u32],

@@ -55,7 +55,7 @@ impl Batch {
     /// Empties the batch, and keeps its room.
     pub fn clear(&mut self)
         ensures none { (self.new.entries.items ≡ []) × (self.new.end ≡ None) × (self.new.lost ≡ None) }
-        ensures room { vec_capacity self.old.entries ≤ vec_capacity self.new.entries }
+        ensures room { vec_capacity self.new.entries ≡ vec_capacity self.old.entries }
     {
         self.entries.clear();
         self.end = None;

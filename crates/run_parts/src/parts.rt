@@ -12,6 +12,7 @@ use proxy_config::Config;
 use shared_desk::DeskQueue;
 use std::alloc::{AllocError, Global};
 use std::sync::ledger::Blank;
+use std::thread::Threads;
 
 /// The parts of a desk, and the seat of its relays.
 pub struct Parts {
@@ -25,7 +26,12 @@ pub struct Parts {
 }
 
 /// Makes the parts for a configuration, with this number of live requests.
-pub fn parts_of(alloc: Global, config: &Config, places: usize) -> Result<Parts, AllocError>
+pub fn parts_of<R: Threads>(
+    rt: &R,
+    alloc: Global,
+    config: &Config,
+    places: usize,
+) -> Result<Parts, AllocError>
     requires config { IsSoundConfig config.now }
     requires places { (0 < places) × (places ≤ 4096) }
     ensures parts { IfOk result (AreNew (setups.setup_of config.now places 262144)) }
@@ -35,7 +41,7 @@ pub fn parts_of(alloc: Global, config: &Config, places: usize) -> Result<Parts, 
     let limits = limits_of(alloc, &setup)?;
     let running = Running::new(alloc, limits.len())?;
     let core = Core::new(alloc, setup)?;
-    let (board, keeper, relay) = Board::open(alloc, places, &limits)?;
+    let (board, keeper, relay) = Board::open(rt, alloc, places, &limits)?;
     Ok(Parts {
         core,
         running,

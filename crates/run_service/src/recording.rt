@@ -86,7 +86,7 @@ fn serve_all<
     requires config { IsSoundConfig config }
 {
     let crew = crew_of(rt, &config, sizes);
-    let parts = parts_of(rt.alloc(), &config, crew.threads.places)?;
+    let parts = parts_of(rt, rt.alloc(), &config, crew.threads.places)?;
     serve_on::<Brand, _>(rt, config, parts, listener, Watched { crew, copy })
 }
 

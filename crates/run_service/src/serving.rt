@@ -65,7 +65,7 @@ pub fn serve_at<
 {
     let crew = crew_of(rt, &config, sizes);
     announce(rt, &doors.listener, &config, crew)?;
-    let parts = parts_of(rt.alloc(), &config, crew.threads.places)?;
+    let parts = parts_of(rt, rt.alloc(), &config, crew.threads.places)?;
     serve_on::<Brand, _>(rt, config, parts, doors, crew)
 }
 

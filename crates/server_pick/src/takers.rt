@@ -37,7 +37,8 @@ pub fn next_taker<H: Drop>(ledger: &Ledger<H>, cursor: &mut Cursor) -> Option<us
 /// usable and the key there is smaller. `O(1)`.
 pub fn next_queue<H: Drop>(ledger: &Ledger<H>, heads: &Heads, server: usize) -> Queue
     requires heads { AreHeads heads.now server (rows_in ledger.now.cells) }
-    ensures { (cursor : ℕ) → IsNextTaker (scene_in ledger.now) cursor server → IsLawfulTake (scene_in ledger.now) cursor heads.now server result }
+    ensures queue { result ≡ queue_of (scene_in ledger.now) heads.now server }
+    ensures lawful { (cursor : ℕ) → IsNextTaker (scene_in ledger.now) cursor server → IsLawfulTake (scene_in ledger.now) cursor heads.now server result }
 {
     queue_of(ledger, heads, server)
 }

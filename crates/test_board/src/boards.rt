@@ -60,7 +60,7 @@ fn serve_named<N: BoardName>(board: &Board, seat: &mut RelaySeat, place: usize, 
 
 #[test]
 fn one_place(rt: HostRuntime) {
-    let (board, mut keeper, mut seat) = Board::open(rt.alloc(), 2, &[1]).expect(&rt, "memory");
+    let (board, mut keeper, mut seat) = Board::open(&rt, rt.alloc(), 2, &[1]).expect(&rt, "memory");
     keeper.offer(&board, 0, 7, SERVE);
     holds(&rt, !serve_named::<Brand>(&board, &mut seat, 0, 6));
     let pass = match seat.try_take(&board, 0, 7) {

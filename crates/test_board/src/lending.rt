@@ -53,7 +53,7 @@ fn lend_two<N: BoardName + Ledger>(
 
 #[test]
 fn seats_come_back(rt: HostRuntime) -> Result<(), Fail> {
-    let (board, mut keeper, mut first) = Board::open(rt.alloc(), 2, &[2])?;
+    let (board, mut keeper, mut first) = Board::open(&rt, rt.alloc(), 2, &[2])?;
     keeper.offer(&board, 0, TICKET, Verdict::Serve(0));
     let second = first.split(&board);
     let blank = Blank::new(SEATS);

@@ -147,7 +147,7 @@ fn keep_book<N: DeskName>(
 fn a_slot_is_handed_on(rt: HostRuntime) {
     let alloc = rt.alloc();
     let running = Running::new(alloc, 1).expect(&rt, "memory");
-    let opened = Board::open(alloc, 4, &[1]).expect(&rt, "memory");
+    let opened = Board::open(&rt, alloc, 4, &[1]).expect(&rt, "memory");
     let core = dispatcher(&rt, alloc);
     let told = keep_book::<Brand>(&rt, alloc, core, running, opened);
     same(&rt, told, (1, 0, Some(1), Some(0)));

@@ -70,22 +70,27 @@ fn server(limit: u32) -> ServerSet
     }
 }
 
-fn open(rt: &impl Abort, alloc: Global, setup: Setup, limits: &[u32]) -> Opened
+fn open(rt: &HostRuntime, alloc: Global, setup: Setup, limits: &[u32]) -> Opened
     requires limits { map (λ server. server.limit) setup.servers ≡ limits.now }
 {
-    let opened = open_sound(alloc, setup, limits).expect(rt, "memory");
+    let opened = open_sound(rt, alloc, setup, limits).expect(rt, "memory");
     opened.expect(rt, "a sound setup")
 }
 
 // Opens a dispatcher and its board; `None` where the setup isn't sound.
-fn open_sound(alloc: Global, setup: Setup, limits: &[u32]) -> Result<Option<Opened>, AllocError>
+fn open_sound(
+    rt: &HostRuntime,
+    alloc: Global,
+    setup: Setup,
+    limits: &[u32],
+) -> Result<Option<Opened>, AllocError>
     requires limits { map (λ server. server.limit) setup.servers ≡ limits.now }
 {
     if !setup.sound() {
         return Ok(None);
     }
     let running = Running::new(alloc, limits.len())?;
-    let (board, seat, relay) = Board::open(alloc, setup.places, limits)?;
+    let (board, seat, relay) = Board::open(rt, alloc, setup.places, limits)?;
     Ok(Some(Opened {
         core: Core::new(alloc, setup)?,
         board,

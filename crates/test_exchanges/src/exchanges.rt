@@ -3,7 +3,6 @@
 use crate::playing::{Cut, Move, Stage, Table};
 use exchange_events::TimeoutKind;
 use std::alloc::Global;
-use std::process::Abort;
 use std::test::Fail;
 
 /// The moves, the bytes that both sides got, the number of passes posted as done and as failed and
@@ -483,7 +482,7 @@ static AGAIN: [Row; 2] = [
 
 // Where a row fails: its name, and how the bytes were cut.
 pub(crate) fn first_fault(
-    rt: &impl Abort,
+    rt: &HostRuntime,
     alloc: Global,
     rows: &'static [Row],
 ) -> Option<(&'static str, Cut)> {
@@ -496,7 +495,7 @@ pub(crate) fn first_fault(
     None
 }
 
-fn fault_of(rt: &impl Abort, alloc: Global, row: &Row) -> Option<Cut> {
+fn fault_of(rt: &HostRuntime, alloc: Global, row: &Row) -> Option<Cut> {
     for number in 0..120usize {
         let cut = cut_of(number);
         if !holds(rt, alloc, row, cut) {
@@ -519,7 +518,7 @@ fn cut_of(number: usize) -> Cut {
     }
 }
 
-fn holds(rt: &impl Abort, alloc: Global, row: &Row, cut: Cut) -> bool {
+fn holds(rt: &HostRuntime, alloc: Global, row: &Row, cut: Cut) -> bool {
     let mut table = Table::new(alloc, row.aborts, cut);
     let stage = table.play(rt, row.moves);
     let wire = &table.wire;

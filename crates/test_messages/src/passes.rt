@@ -17,10 +17,10 @@ pub(crate) struct Held {
 }
 
 impl Held {
-    pub(crate) fn take(alloc: Global) -> Result<Held, Fault>
+    pub(crate) fn take(rt: &HostRuntime, alloc: Global) -> Result<Held, Fault>
         ensures { IfOk result (λ held. Serves held.pass.verdict) }
     {
-        let Ok((board, mut keeper, mut seat)) = Board::open(alloc, 1, &[1]) else {
+        let Ok((board, mut keeper, mut seat)) = Board::open(rt, alloc, 1, &[1]) else {
             return Err(Fault::NoMemory);
         };
         keeper.offer(&board, 0, 1, Verdict::Serve(0));

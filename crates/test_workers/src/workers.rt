@@ -67,7 +67,7 @@ const TWO_SLOTS: &[u8] =
     b"listen w\n    bind :80\n    server a 127.0.0.1:9001 maxconn 2 check rise 1 fall 1\n";
 
 /// Opens what a configuration describes, with four places and a log of this length.
-pub(crate) fn open(rt: &impl Abort, alloc: Global, config: Config, log: usize) -> Opened
+pub(crate) fn open(rt: &HostRuntime, alloc: Global, config: Config, log: usize) -> Opened
     requires sound { IsSoundConfig config }
     requires log { (0 < log) × (log ≤ 262144) }
     ensures sound { IsSoundConfig result.config }
@@ -77,7 +77,7 @@ pub(crate) fn open(rt: &impl Abort, alloc: Global, config: Config, log: usize) -
     let limits = limits_of(alloc, &setup).expect(rt, "memory");
     let running = Running::new(alloc, limits.len()).expect(rt, "memory");
     let core = Core::new(alloc, setup).expect(rt, "a dispatcher");
-    let (board, seat, relay) = Board::open(alloc, 4, &limits).expect(rt, "a board");
+    let (board, seat, relay) = Board::open(rt, alloc, 4, &limits).expect(rt, "a board");
     Opened {
         config,
         core,

@@ -4,7 +4,6 @@ use crate::fakes::{Feed, Log};
 use relay_http::{Code, Exchange, Fault};
 use req_view::{View, Viewed, view};
 use std::alloc::Global;
-use std::process::Abort;
 
 const POST: &[u8] =
     b"POST /a HTTP/1.1\r\nHost: h\r\nConnection: x-a\r\nX-A: 1\r\nContent-Length: 3\r\n\r\nabcd";
@@ -15,9 +14,9 @@ const POST_TEXT: &[u8] =
 const WAITING: &[u8] =
     b"POST / HTTP/1.1\r\nHost: h\r\nContent-Length: 3\r\nExpect: 100-Continue\r\n\r\n";
 
-fn is_one_write(rt: &impl Abort, alloc: Global, side: &Side, bytes: &[u8], text: &[u8]) {
+fn is_one_write(rt: &HostRuntime, alloc: Global, side: &Side, bytes: &[u8], text: &[u8]) {
     let mut relay = Relay::new(rt, alloc, TURNS);
-    let result = relay.hand_on(alloc, side, &mut Feed::of(bytes));
+    let result = relay.hand_on(rt, alloc, side, &mut Feed::of(bytes));
     same(rt, result, Ok(()), "a message");
     same(rt, relay.output.bytes.as_slice(), text, "a message");
     same(rt, relay.output.writes, 1, "its writes");
@@ -37,7 +36,7 @@ fn a_head_and_its_body_are_one_write(rt: HostRuntime) {
 }
 
 // Reads the request, whose body came after its head.
-fn read_whole(rt: &impl Abort, alloc: Global, exchange: &mut Exchange) -> View {
+fn read_whole(rt: &HostRuntime, alloc: Global, exchange: &mut Exchange) -> View {
     exchange.renew();
     let view = exchange
         .read_request(alloc, &mut Feed::of(POST))
@@ -51,13 +50,13 @@ fn read_whole(rt: &impl Abort, alloc: Global, exchange: &mut Exchange) -> View {
 fn a_request_is_taken_up(rt: HostRuntime) {
     let mut relay = Relay::new(&rt, rt.alloc(), TURNS);
     let view = read_whole(&rt, rt.alloc(), &mut relay.exchange);
-    let result = relay.forward(rt.alloc(), &view, b"ab", b"cd");
+    let result = relay.forward(&rt, rt.alloc(), &view, b"ab", b"cd");
     same(&rt, result, Ok(()), "a request");
     same(&rt, relay.output.bytes.as_slice(), POST_TEXT, "a request");
 }
 
 // The `100` for a request has 25 bytes or none.
-fn is_given_leave(rt: &impl Abort, alloc: Global, number: usize, head: &[u8], len: usize) {
+fn is_given_leave(rt: &HostRuntime, alloc: Global, number: usize, head: &[u8], len: usize) {
     let mut exchange = Exchange::new(alloc, TURNS).expect(rt, "memory");
     let mut output = Log::new(alloc);
     exchange.renew();
@@ -100,7 +99,7 @@ fn leave_is_given_to_those_who_wait(rt: HostRuntime) {
     }
 }
 
-fn is_refused(rt: &impl Abort, alloc: Global, code: Code, text: &[u8]) {
+fn is_refused(rt: &HostRuntime, alloc: Global, code: Code, text: &[u8]) {
     let mut exchange = Exchange::new(alloc, 0).expect(rt, "memory");
     let mut output = Log::new(alloc);
     exchange.renew();
@@ -163,7 +162,7 @@ fn no_turn_at_all(rt: HostRuntime) {
     relay.exchange.take_up(b"abc");
     let leave = relay.exchange.go_on(&view, &mut relay.output);
     same(&rt, leave, Err(Fault::Turns), "leave");
-    let forwarded = relay.forward(rt.alloc(), &view, b"abc", b"");
+    let forwarded = relay.forward(&rt, rt.alloc(), &view, b"abc", b"");
     same(&rt, forwarded, Err(Fault::Turns), "a request");
     same(&rt, relay.output.writes, 0, "its writes");
 }

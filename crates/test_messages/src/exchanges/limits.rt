@@ -5,7 +5,6 @@ use crate::repeats::{Repeated, bytes_of};
 use relay_http::{Fault, MOST_INTERIMS};
 use req_view::{HEAD_BYTES, HEAD_FIELDS};
 use std::alloc::Global;
-use std::process::Abort;
 
 /// A message at a limit or past it, and how many bytes of it are written.
 struct Limit {
@@ -151,10 +150,10 @@ static LIMITS: [Limit; 10] = [
     },
 ];
 
-fn is_limit(rt: &impl Abort, alloc: Global, limit: &Limit) {
+fn is_limit(rt: &HostRuntime, alloc: Global, limit: &Limit) {
     let bytes = bytes_of(rt, alloc, &limit.bytes);
     let mut relay = Relay::new(rt, alloc, TURNS);
-    let outcome = match relay.hand_on(alloc, &limit.side, &mut Feed::of(bytes.as_slice())) {
+    let outcome = match relay.hand_on(rt, alloc, &limit.side, &mut Feed::of(bytes.as_slice())) {
         Ok(()) => Ok(relay.output.bytes.len()),
         Err(fault) => Err(fault),
     };
@@ -269,12 +268,12 @@ static ENDLESS_ANSWERS: [Endless; 4] = [
     },
 ];
 
-fn ends(rt: &impl Abort, alloc: Global, row: &Endless) {
+fn ends(rt: &HostRuntime, alloc: Global, row: &Endless) {
     let mut input = Feed::of(row.start);
     input.most = 1;
     input.for_ever = Some(row.byte);
     let mut relay = Relay::new(rt, alloc, row.turns);
-    let result = relay.hand_on(alloc, &row.side, &mut input);
+    let result = relay.hand_on(rt, alloc, &row.side, &mut input);
     same(rt, result, Err(row.fault), row.what);
 }
 

@@ -9,7 +9,6 @@ use relay_http::{Exchange, Fault, Stage};
 use req_view::View;
 use std::alloc::Global;
 use std::io;
-use std::process::Abort;
 use std::test::Fail;
 
 const ANSWER: &[u8] =
@@ -25,7 +24,7 @@ fn read(alloc: Global, exchange: &mut Exchange) -> Result<View, Fault> {
 }
 
 // Where the first read finds no memory, the second one reads.
-fn read_in_the_end(rt: &impl Abort, alloc: Global, exchange: &mut Exchange) -> Result<View, Fault> {
+fn read_in_the_end(rt: &HostRuntime, alloc: Global, exchange: &mut Exchange) -> Result<View, Fault> {
     match read(alloc, exchange) {
         Ok(view) => Ok(view),
         Err(fault) => {
@@ -53,7 +52,7 @@ fn answer(alloc: Global, relay: &mut Relay, pass: &Pass, view: &View) -> Result<
 }
 
 // The same for the answer, to the same request.
-fn is_answered(rt: &impl Abort, alloc: Global, relay: &mut Relay, pass: &Pass, view: &View)
+fn is_answered(rt: &HostRuntime, alloc: Global, relay: &mut Relay, pass: &Pass, view: &View)
     requires { Serves pass.now.verdict }
 {
     let first = answer(alloc, relay, pass, view);
@@ -82,9 +81,9 @@ fn a_refused_growth_is_want_of_memory(rt: HostRuntime) -> Result<(), Fail> {
         output.bytes.reserve(200)?;
     }
     let mut relay = Relay { exchange, output };
-    let held = match Held::take(alloc) {
+    let held = match Held::take(&rt, alloc) {
         Ok(held) => held,
-        Err(_) => Held::take(alloc).expect(&rt, "a pass"),
+        Err(_) => Held::take(&rt, alloc).expect(&rt, "a pass"),
     };
     let view = read_in_the_end(&rt, alloc, &mut relay.exchange);
     if let Ok(view) = &view {

@@ -9,7 +9,6 @@ use relay_http::{Exchange, Fault};
 use req_view::View;
 use std::alloc::Global;
 use std::io;
-use std::process::Abort;
 
 pub(crate) const TURNS: u64 = 1_000_000;
 
@@ -32,7 +31,7 @@ pub(crate) struct Relay {
 }
 
 impl Relay {
-    pub(crate) fn new(rt: &impl Abort, alloc: Global, turns: u64) -> Relay {
+    pub(crate) fn new(rt: &HostRuntime, alloc: Global, turns: u64) -> Relay {
         Relay {
             exchange: Exchange::new(alloc, turns).expect(rt, "memory"),
             output: Log::new(alloc),
@@ -42,11 +41,12 @@ impl Relay {
     /// Hands the message on by the exchange, renewed, on a pass of its own.
     pub(crate) fn hand_on(
         &mut self,
+        rt: &HostRuntime,
         alloc: Global,
         side: &Side,
         input: &mut Feed<'_>,
     ) -> Result<(), Fault> {
-        let held = Held::take(alloc)?;
+        let held = Held::take(rt, alloc)?;
         let result = self.hand_on_by(alloc, &held.pass, side, input);
         held.post();
         result
@@ -103,6 +103,7 @@ impl Relay {
     /// takes up, and the rest.
     pub(crate) fn forward(
         &mut self,
+        rt: &HostRuntime,
         alloc: Global,
         view: &View,
         taken_up: &[u8],
@@ -110,7 +111,7 @@ impl Relay {
     ) -> Result<(), Fault>
         requires { length taken_up.now ≤ INBOX_BYTES }
     {
-        let held = Held::take(alloc)?;
+        let held = Held::take(rt, alloc)?;
         let mut rest = Feed::of(rest);
         self.exchange.renew();
         self.exchange.take_up(taken_up);
@@ -125,10 +126,10 @@ impl Relay {
 /// The name of a message, its bytes, and what they become.
 pub(crate) type Row = (&'static str, &'static [u8], Result<&'static [u8], Fault>);
 
-fn becomes(rt: &impl Abort, alloc: Global, relay: &mut Relay, side: &Side, row: &Row) {
+fn becomes(rt: &HostRuntime, alloc: Global, relay: &mut Relay, side: &Side, row: &Row) {
     let (what, bytes, expected) = *row;
     relay.output.bytes.clear();
-    let outcome = match relay.hand_on(alloc, side, &mut Feed::of(bytes)) {
+    let outcome = match relay.hand_on(rt, alloc, side, &mut Feed::of(bytes)) {
         Ok(()) => Ok(relay.output.bytes.as_slice()),
         Err(fault) => Err(fault),
     };
@@ -136,7 +137,7 @@ fn becomes(rt: &impl Abort, alloc: Global, relay: &mut Relay, side: &Side, row: 
 }
 
 /// Fails the test where a row becomes something else. One exchange hands all of them on.
-pub(crate) fn become_of_each(rt: &impl Abort, alloc: Global, side: &Side, rows: &[Row]) {
+pub(crate) fn become_of_each(rt: &HostRuntime, alloc: Global, side: &Side, rows: &[Row]) {
     let mut relay = Relay::new(rt, alloc, TURNS);
     for row in rows {
         becomes(rt, alloc, &mut relay, side, row);

@@ -30,12 +30,12 @@ pub take-requires : goal.take-requires
 take-requires g c =
     subst (λ n. IsQueueOf n c.next_queue-queue.result) (sym (ap (λ (l : Waitlist). l.servers) c.heads-heads.ensures.same ∙ c.self.invariant.servers))
     (take_within (kept_scene c.self.inside.ledger) c.self.inside.position.cursor c.heads-heads.result c.in-Some.server c.next_queue-queue.result
-    (c.next_queue-queue.ensures c.self.inside.position.cursor c.in-Some.ensures.next)).1
+    (c.next_queue-queue.ensures.lawful c.self.inside.position.cursor c.in-Some.ensures.next)).1
 
 pub unreachable-requires : goal.unreachable-requires
 unreachable-requires g c =
     not_empty _ _ c.heads-heads.result c.in-Some.server c.self.inside.position.cursor c.next_queue-queue.result c.heads-heads.ensures.heads
-    (c.next_queue-queue.ensures c.self.inside.position.cursor c.in-Some.ensures.next) c.in_default-take.ensures.first
+    (c.next_queue-queue.ensures.lawful c.self.inside.position.cursor c.in-Some.ensures.next) c.in_default-take.ensures.first
 
 -- what a grant rests on, once its request is taken from the queue
 calls : (g : given.Over) (c : In-Some-take g)
@@ -45,7 +45,7 @@ calls : (g : given.Over) (c : In-Some-take g)
 calls g c =
     grant_calls _ _ _ _ c.heads-heads.result c.in-Some.server c.next_queue-queue.result c.in-Some-take.taken.place c.in-Some-take.taken.waiter
     c.self.invariant c.self.view_is c.requires.may_grant c.heads-heads.ensures.heads c.heads-heads.ensures.same
-    (c.next_queue-queue.ensures c.self.inside.position.cursor c.in-Some.ensures.next) c.in-Some-take.ensures.first
+    (c.next_queue-queue.ensures.lawful c.self.inside.position.cursor c.in-Some.ensures.next) c.in-Some-take.ensures.first
 
 pub loosen-requires : goal.loosen-requires
 loosen-requires g c =

@@ -9,11 +9,11 @@ use Rattle.grant_board.proofs.Counting.{counted_new}
 use Rattle.grant_board.proofs.board.Board.open.Goals as goal
 
 pub of_words-requires : goal.of_words-requires
-of_words-requires c = opens_at (terms_of c.plan-plan.result) c.deref.result.now
+of_words-requires g c = opens_at (terms_of c.plan-plan.result) c.deref.result.now
     (c.deref.ensures.value ∙ (c.in_ok-words.ensures ∙ ap (λ t. replicate t.places 0 ++ map first_mark t.limits) (sym c.plan-plan.ensures)))
 
 pub split_seat-first-requires : goal.split_seat-first-requires
-split_seat-first-requires c =
+split_seat-first-requires g c =
     let made = c.in_ok-table.ensures in
     let seat = c.in_ok-table.seat in
     let long = ap length c.deref.ensures.value ∙ (ap length c.in_ok-words.ensures ∙ length-append (replicate c.args.places 0) (map first_mark c.args.limits.now)
@@ -24,7 +24,7 @@ split_seat-first-requires c =
     )
 
 pub invariant_of-relay-2 : goal.invariant_of-relay-2
-invariant_of-relay-2 c =
+invariant_of-relay-2 g c =
     let made = c.in_ok-table.ensures in
     let t = terms_of c.plan-plan.result in
     let first = c.split_seat-first.result in

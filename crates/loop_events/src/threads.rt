@@ -1,5 +1,9 @@
 //! The threads: the loops, and one that checks the servers.
 
+ghost use Rattle.std.specs.Prelude.{◌≡◌, IfOk, map};
+ghost use Rattle.std.specs.List.{enumerate_from};
+ghost use Rattle.loop_events.specs.Starts.{start_at};
+
 use crate::looping::Looper;
 use crate::reusing::UnusedConnections;
 use crate::timing::Keywords;
@@ -12,6 +16,7 @@ use loop_shared::{Shared, SocketGate, run_checks, run_controls, run_windows};
 use loop_table::{Agenda, Timers, TokenTable};
 use mio::Poll;
 use std::alloc::{AllocError, Global};
+use std::marker::Model;
 use std::net::{Net, TcpListener, TcpStream};
 use std::sync::Wait;
 use std::sync::atomic::{AtomicBool, Ordering};
@@ -35,17 +40,27 @@ const MOST_LINGERING: u64 = 4096;
 /// The most unused connections of a loop.
 const MOST_UNUSED: u64 = 4096;
 
-/// A loop that hasn't started yet.
+/// A loop that hasn't started yet. Contracts see its number and its poll.
 #[derive(Drop)]
 pub struct UnstartedLoop {
     poll: Poll,
     home: usize,
 }
 
-/// Makes a loop for each poll.
-pub fn loops_of(alloc: Global, polls: Vec<Poll>) -> Result<Vec<UnstartedLoop>, AllocError> {
+impl Model for UnstartedLoop {
+    ghost use Rattle.loop_events.specs.Starts.{Start};
+
+    ghost Value = { Start };
+
+    ghost view = { λ l. record { home = l.home; poll = l.poll } };
+}
+
+/// Makes a loop for each poll. The loops are numbered from 0, in the order of the polls.
+pub fn loops_of(alloc: Global, polls: Vec<Poll>) -> Result<Vec<UnstartedLoop>, AllocError>
+    ensures { IfOk result (λ loops. loops.items ≡ map start_at (enumerate_from 0 polls.items)) }
+{
     let mut loops = Vec::new(alloc);
-    for (home, poll) in polls.into_iter().enumerate() {
+    'making: for (home, poll) in polls.into_iter().enumerate() {
         loops.push(UnstartedLoop { poll, home })?;
     }
     Ok(loops)

@@ -51,16 +51,16 @@ pub record IsTakenFrom (waiting : Waiting) (capacity : ℕ) (left : Waiting) (ba
       × (left.entries ≡ []) × (left.end ≡ None) × (left.lost ≡ None) × (left.seen ≡ waiting.seen) × (left.room ≡ waiting.room)
       × (left.room ≤ vec_capacity batch.entries)
   pub small : capacity < waiting.room
-      → (left ≡ waiting) × (batch.entries.items ≡ []) × (batch.end ≡ None) × (batch.lost ≡ None) × (capacity ≤ vec_capacity batch.entries)
+      → (left ≡ waiting) × (batch.entries.items ≡ []) × (batch.end ≡ None) × (batch.lost ≡ None) × (vec_capacity batch.entries ≡ capacity)
 
 -- What waited, with the entries that weren't taken yet of the log that the lock held, is in the batch,
--- which has at least this much room; where no reader follows the log the batch is empty.
+-- which had this much room; where no reader follows the log the batch is empty, and has that room.
 abbrev pub ReadsNew : Terms → Setup → ℕ → Option Waiting → Option Waiting → Option Booked → Batch → Type 0
 ReadsNew terms setup room None None seen batch =
-    (batch.entries.items ≡ []) × (batch.end ≡ None) × (batch.lost ≡ None) × (room ≤ vec_capacity batch.entries)
+    (batch.entries.items ≡ []) × (batch.end ≡ None) × (batch.lost ≡ None) × (vec_capacity batch.entries ≡ room)
 ReadsNew terms setup room None (Some new) seen batch = ⊥
 ReadsNew terms setup room (Some old) None seen batch = ⊥
 ReadsNew terms setup room (Some old) (Some new) None batch = ⊥
 ReadsNew terms setup room (Some old) (Some new) (Some seen) batch =
     IsHeld terms setup seen
-    × ((waiting : Waiting) × (capacity : ℕ) × (room ≤ capacity) × HasCaughtUp seen.history.log old waiting × IsTakenFrom waiting capacity new batch)
+    × ((waiting : Waiting) × HasCaughtUp seen.history.log old waiting × IsTakenFrom waiting room new batch)

@@ -1,10 +1,10 @@
 -- Texts that go to a sink one after the other.
-use Rattle.std.proofs.Common.{◌≡◌, ◌∙◌, ◌<◌, ℕ, List, [], ◌++◌, refl, sym, ap, arith, append_assoc, append-nil, length, length-append, subst}
+use Rattle.std.proofs.Common.{◌≡◌, ◌∙◌, ◌<◌, ◌≤◌, ℕ, List, [], ◌++◌, refl, sym, ap, arith, append_assoc, append-nil, length, length-append, subst, inl, inr}
 use Rattle.base_streams.specs.Streams.{Stream}
 use Rattle.http_bodies.specs.declared.fault.Fault.{Fault}
 use Rattle.http_bodies.specs.declared.fault.Fault.TheVariants.{Framing, Read, Write, Turns}
 use Rattle.http_bodies.proofs.Writing.{Wrote-nil, Wrote-trans}
-use Rattle.http_bodies.specs.Texts.{Wrote, Spends, Emits, StopsBy, Stops}
+use Rattle.http_bodies.specs.Texts.{Wrote, Spends, Emits, Remains, StopsBy, Stops}
 
 pub Spends-none : (s : Stream) (turns : ℕ) → Spends s s turns turns
 Spends-none s turns = record { same = refl; calls = omega arith; spent = refl }
@@ -80,6 +80,40 @@ stops_more more x = record {
 
 pub stops_as : {a b : Stream} {t u : ℕ} {text same : List ℕ} {fault : Fault} → text ≡ same → Stops a b t u text fault → Stops a b t u same fault
 stops_as {a} {b} {t} {u} {fault = fault} e x = subst (λ (l : List ℕ). Stops a b t u l fault) e x
+
+-- what waited wasn't written whole, and is as it was
+pub stops_kept : {a b : Stream} {t u : ℕ} {waiting0 waiting : List ℕ} {fault : Fault} (more : List ℕ) → Stops a b t u waiting0 fault → waiting ≡ waiting0
+    → (stop : Stops a b t u (waiting0 ++ more) fault) × Remains stop.front.front waiting0 waiting
+unfolding stops_more
+stops_kept {waiting0 = waiting0} more x same =
+    let few : length x.front.front < length waiting0 =
+    omega (arith, x.left, ap (length {A = ℕ}) x.front.all, length-append x.front.front x.front.rest) in
+    (stops_more more x, inl (few, same))
+
+-- what waited was written whole, and nothing waits
+pub stops_late : {a b c : Stream} {t u v : ℕ} {waiting0 waiting : List ℕ} {fault : Fault} (text : List ℕ) → Emits a b t u waiting0 waiting [] → waiting ≡ []
+    → Stops b c u v text fault
+    → (stop : Stops a c t v (waiting0 ++ text) fault) × Remains stop.front.front waiting0 waiting
+stops_late {a} {b} {c} {v = v} {waiting0 = waiting0} {fault = fault} text x none y =
+    let all : waiting0 ≡ x.front = sym (append-nil waiting0) ∙ x.all ∙ ap (λ l. x.front ++ l) none ∙ append-nil x.front in
+    let whole : length waiting0 ≤ length (x.front ++ y.front.front) =
+    omega (arith, ap (length {A = ℕ}) all, length-append x.front y.front.front) in (
+      record {
+        front = record {
+          front = x.front ++ y.front.front;
+          rest = y.front.rest;
+          wrote = Wrote-trans x.wrote y.front.wrote;
+          all =
+              ap (λ l. l ++ text) all
+              ∙ ap (λ l. x.front ++ l) y.front.all
+              ∙ sym (append_assoc x.front y.front.front y.front.rest);
+        };
+        left = y.left;
+        spends = Spends-trans x.spends y.spends;
+        cause = stops_by fault a b c v x.fine y.cause;
+      },
+      inr (whole, none),
+    )
 
 -- none of the text was written
 pub stops_whole : {w0 w : Stream} {turns0 turns : ℕ} {text : List ℕ} {fault : Fault} → Wrote w0 w [] → Spends w0 w turns0 turns → StopsBy w0 w turns fault

@@ -4,24 +4,25 @@ use Rattle.std.proofs.Common.{refl, sym, ap, arith, append_assoc, append-nil, le
 use Rattle.std.specs.Io.KnownBytes.{IsAtEnd}
 use Rattle.std.proofs.KnownBytes.{Consumes-nil}
 use Rattle.std.proofs.lemmas.Bool.{false≢true}
-use Rattle.std.proofs.lemmas.List.{take-append-drop}
+use Rattle.std.proofs.lemmas.List.{take-append-drop, nil_from_length}
 use Rattle.base_streams.specs.Streams.{Stream}
-use Rattle.http_bodies.specs.Framings.{IsBody, PartOfBody, LacksBody, IsUnfinished}
+use Rattle.http_bodies.specs.Framings.{IsBody, LacksBody, IsUnfinished}
 use Rattle.http_bodies.specs.declared.fault.Fault.{Fault}
 use Rattle.http_bodies.specs.declared.fault.Fault.TheVariants as Faulty
 use Rattle.http_bodies.specs.declared.framing.Framing.{Framing}
 use Rattle.http_bodies.specs.declared.framing.Framing.TheVariants as Framed
 use Rattle.http_bodies.proofs.Writing.{Wrote-nil}
 use Rattle.http_bodies.specs.Readings.{Reading, Feeds, Hands, start_of}
+use Rattle.http_bodies.specs.Runs.{IsSent, IsTaken}
 use Rattle.http_bodies.specs.Stops.{is_done, is_bad}
 use Rattle.http_bodies.specs.declared.coding.Coding.{Coding}
 use Rattle.http_bodies.specs.declared.coding.Coding.TheVariants.{ToEnd}
 use Rattle.http_bodies.proofs.Derivatives.{feeds_nil, feeds_trans}
 use Rattle.http_bodies.proofs.Running.{read_nothing, run_text, run_done, run_bad, run_early}
-use Rattle.http_bodies.specs.Steps.{Ends, ends, Moves, Breaks, HoldsBack, LacksNothing, IsAll}
+use Rattle.http_bodies.specs.Steps.{Ends, ends, Reads, Moves, Breaks, HoldsBack, LacksNothing, IsAll}
 use Rattle.http_bodies.specs.declared.outbox.TheConstants.{OUTBOX_BYTES}
 use Rattle.http_bodies.specs.declared.pipe.Pipe.{Pipe}
-use Rattle.http_bodies.proofs.Stepping.{moves_none, moves_trans, moves_as, moves_breaks, breaks_as, breaks_less, breaks_end, breaks_framing}
+use Rattle.http_bodies.proofs.Stepping.{moves_none, moves_trans, moves_as, moves_breaks, breaks_as, breaks_end, breaks_framing}
 
 -- the front of what is held is used, and its text is put behind what waits
 moves_feed : (p0 p : Pipe) (s w : Stream) (used text : List ℕ) → p0.inbox ≡ used ++ p.inbox → p.outbox ≡ p0.outbox ++ text → p.turns ≡ p0.turns
@@ -58,6 +59,10 @@ abbrev StillWaits : Ends → Ends → List ℕ → Type 0
 StillWaits a b text = b.source.calls ≡ a.source.calls
     → ((b.sink ≡ a.sink) × (b.pipe.outbox ≡ a.pipe.outbox ++ text)) ⊎ (OUTBOX_BYTES < length (a.pipe.outbox ++ text) + 18)
 
+-- where what was held isn't unfinished, nothing was asked of the source
+abbrev IsUnread : Framing → Ends → Stream → Type 0
+IsUnread framing a s = ¬ (IsUnfinished framing a.pipe.inbox) → s ≡ a.source
+
 -- what a coding used of a body, from its first byte on, and the text that it gave for it
 pub record Forwarding (framing : Framing) (framed : Bool) (c : Coding) (a b : Ends) : Type 0 where
   pub used : List ℕ
@@ -65,6 +70,7 @@ pub record Forwarding (framing : Framing) (framed : Bool) (c : Coding) (a b : En
   pub feeds : Feeds (start_of framing framed) c used text
   pub moves : Moves a b used text
   pub late : StillWaits a b text
+  pub unread : IsUnread framing a b.source
 
 pub forwarding_start : (framing : Framing) (framed : Bool) (c : Coding) (e : Ends) → c ≡ start_of framing framed → Forwarding framing framed c e e
 forwarding_start framing framed c e is = record {
@@ -73,6 +79,7 @@ forwarding_start framing framed c e is = record {
   feeds = subst (λ (d : Coding). Feeds (start_of framing framed) d [] []) (sym is) (feeds_nil (start_of framing framed));
   moves = moves_none e;
   late = λ same. inl (refl, sym (append-nil e.pipe.outbox));
+  unread = λ whole. refl;
 }
 
 -- where no call was made of a sink, what was given waits
@@ -103,7 +110,7 @@ waits_on a b e used text going read before late p = λ same. elim going [
       ]
 ]
 
-pub forwarding_feed : {framing : Framing} {framed : Bool} {c d : Coding} {a b e : Ends} → e.source.calls ≡ b.source.calls → e.sink ≡ b.sink
+pub forwarding_feed : {framing : Framing} {framed : Bool} {c d : Coding} {a b e : Ends} → e.source ≡ b.source → e.sink ≡ b.sink
     → Forwarding framing framed c a b
     → (used : List ℕ) × (text : List ℕ) × Feeds c d used text × Moves b e used text → Forwarding framing framed d a e
 forwarding_feed {a = a} source sink p fed = record {
@@ -111,18 +118,52 @@ forwarding_feed {a = a} source sink p fed = record {
   text = p.text ++ fed.1;
   feeds = feeds_trans p.feeds fed.2;
   moves = moves_trans p.moves fed.3;
-  late = waits_feed a p.text source sink p.late fed.3;
+  late = waits_feed a p.text (ap (λ (s : Stream). s.calls) source) sink p.late fed.3;
+  unread = λ whole. source ∙ p.unread whole;
 }
 
-pub forwarding_on : {framing : Framing} {framed : Bool} {c : Coding} {a b e : Ends} → (b.pipe.inbox ≡ []) ⊎ (OUTBOX_BYTES < length b.pipe.outbox + 18)
-    → (b.pipe.inbox ≡ [] → b.source.calls < e.source.calls) → Forwarding framing framed c a b → Moves b e [] []
+is_to_end : (framing : Framing) → (framing ≡ Framed.ToEnd) ⊎ (framing ≢ Framed.ToEnd)
+is_to_end Framed.Empty = inr (λ is. cc)
+is_to_end (Framed.Length count) = inr (λ is. cc)
+is_to_end Framed.Chunked = inr (λ is. cc)
+is_to_end Framed.ToEnd = inl refl
+
+is_nil : (l : List ℕ) → (l ≡ []) ⊎ (l ≢ [])
+is_nil [] = inl refl
+is_nil (x ∷ l) = inr (λ is. cc)
+
+-- without a call nothing was read
+none_taken : {a b : Ends} {taken : List ℕ} → b.source ≡ a.source → Reads a b taken → taken ≡ []
+none_taken same reads = nil_from_length _ (omega (arith, reads.few, ap (λ (s : Stream). s.calls) same))
+
+-- the source isn't asked where bytes are held, and where none are, what was held is used up and unfinished
+pub unread_on : {framing : Framing} {framed : Bool} {c : Coding} {a b : Ends} (s : Stream) → is_done c ≡ false → Forwarding framing framed c a b
+    → (b.pipe.inbox ≢ [] → s ≡ b.source) → IsUnread framing a s
+unread_on {framing} {framed} {c} {a} {b} s going p asks = λ whole. elim (is_nil b.pipe.inbox) [
+  | inr some ↦ asks some ∙ p.unread whole
+  | inl none ↦
+      let all : p.used ≡ a.pipe.inbox =
+      sym (append-nil p.used) ∙ ap (λ l. p.used ++ l) (sym none) ∙ sym p.moves.held
+      ∙ ap (λ l. a.pipe.inbox ++ l) (none_taken (p.unread whole) p.moves.reads) ∙ append-nil a.pipe.inbox in
+      elim (is_to_end framing) [
+        | inl to_end ↦ absurd (whole (inl to_end))
+        | inr other ↦
+            absurd (whole (inr (subst (LacksBody framing) (append-nil p.used ∙ all)
+            (run_early framing framed ((p.used, p.text) ∷ []) c (c, p.feeds, refl) other going))))
+      ]
+]
+
+pub forwarding_on : {framing : Framing} {framed : Bool} {c : Coding} {a b e : Ends} → is_done c ≡ false
+    → (b.pipe.inbox ≡ []) ⊎ (OUTBOX_BYTES < length b.pipe.outbox + 18)
+    → (b.pipe.inbox ≡ [] → b.source.calls < e.source.calls) → (b.pipe.inbox ≢ [] → e.source ≡ b.source) → Forwarding framing framed c a b → Moves b e [] []
     → Forwarding framing framed c a e
-forwarding_on {a = a} {b = b} {e = e} going read p moves = record {
+forwarding_on {a = a} {b = b} {e = e} unfinished going read asks p moves = record {
   used = p.used;
   text = p.text;
   feeds = p.feeds;
   moves = moves_as (append-nil p.used) (append-nil p.text) (moves_trans p.moves moves);
   late = waits_on a b e p.used p.text going read p.moves p.late moves;
+  unread = unread_on e.source unfinished p asks;
 }
 
 -- what goes on to the end is given as it came, and is never done
@@ -148,23 +189,14 @@ breaks_plainly {a} {b} {used} {text} Wants is breaks =
 read_is_not_framing : Faulty.Read ≡ Faulty.Framing → ⊥
 read_is_not_framing is = cc
 
-is_to_end : (framing : Framing) → (framing ≡ Framed.ToEnd) ⊎ (framing ≢ Framed.ToEnd)
-is_to_end Framed.Empty = inr (λ is. cc)
-is_to_end (Framed.Length count) = inr (λ is. cc)
-is_to_end Framed.Chunked = inr (λ is. cc)
-is_to_end Framed.ToEnd = inl refl
-
 -- a fault was met amid a body
 abbrev pub StopsAmid : Framing → Bool → Ends → Ends → Fault → Type 0
-StopsAmid framing framed a b fault = (used : List ℕ) × (text : List ℕ) × PartOfBody framing framed used text
+StopsAmid framing framed a b fault = (used : List ℕ) × (text : List ℕ) × IsTaken framing framed used text
     × Breaks a b used text (LacksBody framing) (IsUnfinished framing) fault
     × (fault ≡ Faulty.Framing → HoldsBack a b text)
 
-still_holds : (a b : Ends) (text : List ℕ) → StillWaits a b text → HoldsBack a b (text ++ [])
-still_holds a b text late = λ same. elim (late same) [
-  | inl kept ↦ inl kept.0
-  | inr full ↦ inr (subst (λ l. OUTBOX_BYTES < length (a.pipe.outbox ++ l) + 18) (sym (append-nil text)) full)
-]
+still_holds : (a b : Ends) (text : List ℕ) → StillWaits a b text → HoldsBack a b text
+still_holds a b text late = λ same. elim (late same) [ inl kept ↦ inl kept.0 | inr full ↦ inr full ]
 
 module _ {framing : Framing} {framed : Bool} {c : Coding} {a b : Ends} (p : Forwarding framing framed c a b) where
   pub never_whole : framing ≡ Framed.ToEnd → is_done c ≡ true → ⊥
@@ -182,20 +214,15 @@ module _ {framing : Framing} {framed : Bool} {c : Coding} {a b : Ends} (p : Forw
       let body = subst (λ (f : Framing). Feeds (start_of f framed) c p.used p.text → IsBody f framed p.used p.text) (sym e) (all_given c p.used p.text) p.feeds in
       (p.used, p.text, body, p.moves)
 
-  -- a fault: the text is that of a part of a body at the front of what was used
-  part_of : {d : Ends} {fault : Fault} → (fault ≡ Faulty.Framing → HoldsBack a d (p.text ++ []))
+  -- a fault: the text is that of what was used
+  part_of : {d : Ends} {fault : Fault} → (fault ≡ Faulty.Framing → HoldsBack a d p.text)
       → Breaks a d p.used p.text (LacksBody framing) (IsUnfinished framing) fault
       → StopsAmid framing framed a d fault
   part_of late breaks =
       let sent = run_text framing framed ((p.used, p.text) ∷ []) c (c, p.feeds, refl) in
-      let front = sym (append-nil p.used) ∙ sent.input_is in (
-        sent.used,
-        p.text ++ [],
-        sent.part,
-        breaks_less (LacksBody framing) (IsUnfinished framing) sent.used sent.rest
-            (breaks_as (LacksBody framing) (IsUnfinished framing) front (sym (append-nil p.text)) breaks),
-        late,
-      )
+      let used = subst (λ (l : List ℕ). IsSent framing framed l p.text) (append-nil p.used)
+      (subst (λ (l : List ℕ). IsSent framing framed (p.used ++ []) l) (append-nil p.text) sent) in
+      (p.used, p.text, record { sent = used; coding = c; feeds = p.feeds }, breaks, late)
 
   -- what was used is no whole body yet
   unfinished : is_done c ≡ false → (l : List ℕ) → IsAll [] l → IsUnfinished framing (p.used ++ l)

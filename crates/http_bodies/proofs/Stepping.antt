@@ -1,5 +1,5 @@
 -- Steps one after the other.
-use Rattle.std.proofs.Common.{◌≡◌, ◌∙◌, ◌<◌, ◌⊎◌, ℕ, ◌+◌, List, [], ◌++◌, length}
+use Rattle.std.proofs.Common.{◌≡◌, ◌∙◌, ◌⊎◌, ℕ, ◌+◌, List, [], ◌++◌}
 use Rattle.std.proofs.Common.{refl, sym, ap, arith, append_assoc, append-nil, subst, inl, inr, length-append}
 use Rattle.std.specs.Io.KnownBytes.{IsAtEnd}
 use Rattle.std.proofs.KnownBytes.{Consumes-nil, Consumes-trans}
@@ -8,8 +8,9 @@ use Rattle.http_bodies.specs.declared.fault.Fault.{Fault}
 use Rattle.http_bodies.specs.declared.fault.Fault.TheVariants.{Framing, Read, Write, Turns}
 use Rattle.http_bodies.specs.declared.pipe.Pipe.{Pipe}
 use Rattle.http_bodies.specs.Texts.{Emits, StopsBy, Stops}
+use Rattle.http_bodies.proofs.Emitting.{stops_as}
 use Rattle.http_bodies.proofs.Writing.{Wrote-nil, Wrote-trans}
-use Rattle.http_bodies.specs.Steps.{Ends, ends, Countable, Reads, Moves, Blames, Breaks, LacksNothing, IsAll}
+use Rattle.http_bodies.specs.Steps.{Ends, ends, Countable, Reads, Moves, Blames, Lingers, Breaks, LacksNothing, IsAll}
 
 -- a list whose front is taken off, twice
 pub joined : (a b c d e f g : List ℕ) → a ++ b ≡ c ++ d → d ++ e ≡ f ++ g → a ++ (b ++ e) ≡ (c ++ f) ++ g
@@ -89,6 +90,21 @@ blames_earlier Framing a b c Lacks Whole used input whole r w step e blame = (
   λ more. subst Whole (sym (ap (λ l. l ++ more) e ∙ append_assoc used input more)) (step (input ++ more) (blame.2 more)),
 )
 
+-- all that was written before doesn't wait any more
+lingers_after : {front rest waiting : List ℕ} {fault : Fault} (before : List ℕ) → Lingers front rest waiting fault
+    → Lingers (before ++ front) rest waiting fault
+lingers_after before x = record {
+  sent = before ++ x.sent;
+  again = x.again;
+  front_is = ap (λ l. before ++ l) x.front_is ∙ sym (append_assoc before x.sent x.again);
+  waiting_is = x.waiting_is;
+  stopped = x.stopped;
+}
+
+-- exactly what wasn't written waits
+lingers_rest : (front rest : List ℕ) (fault : Fault) → Lingers front rest rest fault
+lingers_rest front rest fault = record { sent = front; again = []; front_is = sym (append-nil front); waiting_is = refl; stopped = inl refl }
+
 -- a step, and then a fault; what lacks behind the step, or is wanted there, does so in the whole
 pub moves_breaks : {a b c : Ends} {used text more_used more_text : List ℕ} {fault : Fault} (Lacks Whole Wants All : List ℕ → Type 0)
     → ((l : List ℕ) → Lacks l → Whole (used ++ l)) → ((l : List ℕ) → Wants l → All (used ++ l))
@@ -99,14 +115,14 @@ moves_breaks {a} {b} {c} {used} {text} {more_used} {more_text} {fault} Lacks Who
     sym (append_assoc a.pipe.inbox p.taken q.taken) ∙ ap (λ l. l ++ q.taken) p.held ∙ append_assoc used b.pipe.inbox q.taken in record {
       taken = p.taken ++ q.taken;
       reads = Reads-trans p.reads q.reads;
-      rest = q.rest;
-      held = joined a.pipe.inbox p.taken used b.pipe.inbox q.taken more_used q.rest p.held q.held;
+      held = joined a.pipe.inbox p.taken used b.pipe.inbox q.taken more_used c.pipe.inbox p.held q.held;
       writes = record {
         front = p.front ++ q.writes.front;
         rest = q.writes.rest;
         wrote = Wrote-trans p.writes q.writes.wrote;
         all = joined a.pipe.outbox text p.front b.pipe.outbox more_text q.writes.front q.writes.rest p.waiting q.writes.all;
       };
+      waiting = lingers_after p.front q.waiting;
       blames = blames_earlier fault a b c Lacks Whole used (b.pipe.inbox ++ q.taken)
           (a.pipe.inbox ++ (p.taken ++ q.taken)) p.good_reads p.good_writes step front q.blames;
       undone = λ spent. elim (q.undone spent) [
@@ -152,11 +168,29 @@ stops_blame Write p0 p w0 w s input by = (refl, by)
 stops_blame Turns p0 p w0 w s input by = (refl, by.0, by.1)
 stops_blame Framing p0 p w0 w s input by = absurd by
 
--- a text that stopped on its way, as a step that breaks
-pub breaks_emit : {p0 p : Pipe} {w0 w : Stream} {text : List ℕ} {fault : Fault} (s : Stream) (used rest : List ℕ) (Wants : List ℕ → Type 0)
-    → Stops w0 w p0.turns p.turns (p0.outbox ++ text) fault → p0.inbox ≡ used ++ rest
-    → Breaks (ends p0 s w0) (ends p s w) used text LacksNothing Wants fault
-breaks_emit {p0} {p} {w0} {w} {fault = fault} s used rest Wants e same = record {
+-- a fault that stops a text
+stopped_by : (w0 w : Stream) (turns : ℕ) (fault : Fault) → StopsBy w0 w turns fault → (fault ≡ Write) ⊎ (fault ≡ Turns)
+stopped_by w0 w turns Write by = inl refl
+stopped_by w0 w turns Turns by = inr refl
+stopped_by w0 w turns Read by = absurd by
+stopped_by w0 w turns Framing by = absurd by
+
+-- what waits is as it was where it wasn't written whole
+lingers_stopped : {w0 w : Stream} {turns0 turns : ℕ} {text : List ℕ} {fault : Fault} (waiting : List ℕ) → (e : Stops w0 w turns0 turns text fault)
+    → waiting ≡ text → Lingers e.front.front e.front.rest waiting fault
+lingers_stopped {w0} {w} {turns = turns} {fault = fault} waiting e same = record {
+  sent = [];
+  again = e.front.front;
+  front_is = refl;
+  waiting_is = same ∙ e.front.all;
+  stopped = inr (e.left, stopped_by w0 w turns fault e.cause);
+}
+
+-- what waits wasn't written whole, as a step that breaks
+pub breaks_flush : {p0 p : Pipe} {w0 w : Stream} {fault : Fault} (s : Stream) (Wants : List ℕ → Type 0)
+    → Stops w0 w p0.turns p.turns p0.outbox fault → p.inbox ≡ p0.inbox → p.outbox ≡ p0.outbox
+    → Breaks (ends p0 s w0) (ends p s w) [] [] LacksNothing Wants fault
+breaks_flush {p0} {p} {w0} {w} {fault} s Wants stops held waits = let e = stops_as (sym (append-nil p0.outbox)) stops in record {
   taken = [];
   reads = record {
     same_source = refl;
@@ -167,9 +201,9 @@ breaks_emit {p0} {p} {w0} {w} {fault = fault} s used rest Wants e same = record 
     writes = e.spends.calls;
     spent = omega (arith, e.spends.spent);
   };
-  rest = rest;
-  held = append-nil p0.inbox ∙ same;
+  held = append-nil p0.inbox ∙ sym held;
   writes = e.front;
+  waiting = lingers_stopped p.outbox e (waits ∙ sym (append-nil p0.outbox));
   blames = stops_blame fault p0 p w0 w s (p0.inbox ++ []) e.cause;
   undone = λ spent. inl e.left;
 }
@@ -187,9 +221,9 @@ pub breaks_end : {a b : Ends} {used text : List ℕ} (Lacks Wants : List ℕ →
 breaks_end {a} {b} {used} Lacks Wants p end lacks = record {
   taken = p.taken;
   reads = p.reads;
-  rest = b.pipe.inbox;
   held = p.held;
   writes = record { front = p.front; rest = b.pipe.outbox; wrote = p.writes; all = p.waiting };
+  waiting = lingers_rest p.front b.pipe.outbox Read;
   blames = (p.good_writes, inr (p.good_reads, end, subst Lacks (sym p.held) lacks));
   undone = λ spent. absurd (read_is_not_turns spent);
 }
@@ -201,9 +235,9 @@ pub breaks_framing : {a b : Ends} {used text : List ℕ} (Lacks Wants : List ℕ
 breaks_framing {a} {b} {used} Lacks Wants p never = record {
   taken = p.taken;
   reads = p.reads;
-  rest = b.pipe.inbox;
   held = p.held;
   writes = record { front = p.front; rest = b.pipe.outbox; wrote = p.writes; all = p.waiting };
+  waiting = lingers_rest p.front b.pipe.outbox Framing;
   blames = (p.good_reads, p.good_writes, λ more. subst (λ (l : List ℕ). Lacks (l ++ more)) (sym p.held) (never more));
   undone = λ spent. absurd (framing_is_not_turns spent);
 }
@@ -230,28 +264,28 @@ moves_use p0 p s w used e same turns = record {
   good_writes = refl;
 }
 
--- less is claimed to be used
-pub breaks_less : {a b : Ends} {text : List ℕ} {fault : Fault} (Lacks Wants : List ℕ → Type 0) (used tail : List ℕ)
-    → Breaks a b (used ++ tail) text Lacks Wants fault
-    → Breaks a b used text Lacks Wants fault
-breaks_less Lacks Wants used tail p = record {
-  taken = p.taken;
-  reads = p.reads;
-  rest = tail ++ p.rest;
-  held = p.held ∙ append_assoc used tail p.rest;
-  writes = p.writes;
-  blames = p.blames;
-  undone = p.undone;
-}
-
 -- no turn is left, so nothing is asked
 pub breaks_unasked : (p : Pipe) (s w : Stream) → p.turns ≡ 0 → Breaks (ends p s w) (ends p s w) [] [] LacksNothing (IsAll p.inbox) Turns
 breaks_unasked p s w none = record {
   taken = [];
   reads = Reads-none (ends p s w);
-  rest = p.inbox;
   held = append-nil p.inbox;
-  writes = record { front = []; rest = p.outbox ++ []; wrote = Wrote-nil w; all = refl };
+  writes = record { front = []; rest = p.outbox; wrote = Wrote-nil w; all = append-nil p.outbox };
+  waiting = lingers_rest [] p.outbox Turns;
   blames = (refl, refl, none);
   undone = λ spent. inr (append-nil p.inbox);
+}
+
+-- a read failed, and nothing else is changed
+pub breaks_read : (p0 p : Pipe) (s0 s w : Stream) → p.inbox ≡ p0.inbox → p.outbox ≡ p0.outbox → Reads (ends p0 s0 w) (ends p s w) []
+    → s.failures ≡ s0.failures + 1
+    → Breaks (ends p0 s0 w) (ends p s w) [] [] LacksNothing (IsAll p0.inbox) Read
+breaks_read p0 p s0 s w held waits reads failed = record {
+  taken = [];
+  reads = reads;
+  held = append-nil p0.inbox ∙ sym held;
+  writes = record { front = []; rest = p.outbox; wrote = Wrote-nil w; all = append-nil p0.outbox ∙ sym waits };
+  waiting = lingers_rest [] p.outbox Read;
+  blames = (refl, inl failed);
+  undone = λ spent. absurd (read_is_not_turns spent);
 }

@@ -1,11 +1,12 @@
 -- The definitions at worked examples: what must hold, and what must not.
 use base.Fml.{GName}
-use Rattle.std.proofs.Common.{◌≡◌, ℕ, List, [], Some, true, codes, refl, ap, arith, inl, inr}
+use Rattle.std.proofs.Common.{◌≡◌, ℕ, List, [], Some, true, codes, length, length-append, refl, ap, arith, inl, inr}
 use Rattle.base_streams.specs.Streams.{Stream}
 use Rattle.httparse.specs.Grammar.LineEnd.{lf}
 use Rattle.http_bodies.specs.Framings.{IsBody, LacksBody}
-use Rattle.http_bodies.specs.Steps.{Ends, HoldsBack}
-use Rattle.http_bodies.specs.Texts.{WaitsBehind, Wrote}
+use Rattle.http_bodies.specs.Steps.{Ends, HoldsBack, Lingers}
+use Rattle.http_bodies.specs.Texts.{Remains, WaitsBehind, Wrote}
+use Rattle.http_bodies.specs.declared.fault.Fault.TheVariants.{Framing, Write, Turns}
 use Rattle.http_bodies.specs.declared.framing.Framing.TheVariants.{Length, ToEnd}
 use Rattle.http_bodies.specs.Trailers.{print_trailers, IsTrailer}
 
@@ -77,4 +78,38 @@ unfolding ends_at stream
 not_before_one end holds = elim (holds refl) [
   | inl same ↦ absurd (omega (arith, ap (λ (w : Stream). w.calls) same))
   | inr full ↦ absurd (omega (arith, full))
+]
+
+no_write : Framing ≡ Write → ⊥
+no_write is = cc
+
+no_turns : Framing ≡ Turns → ⊥
+no_turns is = cc
+
+-- of two bytes one was written, and both wait as before; a pipe that dropped the one would be wrong
+as_before : Remains (codes "a") (codes "ab") (codes "ab")
+as_before = inl (omega arith, refl)
+
+not_one_less : ¬ (Remains (codes "a") (codes "ab") (codes "b"))
+not_one_less remains = elim remains [
+  | inl kept ↦ absurd (omega (arith, ap (length {A = ℕ}) kept.1))
+  | inr gone ↦ absurd (omega (arith, gone.0))
+]
+
+-- the byte that wasn't written waits, after the one that was where the write failed behind it
+lingers_with_it : Lingers (codes "a") (codes "b") (codes "ab") Write
+lingers_with_it = record { sent = []; again = codes "a"; front_is = refl; waiting_is = refl; stopped = inr (omega arith, inl refl) }
+
+lingers_alone : Lingers (codes "a") (codes "b") (codes "b") Write
+lingers_alone = record { sent = codes "a"; again = []; front_is = refl; waiting_is = refl; stopped = inl refl }
+
+-- it isn't dropped
+not_dropped : ¬ (Lingers (codes "a") (codes "b") [] Write)
+not_dropped x = omega (arith, ap (length {A = ℕ}) x.waiting_is, length-append x.again (codes "b"))
+
+-- and what was written doesn't wait again after a fault of the bytes
+not_again : ¬ (Lingers (codes "a") (codes "b") (codes "ab") Framing)
+not_again x = elim x.stopped [
+  | inl none ↦ absurd (omega (arith, ap (length {A = ℕ}) x.waiting_is, length-append x.again (codes "b"), ap (length {A = ℕ}) none))
+  | inr stopped ↦ elim stopped.1 [ inl is ↦ absurd (no_write is) | inr is ↦ absurd (no_turns is) ]
 ]

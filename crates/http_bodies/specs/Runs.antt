@@ -4,7 +4,7 @@ use Rattle.std.specs.List.{flat_map}
 use Rattle.base_lists.specs.Fronts.{IsFront}
 use Rattle.http_bodies.specs.Framings.{PartOfBody}
 use Rattle.http_bodies.specs.declared.framing.Framing.{Framing}
-use Rattle.http_bodies.specs.Readings.{Feeds}
+use Rattle.http_bodies.specs.Readings.{Feeds, start_of}
 use Rattle.http_bodies.specs.declared.coding.Coding.{Coding}
 
 -- The longest text of a part at the front of the input, where Part says which input is a part and
@@ -19,6 +19,13 @@ pub record IsLongest (Part : List ℕ → List ℕ → Type 0) (input text : Lis
 -- the text of as much of a body as stands at the front of the input
 abbrev pub IsSent : Framing → Bool → List ℕ → List ℕ → Type 0
 IsSent framing framed input text = IsLongest (PartOfBody framing framed) input text
+
+-- A coding took all of these bytes from the beginning of a body on. The text is that of as much of a
+-- body as stands at their front.
+pub record IsTaken (framing : Framing) (framed : Bool) (used text : List ℕ) : Type 0 where
+  pub sent : IsSent framing framed used text
+  pub coding : Coding
+  pub feeds : Feeds (start_of framing framed) coding used text
 
 -- a feed: the bytes that it took and the text that it wrote
 abbrev pub Step : Type 0

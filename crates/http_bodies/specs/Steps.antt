@@ -1,5 +1,5 @@
 -- The steps of a pipe: it takes input, and puts the input's text on its way.
-use Rattle.std.specs.Prelude.{◌≡◌, ℕ, ◌+◌, ◌*◌, ◌^◌, ◌<◌, ◌≤◌, ◌⊎◌, List, ◌++◌, length}
+use Rattle.std.specs.Prelude.{◌≡◌, ℕ, ◌+◌, ◌*◌, ◌^◌, ◌<◌, ◌≤◌, ◌⊎◌, List, [], ◌++◌, length}
 use Rattle.std.specs.Io.KnownBytes.{Consumes, IsAtEnd}
 use Rattle.base_streams.specs.Streams.{Stream}
 use Rattle.http_bodies.specs.declared.fault.Fault.{Fault}
@@ -54,15 +54,24 @@ Blames old new Lacks input Turns = (new.source.failures ≡ old.source.failures)
 Blames old new Lacks input Framing = (new.source.failures ≡ old.source.failures) × (new.sink.failures ≡ old.sink.failures)
     × ((more : List ℕ) → Lacks (input ++ more))
 
--- A fault was met. `used` stands at the front of what was held and read. A front of what waited and
--- of the text was written. Where the turns were spent, some of these wasn't written, or Wants says of
--- what was held and read that more is wanted.
+-- After a fault the rest of a text waits, whose front was written. Where a write failed, or the turns
+-- were spent before the rest, the last bytes of the front may still wait before it.
+pub record Lingers (front rest waiting : List ℕ) (fault : Fault) : Type 0 where
+  pub sent : List ℕ
+  pub again : List ℕ
+  pub front_is : front ≡ sent ++ again
+  pub waiting_is : waiting ≡ again ++ rest
+  pub stopped : (again ≡ []) ⊎ ((0 < length rest) × ((fault ≡ Write) ⊎ (fault ≡ Turns)))
+
+-- A fault was met. The pipe has taken `used` from what it held and read, and holds what is left. A
+-- front of what waited and of the text was written, and the rest of these waits. Where the turns were
+-- spent, some of these wasn't written, or Wants says of what was held and read that more is wanted.
 pub record Breaks (old new : Ends) (used text : List ℕ) (Lacks Wants : List ℕ → Type 0) (fault : Fault) : Type 0 where
   pub taken : List ℕ
   pub reads : Reads old new taken
-  pub rest : List ℕ
-  pub held : old.pipe.inbox ++ taken ≡ used ++ rest
+  pub held : old.pipe.inbox ++ taken ≡ used ++ new.pipe.inbox
   pub writes : WritesFront old.sink new.sink (old.pipe.outbox ++ text)
+  pub waiting : Lingers writes.front writes.rest new.pipe.outbox fault
   pub blames : Blames old new Lacks (old.pipe.inbox ++ taken) fault
   pub undone : fault ≡ Turns → (0 < length writes.rest) ⊎ Wants (old.pipe.inbox ++ taken)
 

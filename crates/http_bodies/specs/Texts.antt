@@ -38,6 +38,10 @@ pub record WritesFront (w0 w : Stream) (text : List ℕ) : Type 0 where
   pub wrote : Wrote w0 w front
   pub all : text ≡ front ++ rest
 
+-- what waited is as it was until all of it was written, and then nothing waits
+abbrev pub Remains : List ℕ → List ℕ → List ℕ → Type 0
+Remains front waiting0 waiting = ((length front < length waiting0) × (waiting ≡ waiting0)) ⊎ ((length waiting0 ≤ length front) × (waiting ≡ []))
+
 -- what stops a text: a write that failed, or want of turns
 abbrev pub StopsBy : Stream → Stream → ℕ → Fault → Type 0
 StopsBy w0 w turns Write = w.failures ≡ w0.failures + 1

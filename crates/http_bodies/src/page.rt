@@ -1,6 +1,6 @@
 ghost use Rattle.std.specs.Prelude.{◌≡◌, ◌+◌, ◌^◌, ◌<◌, ◌++◌, OnOk, IfErr};
 ghost use Rattle.http_bodies.specs.declared.pipe.Pipe as pipes;
-ghost use Rattle.http_bodies.specs.Texts.{Emits, Stops, WaitsBehind};
+ghost use Rattle.http_bodies.specs.Texts.{Emits, Remains, Stops, WaitsBehind};
 
 use crate::fault::Fault;
 use crate::pipe::Pipe;
@@ -17,7 +17,8 @@ pub trait Page {
         requires { (K.stream sink.old).calls + (pipe self.old).turns < 2 ^ 64 }
         ensures ok { OnOk result (Emits (K.stream sink.old) (K.stream sink.new) (pipe self.old).turns (pipe self.new).turns (pipe self.old).outbox (pipe self.new).outbox bytes.now) }
         ensures late { OnOk result (WaitsBehind (K.stream sink.old) (K.stream sink.new) (pipe self.old).outbox (pipe self.new).outbox bytes.now) }
-        ensures err { IfErr result (Stops (K.stream sink.old) (K.stream sink.new) (pipe self.old).turns (pipe self.new).turns ((pipe self.old).outbox ++ bytes.now)) }
+        ensures err { IfErr result (λ fault. (stop : Stops (K.stream sink.old) (K.stream sink.new) (pipe self.old).turns (pipe self.new).turns ((pipe self.old).outbox ++ bytes.now) fault)
+            × Remains stop.front.front (pipe self.old).outbox (pipe self.new).outbox) }
         ensures inbox { (pipe self.new).inbox ≡ (pipe self.old).inbox };
 }
 

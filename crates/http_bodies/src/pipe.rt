@@ -4,7 +4,7 @@ ghost use Rattle.http_bodies.specs.Readings.{Feeds};
 ghost use Rattle.http_bodies.specs.Stops.{is_done, is_bad};
 ghost use Rattle.base_streams.specs.Streams.{Stream};
 ghost use Rattle.http_bodies.specs.Steps.{ends, Moves, Breaks, LacksNothing, IsAll};
-ghost use Rattle.http_bodies.specs.Texts.{Emits, Stops, WaitsBehind};
+ghost use Rattle.http_bodies.specs.Texts.{Emits, Remains, Stops, WaitsBehind};
 
 use crate::coding::Coding;
 use crate::fault::Fault;
@@ -99,7 +99,8 @@ impl Pipe {
         ensures ok { OnOk result (Emits (K.stream sink.old) (K.stream sink.new) self.old.turns self.new.turns self.old.outbox self.new.outbox bytes.now) }
         ensures late { OnOk result (WaitsBehind (K.stream sink.old) (K.stream sink.new) self.old.outbox self.new.outbox bytes.now) }
         ensures full { OnErr result (OUTBOX_BYTES < length (self.old.outbox ++ bytes.now)) }
-        ensures err { IfErr result (Stops (K.stream sink.old) (K.stream sink.new) self.old.turns self.new.turns (self.old.outbox ++ bytes.now)) }
+        ensures err { IfErr result (λ fault. (stop : Stops (K.stream sink.old) (K.stream sink.new) self.old.turns self.new.turns (self.old.outbox ++ bytes.now) fault)
+            × Remains stop.front.front self.old.outbox self.new.outbox) }
         ensures inbox { self.new.inbox ≡ self.old.inbox }
     {
         text::emit(&mut self.outbox, &mut self.turns, sink, bytes)

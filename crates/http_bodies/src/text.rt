@@ -1,6 +1,6 @@
 ghost use Rattle.std.specs.Prelude.{◌≡◌, ◌+◌, ◌^◌, ◌<◌, ◌≤◌, ◌++◌, [], length, take, OnOk, OnErr, IfOk, IfErr};
 ghost use Rattle.http_bodies.specs.declared.outbox.TheConstants.{OUTBOX_BYTES};
-ghost use Rattle.http_bodies.specs.Texts.{Emits, Stops, WaitsBehind};
+ghost use Rattle.http_bodies.specs.Texts.{Emits, Remains, Stops, WaitsBehind};
 
 use crate::fault::Fault;
 use crate::outbox::Outbox;
@@ -49,7 +49,8 @@ pub(crate) fn emit<K: Sink>(
     ensures ok { OnOk result (Emits (K.stream sink.old) (K.stream sink.new) turns.old turns.new outbox.old outbox.new bytes.now) }
     ensures late { OnOk result (WaitsBehind (K.stream sink.old) (K.stream sink.new) outbox.old outbox.new bytes.now) }
     ensures full { OnErr result (OUTBOX_BYTES < length (outbox.old ++ bytes.now)) }
-    ensures err { IfErr result (Stops (K.stream sink.old) (K.stream sink.new) turns.old turns.new (outbox.old ++ bytes.now)) }
+    ensures err { IfErr result (λ fault. (stop : Stops (K.stream sink.old) (K.stream sink.new) turns.old turns.new (outbox.old ++ bytes.now) fault)
+        × Remains stop.front.front outbox.old outbox.new) }
 {
     if bytes.len() <= outbox.room() {
         outbox.push(bytes);

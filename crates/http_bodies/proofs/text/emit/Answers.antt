@@ -1,18 +1,18 @@
 -- What waits goes first, then the bytes.
-use Rattle.http_bodies.proofs.Emitting.{emits_trans, emits_stops, stops_more}
+use Rattle.http_bodies.proofs.Emitting.{emits_trans, stops_kept, stops_late}
 use Rattle.http_bodies.proofs.Exits.{at_exit}
 use Rattle.http_bodies.proofs.text.emit.Goals as goal
 
 pub returns-in_err-flush-clause-err : goal.returns-in_err-flush-clause-err
 returns-in_err-flush-clause-err g c =
     at_exit c.from_residual.result _ _ c.from_residual.ensures.1
-    (stops_more c.args.bytes.now c.in_err-flush.ensures.err)
+    (stops_kept c.args.bytes.now c.in_err-flush.ensures.err c.in_err-flush.ensures.waiting)
 
 pub returns-in_err-write_text-clause-err : goal.returns-in_err-write_text-clause-err
 returns-in_err-write_text-clause-err g c =
     let flushed = c.in_ok-flush.ensures in
     at_exit c.from_residual-in_err-write_text.result _ _ c.from_residual-in_err-write_text.ensures.1
-    (emits_stops c.args.bytes.now flushed.ok (rw flushed.empty c.in_err-write_text.ensures.err))
+    (stops_late c.args.bytes.now flushed.ok flushed.empty c.in_err-write_text.ensures.err)
 
 pub returns-clause-ok : goal.returns-clause-ok
 returns-clause-ok g c =

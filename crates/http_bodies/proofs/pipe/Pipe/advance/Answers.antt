@@ -1,18 +1,16 @@
 -- What waits is written first.
-use Rattle.std.proofs.Common.{◌≡◌, ◌∙◌, [], sym, refl, arith, append-nil}
+use Rattle.std.proofs.Common.{◌≡◌, ◌∙◌, [], sym, arith}
 use Rattle.std.proofs.lemmas.Bool.Decides.{nat_tests}
 use Rattle.std.proofs.lemmas.List.{nil_from_length}
 use Rattle.http_bodies.specs.Steps.{LacksNothing, IsAll}
-use Rattle.http_bodies.proofs.Emitting.{stops_as}
 use Rattle.http_bodies.proofs.Exits.{at_exit}
-use Rattle.http_bodies.proofs.Stepping.{moves_emit, moves_trans, moves_breaks, breaks_emit}
+use Rattle.http_bodies.proofs.Stepping.{moves_emit, moves_trans, moves_breaks, breaks_flush}
 use Rattle.http_bodies.proofs.pipe.Pipe.advance.Goals as goal
 
 pub returns-in_err-flush-clause-err : goal.returns-in_err-flush-clause-err
 returns-in_err-flush-clause-err g c =
-    let before = c.args.self.now in
     at_exit _ _ _ c.from_residual.ensures.1
-    (breaks_emit (g.S.Source.stream c.args.source.now) [] before.inbox (IsAll []) (stops_as (sym (append-nil before.outbox)) c.in_err-flush.ensures.err) refl)
+    (breaks_flush (g.S.Source.stream c.args.source.now) (IsAll []) c.in_err-flush.ensures.err c.in_err-flush.ensures.inbox c.in_err-flush.ensures.waiting)
 
 pub returns-then-not-is_hungry-clause-ok : goal.returns-then-not-is_hungry-clause-ok
 returns-then-not-is_hungry-clause-ok g c =

@@ -2,7 +2,7 @@
 use Rattle.std.proofs.Common.{refl, arith}
 use Rattle.std.proofs.lemmas.Result.{on_ok_weaker}
 use Rattle.http_bodies.proofs.Exits.{at_exit, if_err_weaker}
-use Rattle.http_bodies.proofs.PipeFeeding.{forwarding_start, forwarding_feed, forwarding_on, never_whole, whole_body, body_to_end, part_before, part_of_none, part_at_end}
+use Rattle.http_bodies.proofs.PipeFeeding.{forwarding_start, forwarding_feed, forwarding_on, never_whole, whole_body, body_to_end, part_before, part_of_none, part_at_end, unread_on}
 use Rattle.http_bodies.proofs.Stepping.{Countable-later}
 use Rattle.http_bodies.proofs.pipe.Pipe.forward_body.Goals as goal
 
@@ -43,13 +43,13 @@ returns-in_err-more-clause-err g c =
 pub returns-then-not-more-clause-ok : goal.returns-then-not-more-clause-ok
 returns-then-not-more-clause-ok g c =
     let fed = forwarding_feed refl refl c.forwarding.invariant (c.feed.ensures.moves (g.S.Source.stream c.forwarding.source) (g.K.Sink.stream c.forwarding.sink)) in
-    on_ok_weaker c.ended.result (λ e. body_to_end (forwarding_on (c.in_ok-whole.ensures.part c.if-whole.false).1 c.in_ok-more.ensures.read fed c.in_ok-more.ensures.ok) e) c.ended.ensures.ok
+    on_ok_weaker c.ended.result (λ e. body_to_end (forwarding_on (c.in_ok-whole.ensures.part c.if-whole.false).0 (c.in_ok-whole.ensures.part c.if-whole.false).1 c.in_ok-more.ensures.read c.in_ok-more.ensures.unread fed c.in_ok-more.ensures.ok) e) c.ended.ensures.ok
 
 pub returns-then-not-more-clause-err : goal.returns-then-not-more-clause-err
 returns-then-not-more-clause-err g c =
     let fed = forwarding_feed refl refl c.forwarding.invariant (c.feed.ensures.moves (g.S.Source.stream c.forwarding.source) (g.K.Sink.stream c.forwarding.sink)) in
     let going = c.in_ok-whole.ensures.part c.if-whole.false in
-    let on = forwarding_on (c.in_ok-whole.ensures.part c.if-whole.false).1 c.in_ok-more.ensures.read fed c.in_ok-more.ensures.ok in
+    let on = forwarding_on (c.in_ok-whole.ensures.part c.if-whole.false).0 (c.in_ok-whole.ensures.part c.if-whole.false).1 c.in_ok-more.ensures.read c.in_ok-more.ensures.unread fed c.in_ok-more.ensures.ok in
     if_err_weaker c.ended.result
     (λ fault is. rw is.0 (part_at_end on going.0 is.1 (c.in_ok-more.ensures.end c.if-not-more.true) (c.in_ok-more.ensures.none c.if-not-more.true)))
     c.ended.ensures.err
@@ -62,4 +62,20 @@ forwarding-smaller g c =
 pub forwarding-preserved : goal.forwarding-preserved
 forwarding-preserved g c =
     let fed = forwarding_feed refl refl c.forwarding.invariant (c.feed.ensures.moves (g.S.Source.stream c.forwarding.source) (g.K.Sink.stream c.forwarding.sink)) in
-    forwarding_on (c.in_ok-whole.ensures.part c.if-whole.false).1 c.in_ok-more.ensures.read fed c.in_ok-more.ensures.ok
+    forwarding_on (c.in_ok-whole.ensures.part c.if-whole.false).0 (c.in_ok-whole.ensures.part c.if-whole.false).1 c.in_ok-more.ensures.read c.in_ok-more.ensures.unread fed c.in_ok-more.ensures.ok
+
+pub returns-in_err-whole-clause-unread : goal.returns-in_err-whole-clause-unread
+returns-in_err-whole-clause-unread g c = c.forwarding.invariant.unread
+
+pub returns-then-whole-clause-unread : goal.returns-then-whole-clause-unread
+returns-then-whole-clause-unread g c = c.forwarding.invariant.unread
+
+pub returns-in_err-more-clause-unread : goal.returns-in_err-more-clause-unread
+returns-in_err-more-clause-unread g c =
+    let fed = forwarding_feed refl refl c.forwarding.invariant (c.feed.ensures.moves (g.S.Source.stream c.forwarding.source) (g.K.Sink.stream c.forwarding.sink)) in
+    unread_on (g.S.Source.stream c.advance.new.source) (c.in_ok-whole.ensures.part c.if-whole.false).0 fed c.in_err-more.ensures.unread
+
+pub returns-then-not-more-clause-unread : goal.returns-then-not-more-clause-unread
+returns-then-not-more-clause-unread g c =
+    let fed = forwarding_feed refl refl c.forwarding.invariant (c.feed.ensures.moves (g.S.Source.stream c.forwarding.source) (g.K.Sink.stream c.forwarding.sink)) in
+    unread_on (g.S.Source.stream c.advance.new.source) (c.in_ok-whole.ensures.part c.if-whole.false).0 fed c.in_ok-more.ensures.unread

@@ -1,5 +1,5 @@
 -- Texts that go to a sink one after the other.
-use Rattle.std.proofs.Common.{◌≡◌, ◌∙◌, ◌<◌, ◌≤◌, ℕ, List, [], ◌++◌, refl, sym, ap, arith, append_assoc, append-nil, length, length-append, subst, inl, inr}
+use Rattle.std.proofs.Common.{◌≡◌, ◌∙◌, ◌<◌, ◌≤◌, ℕ, List, [], ◌∷◌, ◌++◌, refl, sym, ap, arith, append_assoc, append-nil, length, length-append, subst, inl, inr}
 use Rattle.base_streams.specs.Streams.{Stream}
 use Rattle.http_bodies.specs.declared.fault.Fault.{Fault}
 use Rattle.http_bodies.specs.declared.fault.Fault.TheVariants.{Framing, Read, Write, Turns}
@@ -125,3 +125,15 @@ stops_whole {text = text} wrote spends cause some = record {
   spends = spends;
   cause = cause;
 }
+
+-- none of what waited and of the text was written, and all waits as before
+as_before : (waiting0 waiting : List ℕ) → waiting ≡ waiting0 → Remains [] waiting0 waiting
+as_before [] waiting same = inr (omega arith, same)
+as_before (byte ∷ rest) waiting same = inl (omega arith, same)
+
+pub stops_unwritten : {w0 w : Stream} {turns0 turns : ℕ} {waiting0 waiting : List ℕ} {fault : Fault} (text : List ℕ) → Wrote w0 w []
+    → Spends w0 w turns0 turns → StopsBy w0 w turns fault → 0 < length (waiting0 ++ text) → waiting ≡ waiting0
+    → (stop : Stops w0 w turns0 turns (waiting0 ++ text) fault) × Remains stop.front.front waiting0 waiting
+unfolding stops_whole
+stops_unwritten {waiting0 = waiting0} {waiting = waiting} text wrote spends cause some same =
+    (stops_whole wrote spends cause some, as_before waiting0 waiting same)

@@ -1,19 +1,24 @@
 -- Steps, and then a fault.
 use Rattle.std.proofs.Common.{◌≡◌, ◌∙◌, ◌<◌, ℕ, ◌+◌, List, [], ◌∷◌, ◌++◌, length, refl, sym, ap, arith, append_assoc, append-nil, length-append, subst, inl, inr}
 use Rattle.std.specs.Io.KnownBytes.{Appends, IsAtEnd}
+use Rattle.std.proofs.KnownBytes.{Consumes-nil}
 use Rattle.base_streams.specs.Streams.{Stream}
+use Rattle.http_bodies.specs.Framings.{LacksBody, IsUnfinished}
+use Rattle.http_bodies.specs.Runs.{IsTaken}
 use Rattle.http_bodies.specs.declared.fault.Fault as Body
 use Rattle.http_bodies.specs.declared.fault.Fault.TheVariants as OfBody
+use Rattle.http_bodies.specs.declared.framing.Framing as Framed
 use Rattle.http_bodies.specs.declared.outbox.TheConstants.{OUTBOX_BYTES}
 use Rattle.http_bodies.specs.declared.pipe.Pipe.{Pipe}
-use Rattle.http_bodies.specs.Texts.{Wrote}
+use Rattle.http_bodies.specs.Texts.{StopsBy, Wrote}
 use Rattle.http_bodies.specs.Steps.{Ends, ends, Reads, Moves, Breaks, HoldsBack, LacksNothing}
 use Rattle.http_bodies.specs.Steps as Body_steps
-use Rattle.http_bodies.proofs.Stepping.{joined, Reads-trans, moves_emit, breaks_emit}
+use Rattle.http_bodies.proofs.Stepping.{joined, Reads-trans, moves_emit}
 use Rattle.http_bodies.proofs.Writing.{Wrote-trans}
 use Rattle.http_texts.specs.Emissions.{Sends, Puts, Halts}
 use Rattle.relay_http.specs.Failures.{Blames, Fails, Explains, Conveys, Misses}
 use Rattle.http_texts.specs.Faults.{relayed}
+use Rattle.http_texts.specs.Messages.{NoBody}
 use Rattle.http_texts.specs.declared.fault.Fault.{Fault}
 use Rattle.http_texts.specs.declared.fault.Fault.TheVariants.{NoMemory, Head, Framing, Read, Write, Turns, Closed}
 
@@ -102,12 +107,41 @@ pub fails_of : {a b : Ends} {used text : List ℕ} {fault : Body.Fault} (Lacks :
 fails_of {a} {b} {fault = fault} Lacks Why Wants early bad p = record {
   taken = p.taken;
   reads = p.reads;
-  rest = p.rest;
+  rest = b.pipe.inbox;
   held = p.held;
   writes = p.writes;
   blames = blames_of fault a b Lacks Why (a.pipe.inbox ++ p.taken) early bad p.blames;
   undone = λ spent. p.undone (relayed_turns fault spent);
 }
+
+pub fails_as : {a b : Ends} {used text same_used same_text : List ℕ} {fault : Fault} (Why : Fault → List ℕ → Type 0) (Wants : List ℕ → Type 0)
+    → used ≡ same_used → text ≡ same_text
+    → Fails a b used text Why Wants fault → Fails a b same_used same_text Why Wants fault
+fails_as {a} {b} {used} {text} {same_used} {fault = fault} Why Wants e f p =
+    subst (λ (l : List ℕ). Fails a b same_used l Why Wants fault) f (subst (λ (l : List ℕ). Fails a b l text Why Wants fault) e p)
+
+-- less is claimed to be used
+pub fails_less : {a b : Ends} {text : List ℕ} {fault : Fault} (Why : Fault → List ℕ → Type 0) (Wants : List ℕ → Type 0) (used tail : List ℕ)
+    → Fails a b (used ++ tail) text Why Wants fault
+    → Fails a b used text Why Wants fault
+fails_less Why Wants used tail p = record {
+  taken = p.taken;
+  reads = p.reads;
+  rest = tail ++ p.rest;
+  held = p.held ∙ append_assoc used tail p.rest;
+  writes = p.writes;
+  blames = p.blames;
+  undone = p.undone;
+}
+
+-- one amid a body: a part of it stands at the front of what was taken
+pub fails_body : {a b : Ends} {used text : List ℕ} {fault : Body.Fault} (framing : Framed.Framing) (framed : Bool) → (is : IsTaken framing framed used text)
+    → Breaks a b used text (LacksBody framing) (IsUnfinished framing) fault
+    → Fails a b is.sent.used text (NoBody framing) (IsUnfinished framing) (relayed fault)
+fails_body framing framed is p =
+    fails_less (NoBody framing) (IsUnfinished framing) is.sent.used is.sent.rest
+    (fails_as (NoBody framing) (IsUnfinished framing) is.sent.input_is refl
+    (fails_of (LacksBody framing) (NoBody framing) (IsUnfinished framing) (λ l lacks. lacks) (λ l lacks. lacks) p))
 
 -- one after which nothing lacks
 pub fails_plainly : {a b : Ends} {used text : List ℕ} {fault : Body.Fault} (Why : Fault → List ℕ → Type 0) (Wants : List ℕ → Type 0)
@@ -174,29 +208,33 @@ fails_end {a} {b} Why Wants p end why = record {
 pub moves_put : {p q : Pipe} {a b : Stream} {text : List ℕ} (s : Stream) → Sends p q a b text → Moves (ends p s a) (ends q s b) [] text
 moves_put s x = moves_emit s [] x.emits (sym x.inbox)
 
+-- what stops a text is a fault of the relay's
+stops_blames : (fault : Body.Fault) (p0 p : Pipe) (w0 w s : Stream) (Why : Fault → List ℕ → Type 0) (input : List ℕ) → StopsBy w0 w p.turns fault
+    → Blames (ends p0 s w0) (ends p s w) Why input (relayed fault)
+stops_blames OfBody.Read p0 p w0 w s Why input by = absurd by
+stops_blames OfBody.Write p0 p w0 w s Why input by = (refl, by)
+stops_blames OfBody.Turns p0 p w0 w s Why input by = (record { reads = refl; writes = by.0 }, by.1)
+stops_blames OfBody.Framing p0 p w0 w s Why input by = absurd by
+
 pub fails_put : {p q : Pipe} {a b : Stream} {text : List ℕ} {fault : Body.Fault} (s : Stream) (Why : Fault → List ℕ → Type 0) (Wants : List ℕ → Type 0)
     → Halts p q a b text fault
     → Fails (ends p s a) (ends q s b) [] text Why Wants (relayed fault)
-fails_put {p} s Why Wants x = fails_plainly Why Wants (breaks_emit s [] p.inbox Wants x.stops refl)
-
-pub fails_as : {a b : Ends} {used text same_used same_text : List ℕ} {fault : Fault} (Why : Fault → List ℕ → Type 0) (Wants : List ℕ → Type 0)
-    → used ≡ same_used → text ≡ same_text
-    → Fails a b used text Why Wants fault → Fails a b same_used same_text Why Wants fault
-fails_as {a} {b} {used} {text} {same_used} {fault = fault} Why Wants e f p =
-    subst (λ (l : List ℕ). Fails a b same_used l Why Wants fault) f (subst (λ (l : List ℕ). Fails a b l text Why Wants fault) e p)
-
--- less is claimed to be used
-pub fails_less : {a b : Ends} {text : List ℕ} {fault : Fault} (Why : Fault → List ℕ → Type 0) (Wants : List ℕ → Type 0) (used tail : List ℕ)
-    → Fails a b (used ++ tail) text Why Wants fault
-    → Fails a b used text Why Wants fault
-fails_less Why Wants used tail p = record {
-  taken = p.taken;
-  reads = p.reads;
-  rest = tail ++ p.rest;
-  held = p.held ∙ append_assoc used tail p.rest;
-  writes = p.writes;
-  blames = p.blames;
-  undone = p.undone;
+fails_put {p} {q} {a} {b} {fault = fault} s Why Wants x = record {
+  taken = [];
+  reads = record {
+    same_source = refl;
+    same_sink = x.stops.spends.same;
+    bytes = Consumes-nil s.bytes;
+    few = omega arith;
+    reads = omega arith;
+    writes = x.stops.spends.calls;
+    spent = omega (arith, x.stops.spends.spent);
+  };
+  rest = p.inbox;
+  held = append-nil p.inbox;
+  writes = x.stops.front;
+  blames = stops_blames fault p q a b s Why (p.inbox ++ []) x.stops.cause;
+  undone = λ spent. inl x.stops.left;
 }
 
 -- a step, and then a text that stopped on its way

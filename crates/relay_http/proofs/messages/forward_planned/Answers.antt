@@ -1,12 +1,12 @@
 -- The head, the body and what waits, one after the other.
 use Rattle.std.proofs.Common.{◌∙◌, [], ◌++◌, refl, sym, append-nil}
-use Rattle.http_bodies.specs.Framings.{LacksBody, IsUnfinished}
+use Rattle.http_bodies.specs.Framings.{IsUnfinished}
 use Rattle.http_bodies.specs.Steps.{ends}
 use Rattle.http_bodies.proofs.Exits.{at_exit}
 use Rattle.http_bodies.proofs.Stepping.{moves_trans, moves_as}
 use Rattle.http_texts.specs.Messages.{NoBody}
 use Rattle.http_texts.specs.Texts.{answer_text}
-use Rattle.relay_http.proofs.Failing.{moves_fails, moves_put, moves_halts, fails_put, fails_of, fails_as, relayed_framing, halts_unframed, puts_hold}
+use Rattle.relay_http.proofs.Failing.{moves_fails, moves_put, moves_halts, fails_put, fails_body, fails_as, relayed_framing, halts_unframed, puts_hold}
 use Rattle.http_texts.proofs.Forwarding.{part_none, body_part}
 use Rattle.http_texts.specs.declared.persistence.Persistence.TheVariants.{Close}
 use Rattle.relay_http.proofs.messages.forward_planned.Goals as goal
@@ -30,11 +30,11 @@ returns-in_err-forward_body-clause-err g c =
     let put = moves_put (g.S.Source.stream c.args.source.now) c.in_ok-put_answer.ensures.ok.sends in
     let part = c.in_err-forward_body.ensures.err in
     at_exit _ _ _ c.from_residual-in_err-forward_body.ensures.1 (
-      part.0,
+      part.2.sent.used,
       part.1,
-      part.2,
+      part.2.sent.part,
       moves_fails (NoBody plan.body) (NoBody plan.body) (IsUnfinished plan.body) (IsUnfinished plan.body) (λ l why. why) (λ l wants. wants) put
-          (fails_of (LacksBody plan.body) (NoBody plan.body) (IsUnfinished plan.body) (λ l lacks. lacks) (λ l lacks. lacks) part.3),
+          (fails_body plan.body c.args.framed part.2 part.3),
       λ at. puts_hold (g.S.Source.stream c.args.source.now) (ends c.forward_body.new.self (g.S.Source.stream c.forward_body.new.source) (g.K.Sink.stream c.forward_body.new.sink))
           part.1 c.in_ok-put_answer.ensures.ok (part.4 (relayed_framing _ at)),
     )

@@ -1,6 +1,6 @@
 -- The head, the body and what waits, one after the other.
 use Rattle.std.proofs.Common.{◌∙◌, [], ◌++◌, refl, sym, append-nil, inl}
-use Rattle.http_bodies.specs.Framings.{LacksBody, IsUnfinished}
+use Rattle.http_bodies.specs.Framings.{IsUnfinished}
 use Rattle.http_bodies.specs.Steps.{ends}
 use Rattle.http_bodies.proofs.Exits.{at_exit}
 use Rattle.http_bodies.proofs.Stepping.{moves_none, moves_trans, moves_as, Countable-later}
@@ -9,7 +9,7 @@ use Rattle.http_texts.specs.Messages.PartOfForwarded.{nothing, head_and_body}
 use Rattle.http_texts.specs.Messages.LacksForwarded.{no_framing, no_body}
 use Rattle.http_texts.specs.Texts.{request_text, unnamed}
 use Rattle.relay_http.specs.Wants.{WantsBody}
-use Rattle.relay_http.proofs.Failing.{moves_fails, moves_put, moves_halts, fails_put, fails_of, fails_as, fails_framing, relayed_framing, halts_unframed, puts_hold}
+use Rattle.relay_http.proofs.Failing.{moves_fails, moves_put, moves_halts, fails_put, fails_body, fails_as, fails_framing, relayed_framing, halts_unframed, puts_hold}
 use Rattle.http_texts.proofs.Forwarding.{part_none, body_part}
 use Rattle.http_texts.specs.declared.persistence.Persistence.TheVariants.{Close}
 use Rattle.relay_http.proofs.messages.forward_request.Goals as goal
@@ -41,12 +41,12 @@ returns-in_err-forward_body-clause-err g c =
     let put = moves_put (g.S.Source.stream c.args.source.now) c.in_ok-put_request.ensures.ok.sends in
     let part = c.in_err-forward_body.ensures.err in
     at_exit _ _ _ c.from_residual-in_err-forward_body.ensures.1 (
-      part.0,
+      part.2.sent.used,
       request_text (unnamed Close) r framing ++ part.1,
-      head_and_body framing part.0 part.1 is part.2,
+      head_and_body framing part.2.sent.used part.1 is part.2.sent.part,
       moves_fails (NoBody framing) (LacksForwarded r) (IsUnfinished framing) (WantsBody r) (λ l why. no_body framing is why)
           (λ l wants. (framing, is, wants)) put
-          (fails_of (LacksBody framing) (NoBody framing) (IsUnfinished framing) (λ l lacks. lacks) (λ l lacks. lacks) part.3),
+          (fails_body framing true part.2 part.3),
       λ at. puts_hold (g.S.Source.stream c.args.source.now) (ends c.forward_body.new.self (g.S.Source.stream c.forward_body.new.source) (g.K.Sink.stream c.forward_body.new.sink))
           part.1 c.in_ok-put_request.ensures.ok (part.4 (relayed_framing _ at)),
     )

@@ -1,6 +1,6 @@
 -- Steps, and then a fault.
-use Rattle.std.proofs.Common.{◌≡◌, ◌∙◌, ◌<◌, ℕ, ◌+◌, List, [], ◌∷◌, ◌++◌, length, refl, sym, ap, arith, append_assoc, append-nil, length-append, subst, inl, inr}
-use Rattle.std.specs.Io.KnownBytes.{Appends, IsAtEnd}
+use Rattle.std.proofs.Common.{◌≡◌, ◌∙◌, ◌<◌, ℕ, Bool, ◌+◌, List, [], ◌++◌, length, refl, sym, ap, arith, append_assoc, append-nil, length-append, subst, inl, inr}
+use Rattle.std.specs.Io.KnownBytes.{IsAtEnd}
 use Rattle.std.proofs.KnownBytes.{Consumes-nil}
 use Rattle.base_streams.specs.Streams.{Stream}
 use Rattle.http_bodies.specs.Framings.{LacksBody, IsUnfinished}

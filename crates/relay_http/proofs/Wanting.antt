@@ -1,5 +1,5 @@
 -- What an answer lacks behind its interim heads, where more of it is wanted.
-use Rattle.std.proofs.Common.{◌≡◌, ℕ, List, [], ◌++◌, refl, sym, append_assoc, append-nil, subst}
+use Rattle.std.proofs.Common.{ℕ, List, ◌++◌, refl, sym, append_assoc, subst}
 use Rattle.httparse.specs.Grammar.{ResponseHead, print_response}
 use Rattle.http_bodies.specs.Framings.{IsUnfinished}
 use Rattle.http_bodies.specs.Steps.{IsAll}

@@ -9,6 +9,7 @@ ghost use Rattle.http_texts.specs.Heads.{IsRequest, LacksRequest};
 ghost use Rattle.http_texts.specs.Replies.{leave_text, refusal_text};
 ghost use Rattle.relay_http.specs.States as states;
 ghost use Rattle.relay_http.specs.States.{IsAtOrFailed, Serves};
+ghost use Rattle.relay_http.specs.Wants.{WantsBody};
 ghost use Rattle.req_view.specs.Heads.{HasNoHead};
 ghost use Rattle.req_view.specs.Request.{request_of};
 
@@ -81,6 +82,7 @@ impl Exchange {
             → IfErr result (FailsToForward view.now self.old.pipe.inbox (R.remaining reader.old) (R.remaining reader.new) (W.contents writer.old)
             (W.contents writer.new)) }
         ensures held { self.old.stage ≢ Stage.Failed → OnErr result (self.new.pipe.inbox ≡ []) }
+        ensures unread { ¬ (WantsBody view.now self.old.pipe.inbox) → R.remaining reader.new ≡ R.remaining reader.old }
         ensures failed { OnErr result (self.new.stage ≡ Stage.Failed) }
         ensures turns { self.new.pipe.turns ≤ self.old.pipe.turns }
         ensures spent { result ≡ Err Fault.Turns → self.new.pipe.turns ≡ 0 }

@@ -40,6 +40,7 @@ pub(crate) fn forward_request<S: Source, K: Sink>(
     ensures ok { OnOk result ((used : List ℕ) × (text : List ℕ) × messages.IsForwarded (unnamed Persistence.Close) view.now used text
         × Moves (ends pipe.old (S.stream source.old) (K.stream sink.old)) (ends pipe.new (S.stream source.new) (K.stream sink.new)) used text) }
     ensures empty { OnOk result (pipe.new.outbox ≡ []) }
+    ensures unread { ¬ (WantsBody view.now pipe.old.inbox) → S.stream source.new ≡ S.stream source.old }
     ensures err { IfErr result (λ fault. (used : List ℕ) × (text : List ℕ) × messages.PartOfForwarded (unnamed Persistence.Close) view.now used text
         × Fails (ends pipe.old (S.stream source.old) (K.stream sink.old)) (ends pipe.new (S.stream source.new) (K.stream sink.new)) used text
         (messages.LacksForwarded view.now) (WantsBody view.now) fault
@@ -100,6 +101,7 @@ fn forward_planned<S: Source, K: Sink>(
         × (planned.now.plan.body ≡ Framing.ToEnd → IsAtEnd (S.stream source.new).bytes)
         × (planned.now.plan.body ≡ Framing.ToEnd → pipe.new.inbox ≡ [])) }
     ensures empty { OnOk result (pipe.new.outbox ≡ []) }
+    ensures unread { ¬ (IsUnfinished planned.now.plan.body pipe.old.inbox) → S.stream source.new ≡ S.stream source.old }
     ensures err { IfErr result (λ fault. (body : List ℕ) × (sent_on : List ℕ) × PartOfBody planned.now.plan.body framed body sent_on
         × Fails (ends pipe.old (S.stream source.old) (K.stream sink.old)) (ends pipe.new (S.stream source.new) (K.stream sink.new)) body
         (answer_text Persistence.Close framed planned.now.head planned.now.plan ++ sent_on) (messages.NoBody planned.now.plan.body)

@@ -137,6 +137,7 @@ impl Exchange {
             × (fault ≡ Fault.Framing → HoldsBack (ends self.old.pipe (S.stream source.old) (K.stream sink.old)) (ends self.new.pipe (S.stream source.new)
             (K.stream sink.new)) text)) }
         ensures held { self.old.stage ≢ Stage.Failed → OnErr result (self.new.pipe.inbox ≡ []) }
+        ensures unread { ¬ (WantsBody view.now self.old.pipe.inbox) → S.stream source.new ≡ S.stream source.old }
         ensures failed { OnErr result (self.new.stage ≡ Stage.Failed) }
         ensures turns { self.new.pipe.turns ≤ self.old.pipe.turns }
         ensures spent { result ≡ Err Fault.Turns → self.new.pipe.turns ≡ 0 }

@@ -1,5 +1,5 @@
 -- The head, the body and what waits, one after the other.
-use Rattle.std.proofs.Common.{◌∙◌, [], ◌++◌, refl, sym, append-nil}
+use Rattle.std.proofs.Common.{◌∙◌, [], ◌++◌, refl, sym, append-nil, subst}
 use Rattle.http_bodies.specs.Framings.{IsUnfinished}
 use Rattle.http_bodies.specs.Steps.{ends}
 use Rattle.http_bodies.proofs.Exits.{at_exit}
@@ -68,3 +68,15 @@ returns-clause-ok g c =
       c.in_ok-forward_body.ensures.end,
       λ e. c.in_ok-send.ensures.ok.inbox ∙ c.in_ok-forward_body.ensures.all e,
     )
+
+pub returns-in_err-forward_body-clause-unread : goal.returns-in_err-forward_body-clause-unread
+returns-in_err-forward_body-clause-unread g c = λ whole.
+    c.in_err-forward_body.ensures.unread (λ wants. whole (subst (IsUnfinished c.args.planned.now.plan.body) c.in_ok-put_answer.ensures.ok.sends.inbox wants))
+
+pub returns-in_err-send-clause-unread : goal.returns-in_err-send-clause-unread
+returns-in_err-send-clause-unread g c = λ whole.
+    c.in_ok-forward_body.ensures.unread (λ wants. whole (subst (IsUnfinished c.args.planned.now.plan.body) c.in_ok-put_answer.ensures.ok.sends.inbox wants))
+
+pub returns-clause-unread : goal.returns-clause-unread
+returns-clause-unread g c = λ whole.
+    c.in_ok-forward_body.ensures.unread (λ wants. whole (subst (IsUnfinished c.args.planned.now.plan.body) c.in_ok-put_answer.ensures.ok.sends.inbox wants))

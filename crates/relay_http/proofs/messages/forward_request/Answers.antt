@@ -1,5 +1,5 @@
 -- The head, the body and what waits, one after the other.
-use Rattle.std.proofs.Common.{◌∙◌, [], ◌++◌, refl, sym, append-nil, inl}
+use Rattle.std.proofs.Common.{◌∙◌, true, [], ◌++◌, refl, sym, append-nil, inl, subst}
 use Rattle.http_bodies.specs.Framings.{IsUnfinished}
 use Rattle.http_bodies.specs.Steps.{ends}
 use Rattle.http_bodies.proofs.Exits.{at_exit}
@@ -90,3 +90,18 @@ pub send-requires : goal.send-requires
 send-requires g c =
     let put = moves_put (g.S.Source.stream c.args.source.now) c.in_ok-put_request.ensures.ok.sends in
     (Countable-later (moves_trans put c.in_ok-forward_body.ensures.ok.3).reads c.requires).writes
+
+pub returns-in_err-forward_body-clause-unread : goal.returns-in_err-forward_body-clause-unread
+returns-in_err-forward_body-clause-unread g c =
+    let is = sym c.request_framing.ensures ∙ c.in-Some.is in
+    λ whole. c.in_err-forward_body.ensures.unread (λ wants. whole (c.in-Some.framing, is, subst (IsUnfinished c.in-Some.framing) c.in_ok-put_request.ensures.ok.sends.inbox wants))
+
+pub returns-in_err-send-clause-unread : goal.returns-in_err-send-clause-unread
+returns-in_err-send-clause-unread g c =
+    let is = sym c.request_framing.ensures ∙ c.in-Some.is in
+    λ whole. c.in_ok-forward_body.ensures.unread (λ wants. whole (c.in-Some.framing, is, subst (IsUnfinished c.in-Some.framing) c.in_ok-put_request.ensures.ok.sends.inbox wants))
+
+pub returns-clause-unread : goal.returns-clause-unread
+returns-clause-unread g c =
+    let is = sym c.request_framing.ensures ∙ c.in-Some.is in
+    λ whole. c.in_ok-forward_body.ensures.unread (λ wants. whole (c.in-Some.framing, is, subst (IsUnfinished c.in-Some.framing) c.in_ok-put_request.ensures.ok.sends.inbox wants))

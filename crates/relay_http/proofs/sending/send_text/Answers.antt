@@ -4,6 +4,10 @@ use Rattle.http_bodies.proofs.Exits.{at_exit}
 use Rattle.http_texts.proofs.Putting.{sends_trans, sends_halts, sends_as, halts_as}
 use Rattle.relay_http.proofs.sending.send_text.Goals as goal
 
+pub returns-in_err-put-clause-err : goal.returns-in_err-put-clause-err
+returns-in_err-put-clause-err g c =
+    at_exit _ _ _ c.from_residual.ensures.1 (record { stops = c.in_err-put.ensures.err.0; inbox = c.in_err-put.ensures.inbox })
+
 pub returns-in_err-send-clause-err : goal.returns-in_err-send-clause-err
 returns-in_err-send-clause-err g c =
     at_exit _ _ _ c.from_residual-in_err-send.ensures.1

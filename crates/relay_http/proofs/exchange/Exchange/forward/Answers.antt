@@ -26,3 +26,6 @@ returns-clause-untouched g c = λ failed. (
   thin_same _ _ _ _ (search rules) (search rules) (c.forward_between.ensures.untouched failed).1,
   thin_same _ _ _ _ (search rules) (search rules) (c.forward_between.ensures.untouched failed).2,
 )
+
+pub returns-clause-unread : goal.returns-clause-unread
+returns-clause-unread g c = λ whole. thin_same _ _ _ _ (search rules) (search rules) (c.forward_between.ensures.unread whole)

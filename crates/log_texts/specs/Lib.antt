@@ -3,6 +3,7 @@ pub mod Headers
 pub mod Lines
 pub mod Faults
 pub mod Reading
+pub mod Growth
 pub mod Traces
 pub mod Reports
 pub mod ScriptTexts

@@ -1,63 +1,45 @@
-//! Numbers and words at the end of a text, the parts of a trace's lines: only digits are formatted,
-//! which is faster than `write!`.
+//! Words and numbers at the end of a text, the parts of a trace's lines: only digits are formatted,
+//! which is faster than `write!`. After an `Err` a front of what was to be appended stands there.
 
-ghost use Rattle.std.specs.Prelude.{◌≡◌, ◌++◌, OnOk, string_bytes, codes, decimal};
-ghost use Rattle.std.specs.Fmt.{signed_decimal};
+ghost use Rattle.std.specs.Prelude.{◌≡◌, ◌++◌, OnOk, OnErr, string_bytes, codes, decimal};
+ghost use Rattle.std.specs.List.{flat_map};
+ghost use Rattle.log_texts.specs.Growth.{GrowsByFront};
 
-use due_key::Moment;
 use itoa::Buffer;
 use std::alloc::AllocError;
 
-pub(crate) fn push_number(text: &mut String, number: u64) -> Result<(), AllocError>
-    ensures { OnOk result (string_bytes text.new ≡ string_bytes text.old ++ decimal number) }
+/// Appends the words, one behind another.
+pub(crate) fn push_words(text: &mut String, words: &[&str]) -> Result<(), AllocError>
+    ensures ok { OnOk result (string_bytes text.new ≡ string_bytes text.old ++ flat_map (λ word. word.now) words.now) }
+    ensures err { OnErr result (GrowsByFront (string_bytes text.old) (string_bytes text.new) (flat_map (λ word. word.now) words.now)) }
 {
-    let mut digits = Buffer::new();
-    text.push_str(digits.format(number))
+    for word in words {
+        push_word(text, word)?;
+    }
+    Ok(())
 }
 
-pub(crate) fn push_signed(text: &mut String, number: i64) -> Result<(), AllocError>
-    ensures { OnOk result (string_bytes text.new ≡ string_bytes text.old ++ signed_decimal number) }
+pub(crate) fn push_word(text: &mut String, word: &str) -> Result<(), AllocError>
+    ensures ok { OnOk result (string_bytes text.new ≡ string_bytes text.old ++ word.now) }
+    ensures err { OnErr result (GrowsByFront (string_bytes text.old) (string_bytes text.new) word.now) }
 {
-    let mut digits = Buffer::new();
-    text.push_str(digits.format(number))
-}
-
-/// Appends `M WORD`, the word with its spaces.
-pub(crate) fn push_moment(text: &mut String, moment: Moment, word: &str) -> Result<(), AllocError>
-    ensures { OnOk result (string_bytes text.new ≡ string_bytes text.old ++ (decimal moment ++ word.now)) }
-{
-    push_number(text, moment.get())?;
     text.push_str(word)
 }
 
-/// Appends `WORD T`, the word with its spaces.
-pub(crate) fn push_ticket(text: &mut String, word: &str, ticket: u64) -> Result<(), AllocError>
-    ensures { OnOk result (string_bytes text.new ≡ string_bytes text.old ++ (word.now ++ decimal ticket)) }
+/// Appends `WORD N`, the word with its spaces.
+pub(crate) fn push_number(text: &mut String, word: &str, number: u64) -> Result<(), AllocError>
+    ensures ok { OnOk result (string_bytes text.new ≡ string_bytes text.old ++ (word.now ++ decimal number)) }
+    ensures err { OnErr result (GrowsByFront (string_bytes text.old) (string_bytes text.new) (word.now ++ decimal number)) }
 {
-    text.push_str(word)?;
-    push_number(text, ticket)
+    let mut digits = Buffer::new();
+    push_words(text, &[word, digits.format(number)])
 }
 
-/// Appends ` NAME`.
-pub(crate) fn push_name(text: &mut String, name: &str) -> Result<(), AllocError>
-    ensures { OnOk result (string_bytes text.new ≡ string_bytes text.old ++ (codes " " ++ name.now)) }
+/// Appends the line `WORD N`, the word with its spaces.
+pub(crate) fn push_line(text: &mut String, word: &str, number: u64) -> Result<(), AllocError>
+    ensures ok { OnOk result (string_bytes text.new ≡ string_bytes text.old ++ (word.now ++ decimal number ++ codes "\n")) }
+    ensures err { OnErr result (GrowsByFront (string_bytes text.old) (string_bytes text.new) (word.now ++ decimal number ++ codes "\n")) }
 {
-    text.push_str(" ")?;
-    text.push_str(name)
-}
-
-/// Appends ` NAME`, and the line's end.
-pub(crate) fn end_by_name(text: &mut String, name: &str) -> Result<(), AllocError>
-    ensures { OnOk result (string_bytes text.new ≡ string_bytes text.old ++ (codes " " ++ name.now ++ codes "\n")) }
-{
-    push_name(text, name)?;
-    text.push_str("\n")
-}
-
-/// Appends ` N`, and the line's end.
-pub(crate) fn end_by_number(text: &mut String, number: u32) -> Result<(), AllocError>
-    ensures { OnOk result (string_bytes text.new ≡ string_bytes text.old ++ (codes " " ++ decimal number ++ codes "\n")) }
-{
-    push_ticket(text, " ", u64::from(number))?;
-    text.push_str("\n")
+    let mut digits = Buffer::new();
+    push_words(text, &[word, digits.format(number), "\n"])
 }

@@ -1,19 +1,19 @@
 -- What one move tells an exchange, and what many tell one after the other.
-use Rattle.std.proofs.Common.{◌≡◌, ◌⊎◌, inl, inr, Bool, true, false, List, [], ◌∷◌, ◌++◌, Option, None, Some, ℕ, refl, ap, sym, subst, ◌∙◌, append_assoc, append-nil}
-use Rattle.exchange_driver.specs.Answers.{SocketAnswer, Heard, Said, HasHeard, with_answers}
+use Rattle.std.proofs.Common.{◌≡◌, inl, inr, Bool, true, false, List, [], ◌∷◌, ◌++◌, Option, None, Some, ℕ, refl, ap, sym, subst, ◌∙◌, append_assoc, append-nil}
+use Rattle.exchange_driver.specs.Answers.{SocketAnswer, Heard, with_answers}
+use Rattle.exchange_driver.specs.Wires.{Wire, HasHeard}
 use Rattle.exchange_driver.specs.Moves.{Move, OfClient, OfServer, ClientWaited, ServerWaited, ClientLacksMemory, ServerLacksMemory, Makes, MakeAll, told_by_client, told_by_server, IsDriven}
-use Rattle.exchange_driver.specs.declared.socket.ReadResult.{ReadResult}
 use Rattle.exchange_driver.specs.declared.socket.ReadResult.TheVariants.{Bytes, Nothing, Ended}
 use Rattle.exchange_events.specs.Answers.{HasHeardEnd, RelayHears, LosesClient}
 use Rattle.exchange_events.specs.declared.exchange.Exchange.{Exchange}
 use Rattle.exchange_events.specs.declared.exchange.Outcome.{Outcome}
 use Rattle.exchange_events.specs.declared.exchange.Outcome.TheVariants.{Quiet}
 
-with_none : (a : Option (List SocketAnswer)) → a ≡ with_answers [] a
+pub with_none : (a : Option (List SocketAnswer)) → a ≡ with_answers [] a
 with_none None = refl
 with_none (Some before) = ap Some (sym (append-nil before))
 
-with_both : (one two : List SocketAnswer) (a : Option (List SocketAnswer)) → with_answers two (with_answers one a) ≡ with_answers (one ++ two) a
+pub with_both : (one two : List SocketAnswer) (a : Option (List SocketAnswer)) → with_answers two (with_answers one a) ≡ with_answers (one ++ two) a
 with_both one two None = refl
 with_both one two (Some before) = ap Some (append_assoc before one two)
 
@@ -81,27 +81,27 @@ server_waited aborts c s0 s1 x y outcome is makes =
     record { moves = ServerWaited ∷ []; make = (y, outcome, makes, inr (refl, refl, refl)); client_is = with_none c; server_is = is ∙ with_none s0 }
 
 -- a read that didn't fail was answered by the socket
-pub heard_nothing : (old new : Option (List SocketAnswer)) → HasHeard Nothing old new → new ≡ with_answers (Heard Nothing ∷ []) old
-heard_nothing old new (inl is) = is
-heard_nothing old new (inr (same, is)) = let no : Nothing ≡ Ended false = is in cc
+pub heard_nothing : (old new : Wire) → HasHeard Nothing old new → new.answers ≡ with_answers (Heard Nothing ∷ []) old.answers
+heard_nothing old new (inl is) = is.0
+heard_nothing old new (inr (same, dry, is)) = let no : Nothing ≡ Ended false = is in cc
 
-pub heard_bytes : (old new : Option (List SocketAnswer)) (count : ℕ) → HasHeard (Bytes count) old new → new ≡ with_answers (Heard (Bytes count) ∷ []) old
-heard_bytes old new count (inl is) = is
-heard_bytes old new count (inr (same, is)) = let no : Bytes count ≡ Ended false = is in cc
+pub heard_bytes : (old new : Wire) (count : ℕ) → HasHeard (Bytes count) old new → new.answers ≡ with_answers (Heard (Bytes count) ∷ []) old.answers
+heard_bytes old new count (inl is) = is.0
+heard_bytes old new count (inr (same, dry, is)) = let no : Bytes count ≡ Ended false = is in cc
 
-pub heard_end : (old new : Option (List SocketAnswer)) → HasHeard (Ended true) old new → new ≡ with_answers (Heard (Ended true) ∷ []) old
-heard_end old new (inl is) = is
-heard_end old new (inr (same, is)) = let no : Ended true ≡ Ended false = is in cc
+pub heard_end : (old new : Wire) → HasHeard (Ended true) old new → new.answers ≡ with_answers (Heard (Ended true) ∷ []) old.answers
+heard_end old new (inl is) = is.0
+heard_end old new (inr (same, dry, is)) = let no : Ended true ≡ Ended false = is in cc
 
 -- one that failed, or for which there was no memory
-pub client_failed : (aborts : Bool) (c0 c1 s : Option (List SocketAnswer)) (x y : Exchange) (outcome : Outcome) → HasHeard (Ended false) c0 c1 → LosesClient x outcome y
-    → IsDriven aborts c0 c1 s s x outcome y
-client_failed aborts c0 c1 s x y outcome (inl is) loses = client_answered aborts c0 c1 s x y outcome (Heard (Ended false)) is loses
-client_failed aborts c0 c1 s x y outcome (inr (same, is)) loses =
-    record { moves = ClientLacksMemory ∷ []; make = (y, outcome, loses, inr (refl, refl, refl)); client_is = same ∙ with_none c0; server_is = with_none s }
+pub client_failed : (aborts : Bool) (old new : Wire) (s : Option (List SocketAnswer)) (x y : Exchange) (outcome : Outcome) → HasHeard (Ended false) old new → LosesClient x outcome y
+    → IsDriven aborts old.answers new.answers s s x outcome y
+client_failed aborts old new s x y outcome (inl is) loses = client_answered aborts _ _ s x y outcome (Heard (Ended false)) is.0 loses
+client_failed aborts old new s x y outcome (inr (same, dry, is)) loses =
+    record { moves = ClientLacksMemory ∷ []; make = (y, outcome, loses, inr (refl, refl, refl)); client_is = same ∙ with_none old.answers; server_is = with_none s }
 
-pub server_failed : (aborts : Bool) (c s0 s1 : Option (List SocketAnswer)) (x y : Exchange) (outcome : Outcome) (used : ℕ) → HasHeard (Ended false) s0 s1
-    → RelayHears (HasHeardEnd false) x used outcome y → IsDriven aborts c c s0 s1 x outcome y
-server_failed aborts c s0 s1 x y outcome used (inl is) hears = server_answered aborts c s0 s1 x y outcome (Heard (Ended false)) is (used, hears)
-server_failed aborts c s0 s1 x y outcome used (inr (same, is)) hears =
-    record { moves = ServerLacksMemory ∷ []; make = (y, outcome, (used, hears), inr (refl, refl, refl)); client_is = with_none c; server_is = same ∙ with_none s0 }
+pub server_failed : (aborts : Bool) (c : Option (List SocketAnswer)) (old new : Wire) (x y : Exchange) (outcome : Outcome) (used : ℕ) → HasHeard (Ended false) old new
+    → RelayHears (HasHeardEnd false) x used outcome y → IsDriven aborts c c old.answers new.answers x outcome y
+server_failed aborts c old new x y outcome used (inl is) hears = server_answered aborts c _ _ x y outcome (Heard (Ended false)) is.0 (used, hears)
+server_failed aborts c old new x y outcome used (inr (same, dry, is)) hears =
+    record { moves = ServerLacksMemory ∷ []; make = (y, outcome, (used, hears), inr (refl, refl, refl)); client_is = with_none c; server_is = same ∙ with_none old.answers }

@@ -1,9 +1,11 @@
 -- What a socket's answers make of an exchange, at worked examples: what must hold, and what must not.
-use Rattle.std.proofs.Common.{◌≡◌, ◌⊎◌, inl, inr, true, false, [], ◌∷◌, None, Some, refl}
-use Rattle.exchange_driver.specs.Answers.{Heard, Said, HasHeard, with_answers}
+use Rattle.std.proofs.Common.{◌≡◌, inl, inr, true, false, [], ◌∷◌, None, Some, refl}
+use Rattle.exchange_driver.specs.Answers.{Heard, Said, with_answers, dry_after, full_after}
+use Rattle.exchange_driver.specs.Wires.{Wire, HasHeard}
 use Rattle.exchange_driver.specs.Moves.{OfClient, OfServer, Makes, MakeAll, told_by_client, told_by_server}
 use Rattle.exchange_driver.specs.declared.socket.ReadResult.TheVariants.{Bytes, Nothing, Ended}
 use Rattle.exchange_driver.specs.declared.socket.WriteResult.TheVariants.{Full}
+use Rattle.exchange_driver.specs.declared.socket.WriteResult.TheVariants as said
 use Rattle.exchange_machine.specs.declared.waiting.Waiting as waitings
 use Rattle.exchange_events.specs.declared.exchange.Exchange.{Exchange}
 use Rattle.exchange_events.specs.declared.exchange.Exchange.TheVariants.{Waiting, Over}
@@ -49,6 +51,21 @@ forgets : with_answers (Said Full ∷ []) None ≡ None
 forgets = refl
 
 -- a read that found nothing was answered by the socket
-unasked : ¬ (HasHeard Nothing (Some []) (Some []))
+silent : Wire
+silent = record { there = true; left = None; taken = None; waits = []; room = 0; dry = false; full = false; answers = Some [] }
+
+unasked : ¬ (HasHeard Nothing silent silent)
+unfolding silent
 unasked (inl is) = cc
-unasked (inr (same, is)) = cc
+unasked (inr (same, dry, is)) = cc
+
+-- the last answer of each kind says how a line stands
+stands_dry : dry_after (Heard (Bytes 3) ∷ Heard Nothing ∷ Said Full ∷ []) false ≡ true
+stands_dry = refl
+
+stands_open : full_after (Said Full ∷ Heard Nothing ∷ Said (said.Bytes 2) ∷ []) true ≡ false
+stands_open = refl
+
+-- one that gave no answer stands as before
+stands_as_before : dry_after (Said Full ∷ []) true ≡ true
+stands_as_before = refl

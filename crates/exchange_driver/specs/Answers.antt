@@ -1,7 +1,7 @@
 -- The answers of reads and writes.
-use Rattle.std.specs.Prelude.{◌≡◌, ◌⊎◌, ℕ, Bool, true, false, ◌&&◌, not, List, [], ◌∷◌, ◌++◌, Option, None, Some}
+use Rattle.std.specs.Prelude.{ℕ, Bool, true, false, ◌&&◌, not, List, [], ◌∷◌, ◌++◌, Option, None, Some}
 use Rattle.exchange_driver.specs.declared.socket.ReadResult.{ReadResult}
-use Rattle.exchange_driver.specs.declared.socket.ReadResult.TheVariants.{Bytes, Nothing, Ended}
+use Rattle.exchange_driver.specs.declared.socket.ReadResult.TheVariants.{Bytes, Nothing}
 use Rattle.exchange_driver.specs.declared.socket.WriteResult.{WriteResult}
 use Rattle.exchange_driver.specs.declared.socket.WriteResult.TheVariants as said
 
@@ -37,6 +37,14 @@ abbrev pub with_answers : List SocketAnswer → Option (List SocketAnswer) → O
 with_answers answers None = None
 with_answers answers (Some before) = Some (before ++ answers)
 
--- it gave this answer to a read; or there was no memory to read, which counts as a failure
-abbrev pub HasHeard : ReadResult → Option (List SocketAnswer) → Option (List SocketAnswer) → Type 0
-HasHeard result old new = (new ≡ with_answers (Heard result ∷ []) old) ⊎ ((new ≡ old) × (result ≡ Ended false))
+-- nothing was there, as the last of these answers to a read says; as before where none is one to a read
+abbrev pub dry_after : List SocketAnswer → Bool → Bool
+dry_after [] before = before
+dry_after (Heard result ∷ answers) before = dry_after answers (is_nothing result)
+dry_after (Said result ∷ answers) before = dry_after answers before
+
+-- it was full, as the last of these answers to a write says; as before where none is one to a write
+abbrev pub full_after : List SocketAnswer → Bool → Bool
+full_after [] before = before
+full_after (Heard result ∷ answers) before = full_after answers before
+full_after (Said result ∷ answers) before = full_after answers (is_full result)

@@ -1,4 +1,5 @@
 pub mod Answers
 pub mod Drives
+pub mod Meters
 pub mod Moves
 pub mod Wires

@@ -1,5 +1,5 @@
 -- What is told to an exchange while it is driven.
-use Rattle.std.specs.Prelude.{◌≡◌, ◌⊎◌, ℕ, Bool, true, false, List, [], ◌∷◌, ◌++◌, Option}
+use Rattle.std.specs.Prelude.{◌≡◌, ◌⊎◌, ℕ, Bool, true, false, List, [], ◌∷◌, Option}
 use Rattle.exchange_driver.specs.Answers.{SocketAnswer, Heard, Said, with_answers}
 use Rattle.exchange_driver.specs.declared.socket.ReadResult.TheVariants as reads
 use Rattle.exchange_driver.specs.declared.socket.WriteResult.TheVariants as writes

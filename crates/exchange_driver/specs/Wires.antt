@@ -1,7 +1,9 @@
 -- One side of an exchange: a socket, and the bytes from it that wait to be taken.
-use Rattle.std.specs.Prelude.{◌≡◌, ◌<◌, ℕ, Bool, true, false, List, [], ◌++◌, length, Option, Some, None}
+use Rattle.std.specs.Prelude.{◌≡◌, ◌<◌, ◌⊎◌, ℕ, Bool, true, false, List, [], ◌∷◌, ◌++◌, length, Option, Some, None}
 use Rattle.std.specs.Io.KnownBytes.{Consumes, Appends}
-use Rattle.exchange_driver.specs.Answers.{SocketAnswer, is_still}
+use Rattle.exchange_driver.specs.Answers.{SocketAnswer, Heard, is_nothing, is_still, with_answers, dry_after, full_after}
+use Rattle.exchange_driver.specs.declared.socket.ReadResult.{ReadResult}
+use Rattle.exchange_driver.specs.declared.socket.ReadResult.TheVariants.{Ended}
 
 -- Whether there is a socket; the bytes that it has left to give and those that it took, where they
 -- are known; the bytes that wait, and the most that can; whether nothing was there at the last
@@ -52,3 +54,17 @@ pub record Carries (old new : Wire) (came_old came_new sent_old sent_new : List 
   pub same : new.there ≡ old.there
   pub idle : old.there ≡ false → moved ≡ false
   pub still : old.there ≡ false → old.waits ≡ [] → new.waits ≡ []
+
+-- Its socket gave this answer to a read, which says whether nothing is there. Or there was no memory
+-- to read, which counts as a failure, and the socket wasn't asked.
+abbrev pub HasHeard : ReadResult → Wire → Wire → Type 0
+HasHeard result old new = ((new.answers ≡ with_answers (Heard result ∷ []) old.answers) × (new.dry ≡ is_nothing result))
+    ⊎ ((new.answers ≡ old.answers) × (new.dry ≡ old.dry) × (result ≡ Ended false))
+
+-- A line stands as its socket's answers left it: nothing was there at the last read, and it was full
+-- at the last write, just as the last of them say. So nothing woke it behind them.
+pub record IsAsAnswered (old new : Wire) : Type 0 where
+  pub answers : List SocketAnswer
+  pub gave : new.answers ≡ with_answers answers old.answers
+  pub dry : new.dry ≡ dry_after answers old.dry
+  pub full : new.full ≡ full_after answers old.full

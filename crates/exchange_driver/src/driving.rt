@@ -1,6 +1,7 @@
 ghost use Rattle.std.specs.Prelude.{◌≡◌, ◌<◌, ◌||◌, ◌++◌, length, false, is_some};
 ghost use Rattle.exchange_driver.specs.Drives.{Drives, IsSame, IsDownAtRest, IsUpAtRest, at_client, at_server};
 ghost use Rattle.exchange_driver.specs.Moves.{IsDriven};
+ghost use Rattle.exchange_driver.specs.Wires.{IsAsAnswered};
 ghost use Rattle.exchange_machine.specs.Histories.{ExchangeHistory};
 ghost use Rattle.exchange_events.specs.Passes.{held_by, gone_with};
 ghost use Rattle.exchange_events.specs.Steps.{IsAtItsStage, IsOwn, HasHistory};
@@ -65,6 +66,8 @@ pub fn drive<C: Socket, S: Socket>(
     ensures history { HasHistory exchange → HasHistory result.exchange }
     ensures passes { HasHistory exchange → held_by exchange ≡ gone_with result.outcome ++ held_by result.exchange }
     ensures driven { IsDriven settings.rules.aborts client.old.answers client.new.answers server.old.answers server.new.answers exchange result.outcome result.exchange }
+    ensures client { IsAsAnswered client.old client.new }
+    ensures server { IsAsAnswered server.old server.new }
     ensures own { IsOwn result.outcome }
     ensures down { result.rest ≡ Rest.Waits → IsDownAtRest result.exchange client.new server.new }
     ensures up { result.rest ≡ Rest.Waits → IsUpAtRest result.exchange client.new server.new }
@@ -83,6 +86,8 @@ fn drive_on<C: Socket, S: Socket>(
     ensures at { (h : ExchangeHistory) → IsAtItsStage exchange h
         → Drives client.old client.new server.old server.new (is_some result.client) (is_some result.server) h result.exchange result.outcome }
     ensures driven { IsDriven settings.rules.aborts client.old.answers client.new.answers server.old.answers server.new.answers exchange result.outcome result.exchange }
+    ensures client { IsAsAnswered client.old client.new }
+    ensures server { IsAsAnswered server.old server.new }
     ensures own { IsOwn result.outcome }
     ensures down { result.rest ≡ Rest.Waits → IsDownAtRest result.exchange client.new server.new }
     ensures up { result.rest ≡ Rest.Waits → IsUpAtRest result.exchange client.new server.new }
@@ -191,6 +196,8 @@ fn move_down<C: Socket, S: Socket>(
     requires { 0 < length buffer.old }
     ensures at { (h : ExchangeHistory) → IsAtItsStage exchange h → Drives client.old client.new server.old server.new (at_client result.did) (at_server result.did) h result.exchange result.outcome }
     ensures driven { IsDriven settings.rules.aborts client.old.answers client.new.answers server.old.answers server.new.answers exchange result.outcome result.exchange }
+    ensures client { IsAsAnswered client.old client.new }
+    ensures server { IsAsAnswered server.old server.new }
     ensures own { IsOwn result.outcome }
     ensures rests { result.did ≡ Did.Rests → IsSame exchange result.exchange client.old client.new server.old server.new }
     ensures quiet { result.did ≡ Did.Rests → IsDownAtRest exchange client.old server.old }
@@ -224,6 +231,8 @@ fn move_up<C: Socket, S: Socket>(
     requires { 0 < length buffer.old }
     ensures at { (h : ExchangeHistory) → IsAtItsStage exchange h → Drives client.old client.new server.old server.new (at_client result.did) (at_server result.did) h result.exchange result.outcome }
     ensures driven { IsDriven settings.rules.aborts client.old.answers client.new.answers server.old.answers server.new.answers exchange result.outcome result.exchange }
+    ensures client { IsAsAnswered client.old client.new }
+    ensures server { IsAsAnswered server.old server.new }
     ensures own { IsOwn result.outcome }
     ensures rests { result.did ≡ Did.Rests → IsSame exchange result.exchange client.old client.new server.old server.new }
     ensures quiet { result.did ≡ Did.Rests → IsUpAtRest exchange client.old server.old }

@@ -1,7 +1,7 @@
 ghost use Rattle.std.specs.Prelude.{◌≡◌, ◌≤◌, ◌<◌, ◌+◌, ◌∷◌, ◌++◌, ℕ, [], length, take, drop, None, true, false, is_some, IfSome};
 ghost use Rattle.std.specs.Io.KnownBytes.{Consumes, Appends};
-ghost use Rattle.exchange_driver.specs.Answers.{HasHeard, Said, came, went, with_answers};
-ghost use Rattle.exchange_driver.specs.Wires.{is_still_at};
+ghost use Rattle.exchange_driver.specs.Answers.{Said, came, went, is_full, with_answers};
+ghost use Rattle.exchange_driver.specs.Wires.{HasHeard, is_still_at};
 
 use crate::socket::{ReadResult, Socket, WriteResult};
 use exchange_machine::forget;
@@ -160,7 +160,7 @@ impl<S: Socket> Line<S> {
         ensures taken { (self.new.taken ≡ self.old.taken) × (self.new.full ≡ self.old.full) }
         ensures there { self.new.there ≡ self.old.there }
         ensures none { self.old.there ≡ false → came result ≡ 0 }
-        ensures heard { HasHeard result self.old.answers self.new.answers }
+        ensures heard { HasHeard result self.old self.new }
     {
         if self.waits.reserve(buffer.len()).is_err() {
             return ReadResult::Ended { well: false };
@@ -192,7 +192,7 @@ impl<S: Socket> Line<S> {
         ensures within { went result ≤ length bytes.now }
         ensures some { (count : ℕ) → result ≡ WriteResult.Bytes count → 0 < count }
         ensures taken { Appends self.old.taken self.new.taken (take (went result) bytes.now) }
-        ensures full { result ≡ WriteResult.Full → self.new.full ≡ true }
+        ensures full { self.new.full ≡ is_full result }
         ensures left { (self.new.left ≡ self.old.left) × (self.new.dry ≡ self.old.dry) }
         ensures waits { (self.new.waits ≡ self.old.waits) × (self.new.room ≡ self.old.room) }
         ensures there { self.new.there ≡ self.old.there }

@@ -1,6 +1,7 @@
 //! The counters of a connection.
 
-ghost use Rattle.std.specs.Prelude.{◌≡◌, ◌+◌, ◌-◌, ◌^◌, min, length};
+ghost use Rattle.std.specs.Prelude.{◌≡◌, ◌+◌, ◌-◌, ◌^◌, ◌∷◌, ◌++◌, ℕ, List, [], min, length};
+ghost use Rattle.exchange_driver.specs.Meters.{status_of, tells, scan_tells};
 
 /// The position of the status in the first line of an answer, after `HTTP/1.1 ` (RFC 9112, section 4).
 const STATUS_AT: u8 = 9;
@@ -30,7 +31,8 @@ enum Scan {
 impl Meter {
     /// Makes the counters of a new connection.
     pub fn new() -> Meter
-        ensures { (result.received ≡ 0) × (result.sent ≡ 0) }
+        ensures none { (result.received ≡ 0) × (result.sent ≡ 0) }
+        ensures status { (more : List ℕ) → tells result more ≡ status_of more }
     {
         Meter {
             received: 0,
@@ -40,7 +42,9 @@ impl Meter {
     }
 
     /// Returns the status of the answer that was sent: the first one that isn't of an interim answer.
-    pub fn status(&self) -> Option<u16> {
+    pub fn status(&self) -> Option<u16>
+        ensures { result ≡ tells self.now [] }
+    {
         match self.scan {
             Scan::Found(status) => Some(status),
             Scan::Line(_, _) | Scan::Interim(_) => None,
@@ -49,14 +53,16 @@ impl Meter {
 
     /// Counts bytes that came.
     pub(crate) fn note_received(&mut self, count: usize)
-        ensures { (self.new.received ≡ min (self.old.received + count) (2 ^ 64 - 1)) × (self.new.sent ≡ self.old.sent) }
+        ensures count { (self.new.received ≡ min (self.old.received + count) (2 ^ 64 - 1)) × (self.new.sent ≡ self.old.sent) }
+        ensures status { (more : List ℕ) → tells self.new more ≡ tells self.old more }
     {
         self.received = self.received.saturating_add(count as u64);
     }
 
     /// Counts bytes that were sent.
     pub(crate) fn note_sent(&mut self, bytes: &[u8])
-        ensures { (self.new.sent ≡ min (self.old.sent + length bytes.now) (2 ^ 64 - 1)) × (self.new.received ≡ self.old.received) }
+        ensures count { (self.new.sent ≡ min (self.old.sent + length bytes.now) (2 ^ 64 - 1)) × (self.new.received ≡ self.old.received) }
+        ensures status { (more : List ℕ) → tells self.new more ≡ tells self.old (bytes.now ++ more) }
     {
         self.sent = self.sent.saturating_add(bytes.len() as u64);
         self.scan = scanned(self.scan, bytes);
@@ -64,7 +70,9 @@ impl Meter {
 }
 
 // Returns the state of the search after these bytes.
-fn scanned(scan: Scan, bytes: &[u8]) -> Scan {
+fn scanned(scan: Scan, bytes: &[u8]) -> Scan
+    ensures { (more : List ℕ) → scan_tells result more ≡ scan_tells scan (bytes.now ++ more) }
+{
     let mut scan = scan;
     for byte in bytes {
         if let Scan::Found(_) = scan {
@@ -75,7 +83,9 @@ fn scanned(scan: Scan, bytes: &[u8]) -> Scan {
     scan
 }
 
-fn step(scan: Scan, byte: u8) -> Scan {
+fn step(scan: Scan, byte: u8) -> Scan
+    ensures { (more : List ℕ) → scan_tells result more ≡ scan_tells scan (byte ∷ more) }
+{
     match scan {
         Scan::Found(status) => Scan::Found(status),
         Scan::Interim(ended) => interim(ended, byte),
@@ -96,7 +106,9 @@ fn step(scan: Scan, byte: u8) -> Scan {
 }
 
 // A head ends with two line ends.
-fn interim(ended: u8, byte: u8) -> Scan {
+fn interim(ended: u8, byte: u8) -> Scan
+    ensures { (more : List ℕ) → scan_tells result more ≡ scan_tells (Scan.Interim ended) (byte ∷ more) }
+{
     match (ended, byte) {
         (0, b'\r') => Scan::Interim(1),
         (1, b'\n') => Scan::Interim(2),

@@ -3,6 +3,7 @@
 ghost use Rattle.std.specs.Prelude.{◌≡◌, ◌≢◌, ◌<◌, [], length};
 ghost use Rattle.exchange_driver.specs.Drives.{Drives, at_client, at_server};
 ghost use Rattle.exchange_driver.specs.Moves.{IsDriven};
+ghost use Rattle.exchange_driver.specs.Wires.{IsAsAnswered};
 ghost use Rattle.exchange_machine.specs.Histories.{ExchangeHistory};
 ghost use Rattle.exchange_events.specs.Steps.{IsAtItsStage, IsOwn, to_client, to_server};
 
@@ -70,6 +71,7 @@ pub(crate) fn write_client<C: Socket, S: Socket>(
     requires { to_client exchange ≢ [] }
     ensures at { (h : ExchangeHistory) → IsAtItsStage exchange h → Drives client.old client.new server.now server.now (at_client result.did) (at_server result.did) h result.exchange result.outcome }
     ensures driven { IsDriven settings.rules.aborts client.old.answers client.new.answers server.now.answers server.now.answers exchange result.outcome result.exchange }
+    ensures answered { IsAsAnswered client.old client.new }
     ensures own { IsOwn result.outcome }
     ensures moves { result.did ≢ Did.Rests }
 {
@@ -97,6 +99,7 @@ pub(crate) fn write_server<C: Socket, S: Socket>(
     requires { to_server exchange ≢ [] }
     ensures at { (h : ExchangeHistory) → IsAtItsStage exchange h → Drives client.now client.now server.old server.new (at_client result.did) (at_server result.did) h result.exchange result.outcome }
     ensures driven { IsDriven settings.rules.aborts client.now.answers client.now.answers server.old.answers server.new.answers exchange result.outcome result.exchange }
+    ensures answered { IsAsAnswered server.old server.new }
     ensures own { IsOwn result.outcome }
     ensures moves { result.did ≢ Did.Rests }
 {
@@ -123,6 +126,7 @@ pub(crate) fn use_client<C: Socket, S: Socket>(
 ) -> Turned
     ensures at { (h : ExchangeHistory) → IsAtItsStage exchange h → Drives client.old client.new server.now server.now (at_client result.did) (at_server result.did) h result.exchange result.outcome }
     ensures driven { IsDriven settings.rules.aborts client.old.answers client.new.answers server.now.answers server.now.answers exchange result.outcome result.exchange }
+    ensures answered { IsAsAnswered client.old client.new }
     ensures own { IsOwn result.outcome }
     ensures moves { result.did ≢ Did.Rests }
 {
@@ -144,6 +148,7 @@ pub(crate) fn use_server<C: Socket, S: Socket>(
 ) -> Turned
     ensures at { (h : ExchangeHistory) → IsAtItsStage exchange h → Drives client.now client.now server.old server.new (at_client result.did) (at_server result.did) h result.exchange result.outcome }
     ensures driven { IsDriven settings.rules.aborts client.now.answers client.now.answers server.old.answers server.new.answers exchange result.outcome result.exchange }
+    ensures answered { IsAsAnswered server.old server.new }
     ensures own { IsOwn result.outcome }
     ensures moves { result.did ≢ Did.Rests }
 {
@@ -168,6 +173,7 @@ pub(crate) fn read_client<C: Socket, S: Socket>(
     requires first { client.old.waits ≡ [] }
     ensures at { (h : ExchangeHistory) → IsAtItsStage exchange h → Drives client.old client.new server.now server.now (at_client result.did) (at_server result.did) h result.exchange result.outcome }
     ensures driven { IsDriven settings.rules.aborts client.old.answers client.new.answers server.now.answers server.now.answers exchange result.outcome result.exchange }
+    ensures answered { IsAsAnswered client.old client.new }
     ensures own { IsOwn result.outcome }
     ensures moves { result.did ≢ Did.Rests }
     ensures buffer { length buffer.new ≡ length buffer.old }
@@ -203,6 +209,7 @@ pub(crate) fn read_server<C: Socket, S: Socket>(
     requires first { server.old.waits ≡ [] }
     ensures at { (h : ExchangeHistory) → IsAtItsStage exchange h → Drives client.now client.now server.old server.new (at_client result.did) (at_server result.did) h result.exchange result.outcome }
     ensures driven { IsDriven settings.rules.aborts client.now.answers client.now.answers server.old.answers server.new.answers exchange result.outcome result.exchange }
+    ensures answered { IsAsAnswered server.old server.new }
     ensures own { IsOwn result.outcome }
     ensures moves { result.did ≢ Did.Rests }
     ensures buffer { length buffer.new ≡ length buffer.old }

@@ -7,6 +7,7 @@ use Rattle.exchange_driver.specs.Moves.{IsDriven}
 use Rattle.exchange_driver.specs.declared.driving.Rest.TheVariants.{Waits, Again}
 use Rattle.exchange_driver.specs.declared.moves.Did.TheVariants.{Rests}
 use Rattle.exchange_driver.proofs.Moving.{drives_none, drives_on}
+use Rattle.exchange_driver.proofs.Standing.{answered_none, answered_on}
 use Rattle.exchange_driver.proofs.Telling.{driven_none, driven_on}
 use Rattle.exchange_driver.proofs.driving.drive_on.Goals as goal
 
@@ -14,6 +15,8 @@ pub loop-turn-init : goal.loop-turn-init
 loop-turn-init g c = record {
   at = λ h is. rw (c.none-moves.ensures.0, c.none-moves.ensures.1) (drives_none _ _ h c.args.exchange is);
   driven = driven_none _ _ _ c.args.exchange;
+  client = answered_none _;
+  server = answered_none _;
   buffer = c.requires;
 }
 
@@ -25,6 +28,8 @@ returns-in_default g c =
       at = λ h is. rw (gave.moves.0, gave.moves.1, moved.0, moved.1, gave.exchange, gave.outcome)
           (drives_on _ _ _ _ _ _ _ _ _ _ h _ _ _ (c.loop-turn.invariant.at h is) c.move_down-between.ensures.at);
       driven = rw (gave.exchange, gave.outcome) (driven_on _ _ _ _ _ _ _ _ _ _ _ c.loop-turn.invariant.driven c.move_down-between.ensures.driven);
+      client = answered_on _ _ _ c.loop-turn.invariant.client c.move_down-between.ensures.client;
+      server = answered_on _ _ _ c.loop-turn.invariant.server c.move_down-between.ensures.server;
       own = subst IsOwn (sym gave.outcome) c.move_down-between.ensures.own;
       down = λ e. let no : Again ≡ Waits = sym gave.rest ∙ e in cc;
       up = λ e. let no : Again ≡ Waits = sym gave.rest ∙ e in cc;
@@ -44,6 +49,8 @@ returns-in_default-outcome g c =
       driven = rw (gave.exchange, gave.outcome) (driven_on _ _ _ _ _ _ _ _ _ _ _ (driven_on _ _ _ _ _ _ _ _ _ _ _ c.loop-turn.invariant.driven
           (subst (λ (o : Outcome). IsDriven c.args.settings.rules.aborts c.loop-turn.client.answers down.new.client.answers c.loop-turn.server.answers down.new.server.answers
           c.loop-turn.exchange o down.result.exchange) c.in-Quiet.is down.ensures.driven)) c.move_up-behind.ensures.driven);
+      client = answered_on _ _ _ (answered_on _ _ _ c.loop-turn.invariant.client c.move_down-between.ensures.client) c.move_up-behind.ensures.client;
+      server = answered_on _ _ _ (answered_on _ _ _ c.loop-turn.invariant.server c.move_down-between.ensures.server) c.move_up-behind.ensures.server;
       own = subst IsOwn (sym gave.outcome) c.move_up-behind.ensures.own;
       down = λ e. let no : Again ≡ Waits = sym gave.rest ∙ e in cc;
       up = λ e. let no : Again ≡ Waits = sym gave.rest ∙ e in cc;
@@ -67,6 +74,8 @@ loop-turn-preserved g c =
           c.loop-turn.exchange o down.result.exchange) c.in-Quiet.is down.ensures.driven))
           (subst (λ (o : Outcome). IsDriven c.args.settings.rules.aborts down.new.client.answers up.new.client.answers down.new.server.answers up.new.server.answers
           down.result.exchange o up.result.exchange) c.in-Quiet-outcome.is up.ensures.driven);
+      client = answered_on _ _ _ (answered_on _ _ _ c.loop-turn.invariant.client c.move_down-between.ensures.client) c.move_up-behind.ensures.client;
+      server = answered_on _ _ _ (answered_on _ _ _ c.loop-turn.invariant.server c.move_down-between.ensures.server) c.move_up-behind.ensures.server;
       buffer = subst (λ n. 0 < n) (sym (up.ensures.buffer ∙ down.ensures.buffer)) c.loop-turn.invariant.buffer;
     }
 
@@ -92,3 +101,9 @@ returns-then-eq-2-clause-down g c = λ e.
     let second = c.move_up-behind.ensures.rests still in
     rw (c.comes_to.ensures.exchange, second.exchange, first.exchange, second.client, first.client, second.server, first.server)
     (c.move_down-between.ensures.quiet rests)
+
+pub returns-then-eq-2-clause-client : goal.returns-then-eq-2-clause-client
+returns-then-eq-2-clause-client g c = answered_on _ _ _ (answered_on _ _ _ c.loop-turn.invariant.client c.move_down-between.ensures.client) c.move_up-behind.ensures.client
+
+pub returns-then-eq-2-clause-server : goal.returns-then-eq-2-clause-server
+returns-then-eq-2-clause-server g c = answered_on _ _ _ (answered_on _ _ _ c.loop-turn.invariant.server c.move_down-between.ensures.server) c.move_up-behind.ensures.server

@@ -4,6 +4,7 @@ use Rattle.exchange_events.specs.Steps.{IsAtItsStage}
 use Rattle.exchange_events.specs.declared.exchange.Outcome.TheVariants.{Quiet}
 use Rattle.exchange_driver.specs.Drives.{Drives}
 use Rattle.exchange_driver.specs.Moves.{IsDriven}
+use Rattle.exchange_driver.specs.Wires.{IsAsAnswered}
 use Rattle.exchange_driver.proofs.driving.drive_on.Given as goal
 
 -- what was driven so far
@@ -11,5 +12,7 @@ abbrev pub invariant-loop-turn : goal.invariant-loop-turn
 invariant-loop-turn g l = record {
   at : (h : ExchangeHistory) → IsAtItsStage l.initial.exchange h → Drives l.initial.client l.client l.initial.server l.server l.moves.client l.moves.server h l.exchange Quiet;
   driven : IsDriven l.settings.rules.aborts l.initial.client.answers l.client.answers l.initial.server.answers l.server.answers l.initial.exchange Quiet l.exchange;
+  client : IsAsAnswered l.initial.client l.client;
+  server : IsAsAnswered l.initial.server l.server;
   buffer : 0 < length l.buffer;
 }

@@ -1,5 +1,6 @@
 use Rattle.exchange_driver.proofs.Moving.{drives_none}
 use Rattle.exchange_driver.proofs.Telling.{driven_none}
+use Rattle.exchange_driver.proofs.Standing.{answered_none}
 use Rattle.exchange_driver.proofs.driving.move_down.Goals as goal
 
 pub returns-then-not-is_full-clause-rests : goal.returns-then-not-is_full-clause-rests
@@ -33,3 +34,24 @@ returns-then-not-wants-clause-driven g c = rw (c.rests.ensures.exchange, c.rests
 
 pub returns-then-is_dry-clause-driven : goal.returns-then-is_dry-clause-driven
 returns-then-is_dry-clause-driven g c = rw (c.rests-then-is_dry.ensures.exchange, c.rests-then-is_dry.ensures.outcome) (driven_none _ _ _ c.args.exchange)
+
+pub returns-then-not-is_full-clause-server : goal.returns-then-not-is_full-clause-server
+returns-then-not-is_full-clause-server g c = answered_none _
+
+pub returns-then-not-wants-clause-client : goal.returns-then-not-wants-clause-client
+returns-then-not-wants-clause-client g c = answered_none _
+
+pub returns-then-not-wants-clause-server : goal.returns-then-not-wants-clause-server
+returns-then-not-wants-clause-server g c = answered_none _
+
+pub returns-then-not-is_empty-clause-client : goal.returns-then-not-is_empty-clause-client
+returns-then-not-is_empty-clause-client g c = answered_none _
+
+pub returns-then-is_dry-clause-client : goal.returns-then-is_dry-clause-client
+returns-then-is_dry-clause-client g c = answered_none _
+
+pub returns-then-is_dry-clause-server : goal.returns-then-is_dry-clause-server
+returns-then-is_dry-clause-server g c = answered_none _
+
+pub returns-clause-client : goal.returns-clause-client
+returns-clause-client g c = answered_none _

@@ -3,9 +3,11 @@ use Rattle.std.proofs.lemmas.List.{take_rest}
 use Rattle.std.specs.Io.KnownBytes.{Consumes}
 use Rattle.exchange_machine.specs.declared.signs.Sign.TheVariants.{ClientEnded, ClientFailed}
 use Rattle.exchange_driver.proofs.Moving.{nothing_taken, client_kept, client_signed, client_heard}
-use Rattle.exchange_driver.specs.Answers.{Heard, HasHeard}
+use Rattle.exchange_driver.specs.Answers.{Heard}
+use Rattle.exchange_driver.specs.Wires.{HasHeard}
 use Rattle.exchange_driver.specs.declared.socket.ReadResult.TheVariants.{Bytes, Nothing, Ended}
 use Rattle.exchange_driver.proofs.Telling.{heard_nothing, heard_bytes, heard_end, client_answered, client_failed}
+use Rattle.exchange_driver.proofs.Standing.{answered_kept, answered_on, answered_heard}
 use Rattle.exchange_driver.proofs.moves.read_client.Goals as goal
 
 pub returns-in-Nothing-clause-at : goal.returns-in-Nothing-clause-at
@@ -44,17 +46,31 @@ returns-in-Bytes-clause-at g c h is =
 
 pub returns-in-Nothing-clause-driven : goal.returns-in-Nothing-clause-driven
 returns-in-Nothing-clause-driven g c = rw (c.unmoved.ensures.exchange, c.unmoved.ensures.outcome)
-    (client_answered _ _ _ _ _ _ _ (Heard Nothing) (heard_nothing _ _ c.in-Nothing.ensures.heard) (refl, refl))
+    (client_answered _ _ _ _ _ _ _ (Heard Nothing) (heard_nothing c.args.client.now c.read_now.new.self c.in-Nothing.ensures.heard) (refl, refl))
 
 pub returns-in-Ended-true-clause-driven : goal.returns-in-Ended-true-clause-driven
 returns-in-Ended-true-clause-driven g c = rw (c.behind.ensures.exchange, c.behind.ensures.outcome)
-    (client_answered _ _ _ _ _ _ _ (Heard (Ended true)) (heard_end _ _ (subst (λ (well : Bool). HasHeard (Ended well) c.args.client.now.answers c.read_now.new.self.answers) c.in-Ended-true.well-test c.in-Ended-true.ensures.heard)) (c.step.result.used, c.step.ensures.does))
+    (client_answered _ _ _ _ _ _ _ (Heard (Ended true)) (heard_end c.args.client.now c.read_now.new.self (subst (λ (well : Bool). HasHeard (Ended well) c.args.client.now c.read_now.new.self) c.in-Ended-true.well-test c.in-Ended-true.ensures.heard)) (c.step.result.used, c.step.ensures.does))
 
 pub returns-in-Ended-false-clause-driven : goal.returns-in-Ended-false-clause-driven
 returns-in-Ended-false-clause-driven g c = rw (c.behind-in-Ended-false.ensures.exchange, c.behind-in-Ended-false.ensures.outcome)
-    (client_failed _ _ _ _ _ _ _ (subst (λ (well : Bool). HasHeard (Ended well) c.args.client.now.answers c.read_now.new.self.answers) c.in-Ended-false.well-test c.in-Ended-false.ensures.heard) c.step-in-Ended-false.ensures.does)
+    (client_failed _ c.args.client.now c.read_now.new.self _ _ _ _ (subst (λ (well : Bool). HasHeard (Ended well) c.args.client.now c.read_now.new.self) c.in-Ended-false.well-test c.in-Ended-false.ensures.heard) c.step-in-Ended-false.ensures.does)
 
 pub returns-in-Bytes-clause-driven : goal.returns-in-Bytes-clause-driven
 returns-in-Bytes-clause-driven g c = rw (c.behind-in-Bytes.ensures.exchange, c.behind-in-Bytes.ensures.outcome)
-    (client_answered _ _ _ _ _ _ _ (Heard (Bytes c.in-Bytes.count)) (c.keep.ensures.answers ∙ heard_bytes _ _ c.in-Bytes.count c.in-Bytes.ensures.heard)
+    (client_answered _ _ _ _ _ _ _ (Heard (Bytes c.in-Bytes.count)) (c.keep.ensures.answers ∙ heard_bytes c.args.client.now c.read_now.new.self c.in-Bytes.count c.in-Bytes.ensures.heard)
     (_, c.step-step.result.used, c.step-step.ensures.does))
+
+pub returns-in-Nothing-clause-answered : goal.returns-in-Nothing-clause-answered
+returns-in-Nothing-clause-answered g c = answered_heard _ _ Nothing c.in-Nothing.ensures.heard c.in-Nothing.ensures.taken.1
+
+pub returns-in-Ended-true-clause-answered : goal.returns-in-Ended-true-clause-answered
+returns-in-Ended-true-clause-answered g c = answered_heard _ _ _ c.in-Ended-true.ensures.heard c.in-Ended-true.ensures.taken.1
+
+pub returns-in-Ended-false-clause-answered : goal.returns-in-Ended-false-clause-answered
+returns-in-Ended-false-clause-answered g c = answered_heard _ _ _ c.in-Ended-false.ensures.heard c.in-Ended-false.ensures.taken.1
+
+pub returns-in-Bytes-clause-answered : goal.returns-in-Bytes-clause-answered
+returns-in-Bytes-clause-answered g c = answered_on _ c.read_now.new.self _
+    (answered_heard _ _ (Bytes c.in-Bytes.count) c.in-Bytes.ensures.heard c.in-Bytes.ensures.taken.1)
+    (answered_kept _ _ c.keep.ensures.answers c.keep.ensures.told.0 c.keep.ensures.told.1)

@@ -3,6 +3,7 @@ use Rattle.exchange_machine.specs.Histories.{client_came}
 use Rattle.exchange_events.specs.Steps.{IsAtItsStage, ended}
 use Rattle.exchange_driver.proofs.Moving.{client_used}
 use Rattle.exchange_driver.proofs.Telling.{client_waited}
+use Rattle.exchange_driver.proofs.Standing.{answered_kept}
 use Rattle.exchange_driver.proofs.moves.use_client.Goals as goal
 
 pub returns-clause-at : goal.returns-clause-at
@@ -15,3 +16,6 @@ returns-clause-at g c h is =
 pub returns-clause-driven : goal.returns-clause-driven
 returns-clause-driven g c = rw (c.behind.ensures.exchange, c.behind.ensures.outcome)
     (client_waited _ _ _ _ _ _ _ c.taken.ensures.answers (_, c.step-step.result.used, c.step-step.ensures.does))
+
+pub returns-clause-answered : goal.returns-clause-answered
+returns-clause-answered g c = answered_kept _ _ c.taken.ensures.answers c.taken.ensures.told.0 c.taken.ensures.told.1

@@ -5,6 +5,7 @@ use Rattle.exchange_driver.proofs.Moving.{nothing_left, client_kept, client_sign
 use Rattle.exchange_driver.specs.Answers.{Said}
 use Rattle.exchange_driver.specs.declared.socket.WriteResult.TheVariants.{Bytes, Full, Failed}
 use Rattle.exchange_driver.proofs.Telling.{client_answered}
+use Rattle.exchange_driver.proofs.Standing.{answered_said}
 use Rattle.exchange_driver.proofs.moves.write_client.Goals as goal
 
 pub returns-in-Full-clause-at : goal.returns-in-Full-clause-at
@@ -34,3 +35,12 @@ returns-in-Failed-clause-driven g c = rw (c.behind.ensures.exchange, c.behind.en
 pub returns-in-Bytes-clause-driven : goal.returns-in-Bytes-clause-driven
 returns-in-Bytes-clause-driven g c = rw (c.behind-in-Bytes.ensures.exchange, c.behind-in-Bytes.ensures.outcome)
     (client_answered _ _ _ _ _ _ _ (Said (Bytes c.in-Bytes.count)) c.in-Bytes.ensures.said (c.step-in-Bytes.result.used, c.step-in-Bytes.ensures.does))
+
+pub returns-in-Full-clause-answered : goal.returns-in-Full-clause-answered
+returns-in-Full-clause-answered g c = answered_said _ _ Full c.in-Full.ensures.said c.in-Full.ensures.full c.in-Full.ensures.left.1
+
+pub returns-in-Failed-clause-answered : goal.returns-in-Failed-clause-answered
+returns-in-Failed-clause-answered g c = answered_said _ _ Failed c.in-Failed.ensures.said c.in-Failed.ensures.full c.in-Failed.ensures.left.1
+
+pub returns-in-Bytes-clause-answered : goal.returns-in-Bytes-clause-answered
+returns-in-Bytes-clause-answered g c = answered_said _ _ (Bytes c.in-Bytes.count) c.in-Bytes.ensures.said c.in-Bytes.ensures.full c.in-Bytes.ensures.left.1

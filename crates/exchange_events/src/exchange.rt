@@ -3,6 +3,7 @@ ghost use Rattle.exchange_machine.specs.Histories.{ExchangeHistory, nothing_yet}
 ghost use Rattle.exchange_events.specs.Answers.{Does};
 ghost use Rattle.exchange_events.specs.Chains as chains;
 ghost use Rattle.exchange_events.specs.Passes.{held_by, came_with, gone_with};
+ghost use Rattle.exchange_events.specs.Rooms.{takes_from_client, takes_from_server};
 ghost use Rattle.exchange_events.specs.Steps as steps;
 
 use crate::calls::{
@@ -167,7 +168,9 @@ impl Exchange {
     }
 
     /// Returns about how many bytes of its client it takes at once, where it takes any.
-    pub fn request_room(&self) -> usize {
+    pub fn request_room(&self) -> usize
+        ensures { takes_from_client self.now ≡ false → result ≡ 0 }
+    {
         match self {
             Exchange::Asking(asking) => asking.room(),
             Exchange::Forwarding(forwarding) => forwarding.request_room(),
@@ -176,7 +179,9 @@ impl Exchange {
     }
 
     /// Returns about how many bytes of its server it takes at once, where it takes any.
-    pub fn answer_room(&self) -> usize {
+    pub fn answer_room(&self) -> usize
+        ensures { takes_from_server self.now ≡ false → result ≡ 0 }
+    {
         match self {
             Exchange::Forwarding(forwarding) => forwarding.answer_room(),
             _ => 0,

@@ -18,6 +18,7 @@ use proxy_words::{Lines, Words};
 use script::Script;
 use std::alloc::Global;
 use std::io::{BufWriter, Read, Write};
+use std::thread::Threads;
 use std::{io, mem};
 use visits::played;
 
@@ -30,7 +31,11 @@ fn main(rt: HostRuntime) -> Result<()> {
     Ok(())
 }
 
-fn play_all<W: Write>(rt: &HostRuntime, input: &[u8], output: &mut W) -> Result<()> {
+fn play_all<W: Write>(
+    rt: &(impl AllocGlobal + Threads),
+    input: &[u8],
+    output: &mut W,
+) -> Result<()> {
     let alloc = rt.alloc();
     let mut script = Script::new(alloc);
     for line in Lines::new(input) {
@@ -56,7 +61,11 @@ fn play_all<W: Write>(rt: &HostRuntime, input: &[u8], output: &mut W) -> Result<
 }
 
 // Plays a script and prints its outcome.
-fn print<W: Write>(rt: &HostRuntime, script: Script, output: &mut W) -> Result<()> {
+fn print<W: Write>(
+    rt: &(impl AllocGlobal + Threads),
+    script: Script,
+    output: &mut W,
+) -> Result<()> {
     let alloc = rt.alloc();
     let record = played(rt, alloc, script)?;
     let mut text = Vec::new(alloc);

@@ -12,6 +12,7 @@ use grant_board::{Board, BoardName, RelaySeat};
 use std::alloc::{AllocError, Global};
 use std::marker::Brand;
 use std::sync::ledger::{Blank, Ledger};
+use std::thread::Threads;
 
 /// How the next visit begins.
 #[derive(Drop)]
@@ -25,12 +26,16 @@ enum Entry {
 }
 
 /// Plays a script, and returns the record of the client's connection.
-pub(crate) fn played(rt: &HostRuntime, alloc: Global, script: Script) -> Result<Record, AllocError> {
+pub(crate) fn played(
+    rt: &impl Threads,
+    alloc: Global,
+    script: Script,
+) -> Result<Record, AllocError> {
     let most = script.steps.len();
     let mut play = Play::new(alloc, script)?;
     let mut entry = Entry::Comes;
     for _ in 0..=most {
-        match visit(rt, &mut play, entry)? {
+        match visit(rt, alloc, &mut play, entry)? {
             None => break,
             Some(queued) => match verdict_of(&mut play, queued) {
                 None => break,
@@ -64,11 +69,11 @@ fn verdict_of(play: &mut Play, queued: WaitingExchange) -> Option<Entry> {
 
 // Drives an exchange until it waits for a pass or is over.
 fn visit(
-    rt: &HostRuntime,
+    rt: &impl Threads,
+    alloc: Global,
     play: &mut Play,
     entry: Entry,
 ) -> Result<Option<WaitingExchange>, AllocError> {
-    let alloc = rt.alloc();
     let (board, keeper, relay) = Board::open(rt, alloc, 1, &[1])?;
     let mut keeper = keeper;
     if let Entry::Granted(_) = &entry {

@@ -15,7 +15,8 @@ use req_view::View;
 use std::alloc::Global;
 use std::env;
 use std::io::{Read, Write};
-use std::net::TcpStream;
+use std::net::{Net, TcpStream};
+use std::thread::Threads;
 
 const TURNS: u64 = 1_000_000_000;
 
@@ -28,7 +29,10 @@ fn main(rt: HostRuntime) -> Result<()> {
     hand_on_as(&rt, words.as_slice())
 }
 
-fn hand_on_as(rt: &HostRuntime, words: &[String]) -> Result<()> {
+fn hand_on_as(
+    rt: &(impl Net<Stream = TcpStream> + Print + AllocGlobal + Threads),
+    words: &[String],
+) -> Result<()> {
     match words {
         [_, what] => println!(rt; "{}", in_memory(rt, what.as_str())?)?,
         [_, what, from, to] => between(rt, what.as_str(), from.as_str(), to.as_str())?,
@@ -38,7 +42,7 @@ fn hand_on_as(rt: &HostRuntime, words: &[String]) -> Result<()> {
 }
 
 // Hands a message on in memory, and returns the number of bytes written.
-fn in_memory(rt: &HostRuntime, what: &str) -> Result<usize> {
+fn in_memory(rt: &(impl AllocGlobal + Threads), what: &str) -> Result<usize> {
     let alloc = rt.alloc();
     let mut message = if what == "forward" { REQUEST } else { ANSWER };
     let mut written = Vec::new(alloc);
@@ -46,7 +50,12 @@ fn in_memory(rt: &HostRuntime, what: &str) -> Result<usize> {
     Ok(written.len())
 }
 
-fn between(rt: &HostRuntime, what: &str, from: &str, to: &str) -> Result<()> {
+fn between(
+    rt: &(impl Net<Stream = TcpStream> + AllocGlobal + Threads),
+    what: &str,
+    from: &str,
+    to: &str,
+) -> Result<()> {
     let mut reader = TcpStream::connect(rt, from)?;
     let mut writer = TcpStream::connect(rt, to)?;
     hand_on(rt, what, &mut reader, &mut writer)
@@ -54,7 +63,7 @@ fn between(rt: &HostRuntime, what: &str, from: &str, to: &str) -> Result<()> {
 
 // Hands a message on under a pass, and posts it.
 fn hand_on<R: Read, W: Write>(
-    rt: &HostRuntime,
+    rt: &(impl AllocGlobal + Threads),
     what: &str,
     reader: &mut R,
     writer: &mut W,

@@ -70,7 +70,7 @@ fn server(limit: u32) -> ServerSet
     }
 }
 
-fn open(rt: &HostRuntime, alloc: Global, setup: Setup, limits: &[u32]) -> Opened
+fn open(rt: &(impl Abort + Threads), alloc: Global, setup: Setup, limits: &[u32]) -> Opened
     requires limits { map (λ server. server.limit) setup.servers ≡ limits.now }
 {
     let opened = open_sound(rt, alloc, setup, limits).expect(rt, "memory");
@@ -79,7 +79,7 @@ fn open(rt: &HostRuntime, alloc: Global, setup: Setup, limits: &[u32]) -> Opened
 
 // Opens a dispatcher and its board; `None` where the setup isn't sound.
 fn open_sound(
-    rt: &HostRuntime,
+    rt: &impl Threads,
     alloc: Global,
     setup: Setup,
     limits: &[u32],
@@ -101,7 +101,13 @@ fn open_sound(
 }
 
 // Opens one server with this limit, this number of places, and a queue timeout of 10 ms.
-fn one_server(rt: &impl Abort, alloc: Global, places: usize, log: usize, limit: u32) -> Opened {
+fn one_server(
+    rt: &(impl Abort + Threads),
+    alloc: Global,
+    places: usize,
+    log: usize,
+    limit: u32,
+) -> Opened {
     let setup = setup_of_one(alloc, places, log, limit).expect(rt, "memory");
     open(rt, alloc, setup, &[limit])
 }

@@ -12,8 +12,10 @@ use std::alloc::{AllocError, Global};
 use std::cell::Cell;
 use std::io;
 use std::io::{Error, ErrorKind, Read, Write};
+use std::process::Abort;
 use std::rc::Rc;
 use std::test::Fail;
+use std::thread::Threads;
 
 /// Pseudo-random numbers.
 #[derive(Clone, Copy)]
@@ -240,7 +242,7 @@ struct Desk {
 
 impl Desk {
     // Gives a pass to an exchange that waits, and connects one that has a pass.
-    fn serve(&mut self, rt: &HostRuntime, exchange: Exchange) -> Exchange {
+    fn serve(&mut self, rt: &(impl Abort + Threads), exchange: Exchange) -> Exchange {
         match &exchange {
             Exchange::Waiting(_) => {
                 let (till, pass) = Till::open(rt, self.settings.alloc);
@@ -252,7 +254,7 @@ impl Desk {
         }
     }
 
-    fn tell(&mut self, rt: &HostRuntime, exchange: Exchange, event: Event) -> Exchange {
+    fn tell(&mut self, rt: &(impl Abort + Threads), exchange: Exchange, event: Event) -> Exchange {
         let Step {
             next,
             used: _,
@@ -262,7 +264,7 @@ impl Desk {
         next
     }
 
-    fn take(&mut self, rt: &HostRuntime, outcome: Outcome) {
+    fn take(&mut self, rt: &(impl Abort + Threads), outcome: Outcome) {
         match outcome {
             Outcome::Quiet => {}
             Outcome::Posts(pass, ending) | Outcome::StarvedPosts(pass, ending) => {
@@ -279,7 +281,7 @@ impl Desk {
     }
 
     // Posts a pass that the exchange still has.
-    fn end(&mut self, rt: &HostRuntime, exchange: Exchange) {
+    fn end(&mut self, rt: &(impl Abort + Threads), exchange: Exchange) {
         match exchange {
             Exchange::Dialing(dialing) => {
                 let pass = dialing.abandon();
@@ -343,7 +345,12 @@ impl Sides {
     }
 
     // Drives it once, after a poll that reported some of both sides. What it says of moved bytes is checked.
-    fn drive(&mut self, rt: &HostRuntime, desk: &mut Desk, exchange: Exchange) -> Exchange {
+    fn drive(
+        &mut self,
+        rt: &(impl Abort + Threads),
+        desk: &mut Desk,
+        exchange: Exchange,
+    ) -> Exchange {
         self.client.wake(self.chance.flips(), self.chance.flips());
         self.server.wake(self.chance.flips(), self.chance.flips());
         let (at_client, at_server) = (self.near.moved(), self.far.moved());
@@ -389,7 +396,12 @@ fn has(line: Line<Duplex<Source, Sink>>, bytes: &[u8]) -> bool {
 }
 
 // Says whether each side gets its text in this order.
-fn holds(rt: &HostRuntime, alloc: Global, row: &Row<'_>, seed: u64) -> Result<bool, AllocError> {
+fn holds(
+    rt: &(impl Abort + Threads),
+    alloc: Global,
+    row: &Row<'_>,
+    seed: u64,
+) -> Result<bool, AllocError> {
     let mut sides = Sides::new(alloc, row, seed)?;
     let mut desk = Desk {
         settings: Settings {
@@ -413,7 +425,7 @@ fn holds(rt: &HostRuntime, alloc: Global, row: &Row<'_>, seed: u64) -> Result<bo
 
 // Returns the first of this number of orders in which a row fails.
 fn first_fault(
-    rt: &HostRuntime,
+    rt: &(impl Abort + Threads),
     alloc: Global,
     row: &Row<'_>,
     orders: u64,

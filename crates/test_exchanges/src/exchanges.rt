@@ -3,7 +3,9 @@
 use crate::playing::{Cut, Move, Stage, Table};
 use exchange_events::TimeoutKind;
 use std::alloc::Global;
+use std::process::Abort;
 use std::test::Fail;
+use std::thread::Threads;
 
 /// The moves, the bytes that both sides got, the number of passes posted as done and as failed and
 /// of repeated requests, and the stage at the end.
@@ -482,7 +484,7 @@ static AGAIN: [Row; 2] = [
 
 // Where a row fails: its name, and how the bytes were cut.
 pub(crate) fn first_fault(
-    rt: &HostRuntime,
+    rt: &(impl Abort + Threads),
     alloc: Global,
     rows: &'static [Row],
 ) -> Option<(&'static str, Cut)> {
@@ -495,7 +497,7 @@ pub(crate) fn first_fault(
     None
 }
 
-fn fault_of(rt: &HostRuntime, alloc: Global, row: &Row) -> Option<Cut> {
+fn fault_of(rt: &(impl Abort + Threads), alloc: Global, row: &Row) -> Option<Cut> {
     for number in 0..120usize {
         let cut = cut_of(number);
         if !holds(rt, alloc, row, cut) {
@@ -518,7 +520,7 @@ fn cut_of(number: usize) -> Cut {
     }
 }
 
-fn holds(rt: &HostRuntime, alloc: Global, row: &Row, cut: Cut) -> bool {
+fn holds(rt: &(impl Abort + Threads), alloc: Global, row: &Row, cut: Cut) -> bool {
     let mut table = Table::new(alloc, row.aborts, cut);
     let stage = table.play(rt, row.moves);
     let wire = &table.wire;

@@ -9,6 +9,8 @@ use grant_board::Pass;
 use http_texts::{Additions, Persistence};
 use std::alloc::Global;
 use std::net::{IpAddr, Ipv4Addr};
+use std::process::Abort;
+use std::thread::Threads;
 
 /// A move of the script.
 #[derive(Clone, Copy)]
@@ -198,7 +200,7 @@ impl Table {
     }
 
     /// Plays all moves, and after each one what follows from it. Returns the stage at the end.
-    pub(crate) fn play(&mut self, rt: &HostRuntime, moves: &[Move]) -> Stage {
+    pub(crate) fn play(&mut self, rt: &(impl Abort + Threads), moves: &[Move]) -> Stage {
         let mut exchange = Exchange::new(self.alloc);
         for each in moves {
             exchange = self.happens(rt, exchange, *each);
@@ -208,7 +210,7 @@ impl Table {
         self.end(rt, exchange)
     }
 
-    fn happens(&mut self, rt: &HostRuntime, exchange: Exchange, each: Move) -> Exchange {
+    fn happens(&mut self, rt: &(impl Abort + Threads), exchange: Exchange, each: Move) -> Exchange {
         let event = match each {
             Move::Again => return self.ask_again(rt, exchange),
             Move::Barred => return self.is_barred(rt, exchange),
@@ -256,7 +258,7 @@ impl Table {
         self.tell(rt, exchange, event).0
     }
 
-    fn ask_again(&mut self, rt: &HostRuntime, exchange: Exchange) -> Exchange {
+    fn ask_again(&mut self, rt: &(impl Abort + Threads), exchange: Exchange) -> Exchange {
         assert!(rt; exchange.may_ask_again());
         match exchange.ask_again(self.alloc) {
             Ok(next) => next,
@@ -264,7 +266,7 @@ impl Table {
         }
     }
 
-    fn is_barred(&mut self, rt: &HostRuntime, exchange: Exchange) -> Exchange {
+    fn is_barred(&mut self, rt: &(impl Abort + Threads), exchange: Exchange) -> Exchange {
         assert!(rt; !exchange.may_ask_again());
         match exchange.ask_again(self.alloc) {
             Ok(_next) => panic!(rt; "a client that may not ask again does"),
@@ -272,14 +274,19 @@ impl Table {
         }
     }
 
-    fn grant(&mut self, rt: &HostRuntime) -> Pass {
+    fn grant(&mut self, rt: &(impl Abort + Threads)) -> Pass {
         let (till, pass) = Till::open(rt, self.alloc);
         self.till = Some(till);
         pass
     }
 
     // Reports one event to the exchange. Returns the exchange, and how many bytes it took.
-    fn tell(&mut self, rt: &HostRuntime, exchange: Exchange, event: Event) -> (Exchange, usize) {
+    fn tell(
+        &mut self,
+        rt: &(impl Abort + Threads),
+        exchange: Exchange,
+        event: Event,
+    ) -> (Exchange, usize) {
         let Step {
             next,
             used,
@@ -289,7 +296,7 @@ impl Table {
         (next, used)
     }
 
-    fn give(&mut self, rt: &HostRuntime, outcome: Outcome) {
+    fn give(&mut self, rt: &(impl Abort + Threads), outcome: Outcome) {
         match outcome {
             Outcome::Quiet => {}
             Outcome::Posts(pass, ending) => self.post(rt, pass, ending),
@@ -300,7 +307,7 @@ impl Table {
         }
     }
 
-    fn post(&mut self, rt: &HostRuntime, pass: Pass, ending: Ending) {
+    fn post(&mut self, rt: &(impl Abort + Threads), pass: Pass, ending: Ending) {
         if ending == Ending::Done {
             self.wire.done = self.wire.done.wrapping_add(1);
         } else {
@@ -313,7 +320,7 @@ impl Table {
     }
 
     // Both sides take the bytes that are for them.
-    fn flush(&mut self, rt: &HostRuntime, mut exchange: Exchange) -> Exchange {
+    fn flush(&mut self, rt: &(impl Abort + Threads), mut exchange: Exchange) -> Exchange {
         for _ in 0..10_000u64 {
             let wants = exchange.wants();
             let client = wants.writes_client && !self.stalled;
@@ -329,7 +336,7 @@ impl Table {
         exchange
     }
 
-    fn to_client(&mut self, rt: &HostRuntime, exchange: Exchange) -> Exchange {
+    fn to_client(&mut self, rt: &(impl Abort + Threads), exchange: Exchange) -> Exchange {
         let most = self.client_cut.next();
         let waiting = exchange.to_client();
         let count = waiting.len().min(most);
@@ -340,7 +347,7 @@ impl Table {
         self.tell(rt, exchange, Event::ClientTook(count)).0
     }
 
-    fn to_server(&mut self, rt: &HostRuntime, exchange: Exchange) -> Exchange {
+    fn to_server(&mut self, rt: &(impl Abort + Threads), exchange: Exchange) -> Exchange {
         let most = self.server_cut.next();
         let waiting = exchange.to_server();
         let count = waiting.len().min(most);
@@ -352,7 +359,7 @@ impl Table {
     }
 
     // Delivers the bytes that both sides sent, as long as they are taken.
-    fn deliver(&mut self, rt: &HostRuntime, mut exchange: Exchange) -> Exchange {
+    fn deliver(&mut self, rt: &(impl Abort + Threads), mut exchange: Exchange) -> Exchange {
         for _ in 0..10_000u64 {
             let (next, used) = self.both(rt, exchange);
             exchange = self.flush(rt, next);
@@ -364,7 +371,7 @@ impl Table {
     }
 
     // Delivers a piece of each side, one after the other, and returns how many bytes were taken.
-    fn both(&mut self, rt: &HostRuntime, exchange: Exchange) -> (Exchange, usize) {
+    fn both(&mut self, rt: &(impl Abort + Threads), exchange: Exchange) -> (Exchange, usize) {
         if self.server_cut.flips() {
             let (next, used) = self.of_server(rt, exchange);
             let (last, also) = self.of_client(rt, next);
@@ -375,7 +382,7 @@ impl Table {
         (last, used.saturating_add(also))
     }
 
-    fn of_client(&mut self, rt: &HostRuntime, exchange: Exchange) -> (Exchange, usize) {
+    fn of_client(&mut self, rt: &(impl Abort + Threads), exchange: Exchange) -> (Exchange, usize) {
         if self.client.piece(ALL).is_empty() {
             return (exchange, 0);
         }
@@ -387,7 +394,7 @@ impl Table {
         (next, used)
     }
 
-    fn of_server(&mut self, rt: &HostRuntime, exchange: Exchange) -> (Exchange, usize) {
+    fn of_server(&mut self, rt: &(impl Abort + Threads), exchange: Exchange) -> (Exchange, usize) {
         if self.server.piece(ALL).is_empty() {
             return (exchange, 0);
         }
@@ -400,7 +407,7 @@ impl Table {
     }
 
     // Returns its stage, and posts a pass that it still has.
-    fn end(&mut self, rt: &HostRuntime, exchange: Exchange) -> Stage {
+    fn end(&mut self, rt: &(impl Abort + Threads), exchange: Exchange) -> Stage {
         match exchange {
             Exchange::Asking(_) => Stage::Asking,
             Exchange::Waiting(_) => Stage::Waiting,

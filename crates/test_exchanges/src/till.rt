@@ -6,6 +6,8 @@ ghost use Rattle.base_verdict.specs.declared.Verdict.TheVariants.{Serve};
 use base_verdict::{Ending, Verdict};
 use grant_board::{Board, Pass, RelaySeat, Taking};
 use std::alloc::Global;
+use std::process::Abort;
+use std::thread::Threads;
 
 /// The board and the seat for the pass's return.
 #[derive(Drop)]
@@ -19,7 +21,7 @@ pub(crate) struct Till {
 
 impl Till {
     /// Makes a pass, and the till for its return.
-    pub(crate) fn open(rt: &HostRuntime, alloc: Global) -> (Till, Pass) {
+    pub(crate) fn open(rt: &(impl Abort + Threads), alloc: Global) -> (Till, Pass) {
         let Ok((board, mut keeper, mut seat)) = Board::open(rt, alloc, 1, &[1]) else {
             panic!(rt; "no memory for a board")
         };
@@ -35,7 +37,7 @@ impl Till {
     }
 
     /// Posts the pass, once.
-    pub(crate) fn post(&mut self, rt: &HostRuntime, pass: Pass, ending: Ending) {
+    pub(crate) fn post(&mut self, rt: &(impl Abort + Threads), pass: Pass, ending: Ending) {
         assert!(rt; self.held && is_first(&pass));
         self.held = false;
         self.seat.post(&self.board, pass, ending);

@@ -6,6 +6,8 @@ use base_verdict::{Ending, Verdict};
 use grant_board::{Board, Pass, RelaySeat, Taking};
 use relay_http::Fault;
 use std::alloc::Global;
+use std::process::Abort;
+use std::thread::Threads;
 
 /// The pass, and the board and the seat for its return. It has no `Drop`, since the pass has none.
 pub(crate) struct Held {
@@ -17,7 +19,7 @@ pub(crate) struct Held {
 }
 
 impl Held {
-    pub(crate) fn take(rt: &HostRuntime, alloc: Global) -> Result<Held, Fault>
+    pub(crate) fn take(rt: &(impl Abort + Threads), alloc: Global) -> Result<Held, Fault>
         ensures { IfOk result (λ held. Serves held.pass.verdict) }
     {
         let Ok((board, mut keeper, mut seat)) = Board::open(rt, alloc, 1, &[1]) else {

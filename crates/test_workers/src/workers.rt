@@ -67,7 +67,7 @@ const TWO_SLOTS: &[u8] =
     b"listen w\n    bind :80\n    server a 127.0.0.1:9001 maxconn 2 check rise 1 fall 1\n";
 
 /// Opens what a configuration describes, with four places and a log of this length.
-pub(crate) fn open(rt: &HostRuntime, alloc: Global, config: Config, log: usize) -> Opened
+pub(crate) fn open(rt: &(impl Abort + Threads), alloc: Global, config: Config, log: usize) -> Opened
     requires sound { IsSoundConfig config }
     requires log { (0 < log) × (log ≤ 262144) }
     ensures sound { IsSoundConfig result.config }
@@ -89,7 +89,7 @@ pub(crate) fn open(rt: &HostRuntime, alloc: Global, config: Config, log: usize) 
 }
 
 // The same for a configuration's text.
-fn open_text(rt: &impl Abort, alloc: Global, text: &[u8], log: usize) -> Opened
+fn open_text(rt: &(impl Abort + Threads), alloc: Global, text: &[u8], log: usize) -> Opened
     requires log { (0 < log) × (log ≤ 262144) }
     ensures sound { IsSoundConfig result.config }
 {

@@ -9,15 +9,15 @@ use std::thread::Threads;
 
 // The test succeeds whichever single allocation is refused: it makes the same call again.
 
-fn open_once(alloc: Global) -> Result<Option<Opened>, AllocError> {
+fn open_once(rt: &impl Threads, alloc: Global) -> Result<Option<Opened>, AllocError> {
     let setup = setup_of_one(alloc, 1, 10, 1)?;
-    open_sound(alloc, setup, &[1])
+    open_sound(rt, alloc, setup, &[1])
 }
 
-fn open_in_the_end(alloc: Global) -> Result<Opened, Fail> {
-    let opened = match open_once(alloc) {
+fn open_in_the_end(rt: &impl Threads, alloc: Global) -> Result<Opened, Fail> {
+    let opened = match open_once(rt, alloc) {
         Ok(opened) => opened,
-        Err(_) => open_once(alloc)?,
+        Err(_) => open_once(rt, alloc)?,
     };
     let Some(opened) = opened else {
         return Err(Fail::from("not a sound setup"));
@@ -144,7 +144,7 @@ fn use_up_one<N: DeskName, R: Threads + Wait>(
 
 #[test]
 fn a_refused_growth_changes_no_desk(rt: HostRuntime) -> Result<(), Fail> {
-    let opened = open_in_the_end(rt.alloc())?;
+    let opened = open_in_the_end(&rt, rt.alloc())?;
     let (told, closing) = use_up_one::<Brand, _>(&rt, rt.alloc(), opened);
     same(&rt, told?, (0, 1, true));
     same(&rt, closing, Closing { left: 1 });

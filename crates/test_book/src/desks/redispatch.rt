@@ -6,7 +6,7 @@ use crate::assertions::{holds, same};
 use std::thread::Threads;
 
 // Three servers with one slot each; three failed checks in a row take the first one down.
-fn three_servers(rt: &impl Abort, alloc: Global) -> Opened {
+fn three_servers(rt: &(impl Abort + Threads), alloc: Global) -> Opened {
     let checked = ServerSet {
         limit: 1,
         maxqueue: 0,

@@ -4,6 +4,8 @@ use crate::fakes::{Feed, Log};
 use relay_http::{Code, Exchange, Fault};
 use req_view::{View, Viewed, view};
 use std::alloc::Global;
+use std::process::Abort;
+use std::thread::Threads;
 
 const POST: &[u8] =
     b"POST /a HTTP/1.1\r\nHost: h\r\nConnection: x-a\r\nX-A: 1\r\nContent-Length: 3\r\n\r\nabcd";
@@ -14,7 +16,13 @@ const POST_TEXT: &[u8] =
 const WAITING: &[u8] =
     b"POST / HTTP/1.1\r\nHost: h\r\nContent-Length: 3\r\nExpect: 100-Continue\r\n\r\n";
 
-fn is_one_write(rt: &HostRuntime, alloc: Global, side: &Side, bytes: &[u8], text: &[u8]) {
+fn is_one_write(
+    rt: &(impl Abort + Threads),
+    alloc: Global,
+    side: &Side,
+    bytes: &[u8],
+    text: &[u8],
+) {
     let mut relay = Relay::new(rt, alloc, TURNS);
     let result = relay.hand_on(rt, alloc, side, &mut Feed::of(bytes));
     same(rt, result, Ok(()), "a message");
@@ -36,7 +44,7 @@ fn a_head_and_its_body_are_one_write(rt: HostRuntime) {
 }
 
 // Reads the request, whose body came after its head.
-fn read_whole(rt: &HostRuntime, alloc: Global, exchange: &mut Exchange) -> View {
+fn read_whole(rt: &(impl Abort + Threads), alloc: Global, exchange: &mut Exchange) -> View {
     exchange.renew();
     let view = exchange
         .read_request(alloc, &mut Feed::of(POST))
@@ -56,7 +64,13 @@ fn a_request_is_taken_up(rt: HostRuntime) {
 }
 
 // The `100` for a request has 25 bytes or none.
-fn is_given_leave(rt: &HostRuntime, alloc: Global, number: usize, head: &[u8], len: usize) {
+fn is_given_leave(
+    rt: &(impl Abort + Threads),
+    alloc: Global,
+    number: usize,
+    head: &[u8],
+    len: usize,
+) {
     let mut exchange = Exchange::new(alloc, TURNS).expect(rt, "memory");
     let mut output = Log::new(alloc);
     exchange.renew();
@@ -99,7 +113,7 @@ fn leave_is_given_to_those_who_wait(rt: HostRuntime) {
     }
 }
 
-fn is_refused(rt: &HostRuntime, alloc: Global, code: Code, text: &[u8]) {
+fn is_refused(rt: &(impl Abort + Threads), alloc: Global, code: Code, text: &[u8]) {
     let mut exchange = Exchange::new(alloc, 0).expect(rt, "memory");
     let mut output = Log::new(alloc);
     exchange.renew();

@@ -5,9 +5,16 @@ use crate::passes::Held;
 use relay_http::{Code, Exchange, Fault};
 use req_view::{View, Viewed, view};
 use std::alloc::Global;
+use std::process::Abort;
+use std::thread::Threads;
 
 // Each call answers that the exchange is closed; nothing is read or written.
-fn answers_closed(rt: &HostRuntime, alloc: Global, exchange: &mut Exchange, view: &View) {
+fn answers_closed(
+    rt: &(impl Abort + Threads),
+    alloc: Global,
+    exchange: &mut Exchange,
+    view: &View,
+) {
     let held = Held::take(rt, alloc).expect(rt, "a pass");
     let mut reader = Feed::of(GET);
     let mut writer = Log::new(alloc);
@@ -33,7 +40,7 @@ fn answers_closed(rt: &HostRuntime, alloc: Global, exchange: &mut Exchange, view
 }
 
 // The exchange is closed, and tells the client so if no byte of an answer was sent.
-fn is_over(rt: &HostRuntime, alloc: Global, exchange: &mut Exchange, view: &View) {
+fn is_over(rt: &(impl Abort + Threads), alloc: Global, exchange: &mut Exchange, view: &View) {
     answers_closed(rt, alloc, exchange, view);
     if !exchange.begun() {
         let mut writer = Log::new(alloc);
@@ -186,7 +193,7 @@ static ANSWERS: [Faulty; 10] = [
     },
 ];
 
-fn closes(rt: &HostRuntime, alloc: Global, view: &View, number: usize, row: &Faulty) {
+fn closes(rt: &(impl Abort + Threads), alloc: Global, view: &View, number: usize, row: &Faulty) {
     let mut relay = Relay::new(rt, alloc, row.turns);
     let result = relay.hand_on(rt, alloc, &row.side, &mut Feed::of(row.bytes));
     same(rt, (number, result), (number, Err(row.fault)), "a row");
@@ -198,7 +205,7 @@ fn closes(rt: &HostRuntime, alloc: Global, view: &View, number: usize, row: &Fau
     is_over(rt, alloc, &mut relay.exchange, view);
 }
 
-fn each_closes(rt: &HostRuntime, alloc: Global, rows: &[Faulty]) {
+fn each_closes(rt: &(impl Abort + Threads), alloc: Global, rows: &[Faulty]) {
     let Viewed::Whole(view, _) = view(alloc, GET) else {
         panic!(rt; "no head");
     };

@@ -5,6 +5,8 @@ use crate::repeats::{Repeated, bytes_of};
 use relay_http::{Fault, MOST_INTERIMS};
 use req_view::{HEAD_BYTES, HEAD_FIELDS};
 use std::alloc::Global;
+use std::process::Abort;
+use std::thread::Threads;
 
 /// A message at a limit or past it, and how many bytes of it are written.
 struct Limit {
@@ -150,7 +152,7 @@ static LIMITS: [Limit; 10] = [
     },
 ];
 
-fn is_limit(rt: &HostRuntime, alloc: Global, limit: &Limit) {
+fn is_limit(rt: &(impl Abort + Threads), alloc: Global, limit: &Limit) {
     let bytes = bytes_of(rt, alloc, &limit.bytes);
     let mut relay = Relay::new(rt, alloc, TURNS);
     let outcome = match relay.hand_on(rt, alloc, &limit.side, &mut Feed::of(bytes.as_slice())) {
@@ -268,7 +270,7 @@ static ENDLESS_ANSWERS: [Endless; 4] = [
     },
 ];
 
-fn ends(rt: &HostRuntime, alloc: Global, row: &Endless) {
+fn ends(rt: &(impl Abort + Threads), alloc: Global, row: &Endless) {
     let mut input = Feed::of(row.start);
     input.most = 1;
     input.for_ever = Some(row.byte);

@@ -9,7 +9,9 @@ use relay_http::{Exchange, Fault, Stage};
 use req_view::View;
 use std::alloc::Global;
 use std::io;
+use std::process::Abort;
 use std::test::Fail;
+use std::thread::Threads;
 
 const ANSWER: &[u8] =
     b"HTTP/1.1 103 X\r\nA: 1\r\n\r\nHTTP/1.1 200 OK\r\nB: 2\r\nContent-Length: 2\r\n\r\nab";
@@ -24,7 +26,11 @@ fn read(alloc: Global, exchange: &mut Exchange) -> Result<View, Fault> {
 }
 
 // Where the first read finds no memory, the second one reads.
-fn read_in_the_end(rt: &HostRuntime, alloc: Global, exchange: &mut Exchange) -> Result<View, Fault> {
+fn read_in_the_end(
+    rt: &(impl Abort + Threads),
+    alloc: Global,
+    exchange: &mut Exchange,
+) -> Result<View, Fault> {
     match read(alloc, exchange) {
         Ok(view) => Ok(view),
         Err(fault) => {
@@ -52,7 +58,13 @@ fn answer(alloc: Global, relay: &mut Relay, pass: &Pass, view: &View) -> Result<
 }
 
 // The same for the answer, to the same request.
-fn is_answered(rt: &HostRuntime, alloc: Global, relay: &mut Relay, pass: &Pass, view: &View)
+fn is_answered(
+    rt: &(impl Abort + Threads),
+    alloc: Global,
+    relay: &mut Relay,
+    pass: &Pass,
+    view: &View,
+)
     requires { Serves pass.now.verdict }
 {
     let first = answer(alloc, relay, pass, view);

@@ -9,6 +9,8 @@ use relay_http::{Exchange, Fault};
 use req_view::View;
 use std::alloc::Global;
 use std::io;
+use std::process::Abort;
+use std::thread::Threads;
 
 pub(crate) const TURNS: u64 = 1_000_000;
 
@@ -31,7 +33,7 @@ pub(crate) struct Relay {
 }
 
 impl Relay {
-    pub(crate) fn new(rt: &HostRuntime, alloc: Global, turns: u64) -> Relay {
+    pub(crate) fn new(rt: &(impl Abort + Threads), alloc: Global, turns: u64) -> Relay {
         Relay {
             exchange: Exchange::new(alloc, turns).expect(rt, "memory"),
             output: Log::new(alloc),
@@ -41,7 +43,7 @@ impl Relay {
     /// Hands the message on by the exchange, renewed, on a pass of its own.
     pub(crate) fn hand_on(
         &mut self,
-        rt: &HostRuntime,
+        rt: &(impl Abort + Threads),
         alloc: Global,
         side: &Side,
         input: &mut Feed<'_>,
@@ -103,7 +105,7 @@ impl Relay {
     /// takes up, and the rest.
     pub(crate) fn forward(
         &mut self,
-        rt: &HostRuntime,
+        rt: &(impl Abort + Threads),
         alloc: Global,
         view: &View,
         taken_up: &[u8],
@@ -126,7 +128,7 @@ impl Relay {
 /// The name of a message, its bytes, and what they become.
 pub(crate) type Row = (&'static str, &'static [u8], Result<&'static [u8], Fault>);
 
-fn becomes(rt: &HostRuntime, alloc: Global, relay: &mut Relay, side: &Side, row: &Row) {
+fn becomes(rt: &(impl Abort + Threads), alloc: Global, relay: &mut Relay, side: &Side, row: &Row) {
     let (what, bytes, expected) = *row;
     relay.output.bytes.clear();
     let outcome = match relay.hand_on(rt, alloc, side, &mut Feed::of(bytes)) {
@@ -137,7 +139,12 @@ fn becomes(rt: &HostRuntime, alloc: Global, relay: &mut Relay, side: &Side, row:
 }
 
 /// Fails the test where a row becomes something else. One exchange hands all of them on.
-pub(crate) fn become_of_each(rt: &HostRuntime, alloc: Global, side: &Side, rows: &[Row]) {
+pub(crate) fn become_of_each(
+    rt: &(impl Abort + Threads),
+    alloc: Global,
+    side: &Side,
+    rows: &[Row],
+) {
     let mut relay = Relay::new(rt, alloc, TURNS);
     for row in rows {
         becomes(rt, alloc, &mut relay, side, row);

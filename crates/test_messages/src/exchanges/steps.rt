@@ -4,6 +4,8 @@ use crate::exchanges::relays::{GET, Relay, Side, TURNS};
 use crate::fakes::Feed;
 use relay_http::{Closing, Exchange, Fault, Stage};
 use std::alloc::Global;
+use std::process::Abort;
+use std::thread::Threads;
 
 /// The way to stop a message at a step.
 enum Stop {
@@ -150,7 +152,7 @@ fn input_at(steps: &Steps, step: usize) -> Feed<'static> {
     input
 }
 
-fn relay_at(rt: &HostRuntime, alloc: Global, steps: &Steps, step: usize) -> Relay {
+fn relay_at(rt: &(impl Abort + Threads), alloc: Global, steps: &Steps, step: usize) -> Relay {
     let turns = match steps.stop {
         Stop::Turns => step as u64,
         _ => TURNS,
@@ -175,7 +177,7 @@ fn is_closed_by(exchange: &Exchange, fault: Fault) -> bool {
 }
 
 // Checks what was written when it was stopped.
-fn is_stopped(rt: &HostRuntime, relay: &Relay, steps: &Steps, step: usize) {
+fn is_stopped(rt: &(impl Abort + Threads), relay: &Relay, steps: &Steps, step: usize) {
     let written = relay.output.bytes.len();
     same(rt, relay.exchange.stage(), Stage::Failed, steps.what);
     let closed = is_closed_by(&relay.exchange, steps.fault);
@@ -188,7 +190,7 @@ fn is_stopped(rt: &HostRuntime, relay: &Relay, steps: &Steps, step: usize) {
     }
 }
 
-fn is_handed_on_to(rt: &HostRuntime, alloc: Global, steps: &Steps, step: usize) {
+fn is_handed_on_to(rt: &(impl Abort + Threads), alloc: Global, steps: &Steps, step: usize) {
     let mut relay = relay_at(rt, alloc, steps, step);
     let result = relay.hand_on(rt, alloc, &steps.side, &mut input_at(steps, step));
     let written = relay.output.bytes.as_slice();
@@ -204,7 +206,7 @@ fn is_handed_on_to(rt: &HostRuntime, alloc: Global, steps: &Steps, step: usize) 
     }
 }
 
-fn is_handed_on_step_by_step(rt: &HostRuntime, alloc: Global, steps: &Steps) {
+fn is_handed_on_step_by_step(rt: &(impl Abort + Threads), alloc: Global, steps: &Steps) {
     for step in steps.first..=steps.last {
         is_handed_on_to(rt, alloc, steps, step);
     }

@@ -3,7 +3,7 @@ ghost use Rattle.std.specs.Bool.{OnTrue, OnFalse};
 ghost use Rattle.exchange_driver.specs.Answers.{SocketAnswer, Heard, with_answers};
 ghost use Rattle.exchange_driver.specs.Drives.{Drives, IsDownAtRest, IsUpAtRest};
 ghost use Rattle.exchange_driver.specs.Moves.{IsDriven};
-ghost use Rattle.exchange_driver.specs.Wires.{Wire, is_still_at};
+ghost use Rattle.exchange_driver.specs.Wires.{IsAsAnswered, Wire, is_still_at};
 ghost use Rattle.exchange_driver.specs.declared.socket.ReadResult.TheVariants.{Nothing};
 ghost use Rattle.exchange_machine.specs.Histories.{ExchangeHistory, granted};
 ghost use Rattle.exchange_machine.specs.Stages.{IsWaiting};
@@ -234,6 +234,8 @@ impl<N: BoardName + Ledger, S: Socket> Linked<N, S> {
         ensures stays { result.given ≢ Given.Retries → result.linked.line.there ≡ self.line.there }
         ensures down { result.rest ≡ Rest.Waits → IsDownAtRest result.linked.seated.exchange client.new result.linked.line }
         ensures up { result.rest ≡ Rest.Waits → IsUpAtRest result.linked.seated.exchange client.new result.linked.line }
+        ensures answered { IsAsAnswered client.old client.new }
+        ensures left { result.given ≢ Given.Retries → IsAsAnswered self.line result.linked.line }
         ensures driven { (outcome : outcomes.Outcome) × (server : Option (List SocketAnswer))
             × IsDriven settings.rules.aborts client.old.answers client.new.answers self.line.answers server self.seated.exchange outcome result.linked.seated.exchange
             × (result.given ≢ Given.Retries → result.linked.line.answers ≡ server)

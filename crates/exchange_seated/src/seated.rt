@@ -1,5 +1,6 @@
 ghost use Rattle.std.specs.Prelude.{◌≡◌, ◌↔◌, ℕ, None, ◌<◌, ◌≤◌, ◌++◌, ◌∷◌, [], true, false, length, is_some, IfOk, IfErr, IfSome, IsTrue, MatchOption};
 ghost use Rattle.exchange_driver.specs.Drives.{Drives, IsDownAtRest, IsUpAtRest};
+ghost use Rattle.exchange_driver.specs.Wires.{IsAsAnswered};
 ghost use Rattle.exchange_driver.specs.Moves.{IsDriven};
 ghost use Rattle.grant_board.specs.RelayCalls.{post_after};
 ghost use Rattle.exchange_machine.specs.Histories.{ExchangeHistory};
@@ -332,6 +333,7 @@ impl<N: BoardName + Ledger> Seated<N> {
             × ((posting : _) → result.given ≡ Given.Posts posting → IsPosted outcome posting.taken.held.pass posting.ending) }
         ensures holds { StillHolds (held_by self.exchange) (held_by result.seated.exchange) }
         ensures there { server.new.there ≡ server.old.there }
+        ensures answered { IsAsAnswered client.old client.new × IsAsAnswered server.old server.new }
         ensures down { result.rest ≡ Rest.Waits → IsDownAtRest result.seated.exchange client.new server.new }
         ensures up { result.rest ≡ Rest.Waits → IsUpAtRest result.seated.exchange client.new server.new }
     {

@@ -3,7 +3,7 @@ use Rattle.std.proofs.Math.Logic.{∥∥₁_map, ∥∥₁_elim}
 use denote.Struct.Props.{props}
 use Rattle.exchange_events.specs.Steps.{ended}
 use Rattle.exchange_events.specs.declared.exchange.Exchange.{Exchange}
-use Rattle.exchange_driver.specs.Wires.{Wire}
+use Rattle.exchange_driver.specs.Wires.{IsAsAnswered, Wire}
 use Rattle.exchange_seated.specs.Connections.{IsServedOn}
 use Rattle.exchange_seated.proofs.Connecting.{driven_on, driven_unsent, retried_unsent, held_before}
 use Rattle.exchange_seated.proofs.linked.Linked.drive.Goals as goal
@@ -56,3 +56,11 @@ returns-clause-driven g c =
       (λ is. d.3 (sym anew.rest.1 ∙ is)),
       (λ posting is. d.4 posting (sym anew.rest.1 ∙ is)),
     )
+
+pub returns-clause-answered : goal.returns-clause-answered
+returns-clause-answered g c = c.drive-served.ensures.answered.0
+
+pub returns-clause-left : goal.returns-clause-left
+returns-clause-left g c kept =
+    let anew = c.linked_anew.ensures in
+    subst (λ (w : Wire). IsAsAnswered c.args.self.line w) (sym (anew.stays (λ is. kept (anew.rest.1 ∙ is))).0) c.drive-served.ensures.answered.1

@@ -17,3 +17,6 @@ returns-clause-driven g c = (
   c.part-seated.ensures.anew,
   c.part-seated.ensures.ends,
 )
+
+pub returns-clause-answered : goal.returns-clause-answered
+returns-clause-answered g c = (c.drive-exchange.ensures.client, c.drive-exchange.ensures.server)

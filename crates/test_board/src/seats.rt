@@ -132,7 +132,9 @@ fn posted<R: Abort + Threads + Wait + Sync, N: BoardName + Send + Sync>(
 
 #[test]
 fn passes_are_posted_by_other_threads(rt: HostRuntime) {
-    let (board, mut keeper, mut first) = Board::open(&rt, rt.alloc(), 2, &[2]).expect(&rt, "memory");
+    let (board, mut keeper, mut first) = Board::open(&rt, rt.alloc(), 2, &[2]).expect(
+        &rt, "memory",
+    );
     keeper.offer(&board, 0, TICKET, SERVE);
     keeper.offer(&board, 1, TICKET, SERVE);
     let second = first.split(&board);

@@ -58,7 +58,9 @@ fn meet_twice<R: Abort>(
 
 #[test]
 fn a_bound_falls(rt: HostRuntime) {
-    let (board, mut keeper, mut first) = Board::open(&rt, rt.alloc(), 2, &[2]).expect(&rt, "memory");
+    let (board, mut keeper, mut first) = Board::open(&rt, rt.alloc(), 2, &[2]).expect(
+        &rt, "memory",
+    );
     keeper.offer(&board, 0, 7, Verdict::Serve(0));
     keeper.offer(&board, 1, 8, Verdict::Serve(0));
     let second = first.split(&board);

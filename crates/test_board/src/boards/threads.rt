@@ -107,7 +107,9 @@ fn collect_all<R: Wait>(rt: &R, board: &Board, keeper: KeeperSeat) -> KeeperSeat
 
 #[test]
 fn several_threads(rt: HostRuntime) {
-    let (board, mut keeper, mut first) = Board::open(&rt, rt.alloc(), 4, &[2, 0]).expect(&rt, "memory");
+    let (board, mut keeper, mut first) = Board::open(&rt, rt.alloc(), 4, &[2, 0]).expect(
+        &rt, "memory",
+    );
     keeper.offer(&board, 0, 1, Verdict::Serve(0));
     keeper.offer(&board, 1, 2, Verdict::Serve(0));
     keeper.offer(&board, 2, 3, Verdict::Serve(1));
@@ -174,7 +176,9 @@ fn race<R: Threads + Sync>(
 
 #[test]
 fn two_threads_on_one_place(rt: HostRuntime) {
-    let (board, mut keeper, mut first) = Board::open(&rt, rt.alloc(), 1, &[1]).expect(&rt, "memory");
+    let (board, mut keeper, mut first) = Board::open(&rt, rt.alloc(), 1, &[1]).expect(
+        &rt, "memory",
+    );
     let mut second = first.split(&board);
     for ticket in 0..1000 {
         keeper.offer(&board, 0, ticket, Verdict::Told(Cause::Timeout));

@@ -42,37 +42,22 @@ fn push_entry(text: &mut String, names: &Names, entry: &Entry) -> Result<(), All
         Entry::Abort(moment, ticket) => push_told(text, moment, " abort ", ticket),
         Entry::Tick(moment) => push_tick(text, moment),
         Entry::Check(moment, server, answered) => {
-            push_said(
-                text,
-                moment,
-                " check ",
-                names.of(server),
-                health_word(answered),
-            )
+            let word = health_word(answered);
+            push_said(text, moment, " check ", names.of(server), word)
         }
         Entry::Limit(moment, server, limit) => push_limit(text, moment, names.of(server), limit),
         Entry::Direct(ticket, server) => push_put(text, "  direct ", ticket, names.of(server)),
         Entry::Joined(ticket, queue) => push_put(text, "  join ", ticket, name_of(names, queue)),
         Entry::Granted(ticket, queue, server) => {
-            push_moved(
-                text,
-                "  grant ",
-                ticket,
-                name_of(names, queue),
-                names.of(server),
-            )
+            let from = name_of(names, queue);
+            push_moved(text, "  grant ", ticket, from, names.of(server))
         }
         Entry::Moved(ticket, server) => push_put(text, "  move ", ticket, names.of(server)),
         Entry::Freed(ticket, server) => push_put(text, "  free ", ticket, names.of(server)),
         Entry::Retried(ticket, server, failures) => {
             let mut digits = Buffer::new();
-            push_moved(
-                text,
-                "  retry ",
-                ticket,
-                names.of(server),
-                digits.format(failures),
-            )
+            let count = digits.format(failures);
+            push_moved(text, "  retry ", ticket, names.of(server), count)
         }
         Entry::Left(ticket, cause) => push_put(text, "  left ", ticket, cause_word(cause)),
         Entry::Health(server, up) => push_health(text, names.of(server), health_word(up)),

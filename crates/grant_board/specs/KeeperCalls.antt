@@ -1,6 +1,6 @@
 -- The keeper's calls, for the layer that holds its seat: what `offer`, `collect`, `limit` and
 -- `vouch` learn and change, and what `Board::close` tells at the end.
-use Rattle.std.specs.Prelude.{◌≡◌, ℕ, ◌+◌, ◌<◌, ◌≤◌, List, [], ◌∷◌, ◌++◌, map, slice_index, slice_set, length, Contains}
+use Rattle.std.specs.Prelude.{◌≡◌, ℕ, ◌+◌, ◌<◌, List, [], ◌∷◌, ◌++◌, map, slice_index, slice_set, length, Contains}
 use Rattle.base_verdict.specs.declared.Verdict.{Verdict}
 use Rattle.base_verdict.specs.declared.Verdict.TheVariants.{Serve, Told}
 use Rattle.base_verdict.specs.declared.Ending.{Ending}

@@ -1,4 +1,4 @@
-use Rattle.std.proofs.Common.{◌≡◌, ◌+◌, ap, sym, refl, subst, ◌∙◌, arith}
+use Rattle.std.proofs.Common.{◌≡◌, ◌+◌, ap, sym, refl, subst, arith}
 use Rattle.grant_board.specs.Ruled.{at_rest}
 use Rattle.grant_board.specs.KeeperCalls.{MayLimit, limit_after}
 use Rattle.grant_board.specs.Plays.{keeper_of, keeper_seat}

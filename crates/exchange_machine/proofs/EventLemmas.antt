@@ -9,7 +9,6 @@ use Rattle.http_texts.specs.declared.fault.Fault.{Fault}
 use Rattle.http_texts.specs.declared.fault.Fault.TheVariants as Faulty
 use Rattle.http_texts.specs.declared.refusals.Code.{Code}
 use Rattle.http_texts.specs.declared.refusals.Code.TheVariants.{BadGateway, BadRequest, Unavailable}
-use Rattle.req_view.specs.AnswerHeads.{HasNoAnswer}
 use Rattle.req_view.specs.Request.{Request}
 use Rattle.base_verdict.specs.declared.Ending.TheVariants.{Done}
 use Rattle.exchange_machine.specs.Answerings.{TellsAnswer}

@@ -14,7 +14,7 @@ use Rattle.http_texts.specs.Messages.PartOfAnswered.{some_heads, head_and_body a
 use Rattle.http_texts.specs.Persistences.{is_delimited, is_kept_by_server, wished, answer_says}
 use Rattle.http_texts.specs.Texts.{request_text, answer_text, interim_text}
 use Rattle.req_view.specs.Answer.{Answer, answer_of}
-use Rattle.req_view.specs.AnswerHeads.{HasNoAnswer, SaysAnswer}
+use Rattle.req_view.specs.AnswerHeads.{SaysAnswer}
 use Rattle.http_texts.specs.Framings.{request_framing, answer_plan, is_interim}
 use Rattle.http_texts.specs.Heads.{FramedBadly}
 use Rattle.http_texts.specs.declared.additions.Additions.{Additions}

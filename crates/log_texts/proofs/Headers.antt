@@ -1,6 +1,6 @@
 -- A script's lines are taken in one by one.
 use Rattle.std.proofs.Common.{◌≡◌, ℕ, ◌+◌, Bool, true, false, ◌||◌, List, [], ◌∷◌, ◌++◌, length, take, drop}
-use Rattle.std.proofs.Common.{filter_map, Option, Some, None, if◌then◌else◌, refl, sym, ap, ◌∙◌, append_assoc, append-nil, length-append, drop_at}
+use Rattle.std.proofs.Common.{filter_map, Option, Some, None, if◌then◌else◌, refl, sym, ap, ◌∙◌, append_assoc, append-nil, length-append, drop_at, arith}
 use Rattle.std.proofs.lemmas.List.{take_at}
 use Rattle.std.proofs.Math.Bool.{or-false, or_comm}
 use Rattle.std.specs.List.{cons_option, last_or, list_any}
@@ -105,18 +105,19 @@ parted all before left number cut count = (
   ap (drop number) cut ∙ drop_at before left number (sym count),
 )
 
+pub few_read : (all left : List (List ℕ)) (header : Settings) (number : ℕ) → IsReadTo all left header number → length all ≡ number + length left
+few_read all left header number (before, are) = ap length are.cut ∙ length-append before left ∙ ap (λ n. n + length left) (sym are.count)
+
 -- where a step is left next, or nothing, the header ends
 pub header_read : (all left : List (List ℕ)) (header : Settings) (number : ℕ) → IsReadTo all left header number
     → ((line : List ℕ) (rest : List (List ℕ)) → left ≡ line ∷ rest → is_step line ≡ true) → IsHeader all number × (header ≡ settings_of (take number all))
 header_read all left header number (before, are) begins =
     let parts = parted all before left number are.cut are.count in (
       record {
+        within = omega (arith, few_read all left header number (before, are));
         stepless = ap (list_any is_step) parts.0 ∙ are.stepless;
         begins = λ line rest next. begins line rest (sym parts.1 ∙ next);
         faultless = are.faultless ∙ ap (λ l. fault_behind l left) (sym parts.0) ∙ ap (fault_behind (take number all)) (sym parts.1);
       },
       are.settings ∙ ap settings_of (sym parts.0),
     )
-
-pub few_read : (all left : List (List ℕ)) (header : Settings) (number : ℕ) → IsReadTo all left header number → length all ≡ number + length left
-few_read all left header number (before, are) = ap length are.cut ∙ length-append before left ∙ ap (λ n. n + length left) (sym are.count)

@@ -337,3 +337,7 @@ report_behind_a_roll = refl
 -- an only step is no header line
 only_step : ¬ (IsHeader (codes "7 tick" ∷ []) 1)
 only_step is = let wrong : true ≡ false = is.stepless in cc
+
+-- one line isn't a header of two
+one_line_for_two : ¬ (IsHeader (codes "places 2" ∷ []) 2)
+one_line_for_two is = absurd (omega (arith, is.within))

@@ -1,5 +1,5 @@
 -- Settings that are collected one by one.
-use Rattle.std.specs.Prelude.{◌≡◌, take, drop, ℕ, ◌<◌, ◌≤◌, ◌^◌, ◌||◌, false, IsTrue, List, [], ◌∷◌, ◌++◌, Option, None, Some}
+use Rattle.std.specs.Prelude.{◌≡◌, take, drop, ℕ, ◌<◌, ◌≤◌, ◌^◌, ◌||◌, false, IsTrue, List, [], ◌∷◌, ◌++◌, length, Option, None, Some}
 use Rattle.std.specs.List.{list_any}
 use Rattle.std.specs.Option.{option_map_or, option_or}
 use Rattle.log_entries.specs.Setups.{is_within}
@@ -49,9 +49,10 @@ abbrev pub with_kind : Settings → Option Line → Settings
 with_kind settings (Some (lines.Setting setting)) = with_setting settings setting
 with_kind settings other = settings
 
--- this many lines stand before the first step: none of them is a step, after them comes one or
--- nothing, and none of them is the first faulty line
+-- this many lines stand before the first step: there are so many, none of them is a step, after
+-- them comes one or nothing, and none of them is the first faulty line
 pub record IsHeader (all : List (List ℕ)) (count : ℕ) : Type 0 where
+  pub within : count ≤ length all
   pub stepless : list_any is_step (take count all) ≡ false
   pub begins : (line : List ℕ) (rest : List (List ℕ)) → drop count all ≡ line ∷ rest → IsTrue (is_step line)
   pub faultless : fault_behind [] all ≡ fault_behind (take count all) (drop count all)

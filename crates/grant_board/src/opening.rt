@@ -29,8 +29,8 @@ pub struct Closing {
 impl Board {
     /// Opens a board whose places are empty, with the keeper's seat and the first relay's. The
     /// limits are the servers' first bounds, by number; 0 is without limit. It allocates a word for
-    /// each place and each server. Only who may start threads opens a board: code that is lent one
-    /// can't open another, for passes that are none of that.
+    /// each place and each server. Only code that may start threads opens a board, so code
+    /// that is lent a board can't make passes of another.
     pub fn open<R: Threads>(
         _rt: &R,
         alloc: Global,

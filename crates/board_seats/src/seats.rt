@@ -1,4 +1,4 @@
-ghost use Rattle.std.specs.Prelude.{◌≡◌, ◌+◌, ◌≤◌, MatchOption, vec_len, vec_capacity};
+ghost use Rattle.std.specs.Prelude.{◌≡◌, ◌+◌, ◌++◌, ◌∷◌, ◌≤◌, [], MatchOption, vec_len, vec_capacity};
 
 use crate::counted::LentThings;
 use crate::idle::Idle;
@@ -44,6 +44,7 @@ impl<N: BoardName + Ledger> Seats<N> {
     /// Lends a seat, where one is idle.
     pub fn lend(&mut self) -> Option<Lent<N>>
         ensures held { MatchOption result ((vec_len self.old.idle ≡ 0) × (self.new.held.out ≡ self.old.held.out)) (λ _. self.new.held.out ≡ self.old.held.out + 1) }
+        ensures idle { MatchOption result (self.new.idle.items ≡ self.old.idle.items) (λ lent. self.old.idle.items ≡ self.new.idle.items ++ lent.idle ∷ []) }
         ensures all { self.new.held.most ≡ self.old.held.most }
     {
         if self.idle.is_empty() {
@@ -61,6 +62,7 @@ impl<N: BoardName + Ledger> Seats<N> {
     /// Takes a lent seat back. Allocates nothing.
     pub fn give_back(&mut self, lent: Lent<N>)
         ensures held { self.new.held.out + 1 ≡ self.old.held.out }
+        ensures idle { self.new.idle.items ≡ self.old.idle.items ++ lent.idle ∷ [] }
         ensures all { self.new.held.most ≡ self.old.held.most }
     {
         let (idle, out) = lent.into_parts();

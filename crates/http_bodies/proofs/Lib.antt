@@ -7,6 +7,7 @@ pub mod CodedBodies
 pub mod Derivatives
 pub mod Meanings
 pub mod Reaching
+pub mod Rooms
 pub mod Running
 pub mod SizeLines
 pub mod Exits

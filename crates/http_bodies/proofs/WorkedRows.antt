@@ -5,9 +5,12 @@ use Rattle.base_streams.specs.Streams.{Stream}
 use Rattle.httparse.specs.Grammar.LineEnd.{lf}
 use Rattle.http_bodies.specs.Framings.{IsBody, LacksBody}
 use Rattle.http_bodies.specs.Steps.{Ends, HoldsBack, Lingers}
+use Rattle.http_bodies.specs.Stops.{LacksRoom}
 use Rattle.http_bodies.specs.Texts.{Remains, WaitsBehind, Wrote}
+use Rattle.http_bodies.specs.declared.coding.Coding.TheVariants as Coded
 use Rattle.http_bodies.specs.declared.fault.Fault.TheVariants.{Framing, Write, Turns}
 use Rattle.http_bodies.specs.declared.framing.Framing.TheVariants.{Length, ToEnd}
+use Rattle.http_bodies.specs.declared.outbox.TheConstants.{OUTBOX_BYTES}
 use Rattle.http_bodies.specs.Trailers.{print_trailers, IsTrailer}
 
 -- an empty line that ends in a line feed alone ends the trailers
@@ -57,6 +60,16 @@ not_at_once end waits = elim waits [
   | inl kept ↦ absurd (omega (arith, ap (λ (w : Stream). w.calls) kept.0))
   | inr full ↦ absurd (omega (arith, full))
 ]
+
+-- behind a full outbox there is no room for a byte, and behind nothing there is; where no byte comes none lacks room
+full : (waiting : List ℕ) → length waiting ≡ OUTBOX_BYTES → LacksRoom Coded.ToEnd waiting (codes "a")
+full waiting all = omega (arith, all, length-append waiting (codes "a"))
+
+not_empty : ¬ (LacksRoom Coded.ToEnd [] (codes "a"))
+not_empty lacks = omega (arith, lacks)
+
+no_byte : (waiting : List ℕ) → ¬ (LacksRoom Coded.ToEnd waiting [])
+no_byte waiting lacks = lacks
 
 ends_at : GName → List ℕ → ℕ → ℕ → Ends
 ends_at end sent reads writes = record {

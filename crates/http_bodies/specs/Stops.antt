@@ -1,11 +1,13 @@
 -- The states in which a coding takes no more bytes.
-use Rattle.std.specs.Prelude.{◌≡◌, ◌==◌, Bool, true, false}
+use Rattle.std.specs.Prelude.{◌≡◌, ◌==◌, ◌<◌, ℕ, Bool, true, false, List, [], ◌∷◌, ◌++◌, length}
+use Rattle.http_bodies.specs.Readings.{read}
 use Rattle.http_bodies.specs.declared.coding.Coding.{Coding}
 use Rattle.http_bodies.specs.declared.coding.Coding.TheVariants.{Length, ToEnd, Chunked}
 use Rattle.http_bodies.specs.declared.coding.Part.{Part}
 use Rattle.http_bodies.specs.declared.coding.Part.TheVariants as Parts
 use Rattle.http_bodies.specs.declared.feeding.State.{State}
 use Rattle.http_bodies.specs.declared.feeding.State.TheVariants.{Hungry, Full, Done, Bad}
+use Rattle.http_bodies.specs.declared.outbox.TheConstants.{OUTBOX_BYTES}
 
 abbrev pub is_whole : Part → Bool
 is_whole (Parts.Digits count size) = false
@@ -40,6 +42,11 @@ abbrev pub is_bad : Coding → Bool
 is_bad (Length left) = false
 is_bad ToEnd = false
 is_bad (Chunked framed part) = is_broken part
+
+-- behind what waits there is no room for the text of the input's next byte
+abbrev pub LacksRoom : Coding → List ℕ → List ℕ → Type 0
+LacksRoom c waiting [] = ⊥
+LacksRoom c waiting (b ∷ input) = OUTBOX_BYTES < length (waiting ++ (read c (b ∷ [])).text)
 
 -- what a state says, where all input was taken or not
 abbrev pub Tells : Coding → Bool → State → Type 0

@@ -1,7 +1,7 @@
-ghost use Rattle.std.specs.Prelude.{◌≡◌, ◌+◌, ◌<◌, ◌≤◌, ◌++◌, ◌∷◌, [], ℕ, List, length, take, false, IsTrue, IsFalse};
+ghost use Rattle.std.specs.Prelude.{◌≡◌, ◌+◌, ◌<◌, ◌≤◌, ◌++◌, ◌∷◌, ◌⊎◌, [], ℕ, List, length, take, drop, false, IsTrue, IsFalse};
 ghost use Rattle.http_bodies.specs.Parts as coded;
 ghost use Rattle.http_bodies.specs.Readings.{Hands, read_parts};
-ghost use Rattle.http_bodies.specs.Stops.{is_whole, is_broken};
+ghost use Rattle.http_bodies.specs.Stops.{LacksRoom, is_whole, is_broken};
 
 use crate::coding::{Coding, Part};
 use crate::outbox::{OUTBOX_BYTES, Outbox};
@@ -14,7 +14,8 @@ fn step_byte(framed: bool, part: &mut Part, byte: u8, out: &mut Outbox) -> bool
     ensures told { IsTrue result → out.new ≡ out.old ++ coded.told framed part.old byte }
     ensures kept { IsFalse result → part.new ≡ part.old }
     ensures full { IsFalse result → out.new ≡ out.old }
-    ensures room { IsFalse result → OUTBOX_BYTES < length out.old + 18 }
+    ensures room { IsFalse result → OUTBOX_BYTES < length (out.old ++ coded.told framed part.old byte) }
+    ensures short { IsFalse result → OUTBOX_BYTES < length out.old + 18 }
 {
     if put_part(framed, *part, byte, out) {
         *part = next(*part, byte);
@@ -27,7 +28,8 @@ fn step_byte(framed: bool, part: &mut Part, byte: u8, out: &mut Outbox) -> bool
 fn step_data(framed: bool, left: &mut u64, input: &[u8], out: &mut Outbox) -> usize
     ensures within { result ≤ length input.now }
     ensures hands { Hands (Coding.Chunked framed (Part.Data left.old)) (Coding.Chunked framed (Part.Data left.new)) (take result input.now) out.old out.new }
-    ensures full { result ≡ 0 → 0 < left.old → 0 < length input.now → OUTBOX_BYTES < length out.new + 18 }
+    ensures room { result ≡ 0 → 0 < left.old → 0 < length input.now → LacksRoom (Coding.Chunked framed (Part.Data left.new)) out.new input.now }
+    ensures short { result ≡ 0 → 0 < left.old → 0 < length input.now → OUTBOX_BYTES < length out.new + 18 }
 {
     let most = input.len().min(out.room());
     let count = (most as u64).min(*left) as usize;
@@ -41,7 +43,8 @@ fn step_one(framed: bool, part: &mut Part, input: &[u8], out: &mut Outbox) -> us
     requires going { coded.is_over part.old ≡ false }
     ensures within { result ≤ length input.now }
     ensures hands { Hands (Coding.Chunked framed part.old) (Coding.Chunked framed part.new) (take result input.now) out.old out.new }
-    ensures full { result ≡ 0 → OUTBOX_BYTES < length out.new + 18 }
+    ensures room { result ≡ 0 → LacksRoom (Coding.Chunked framed part.new) out.new input.now }
+    ensures short { result ≡ 0 → OUTBOX_BYTES < length out.new + 18 }
 {
     if step_byte(framed, part, input[0], out) {
         return 1;
@@ -55,7 +58,8 @@ fn step(framed: bool, part: &mut Part, input: &[u8], out: &mut Outbox) -> usize
     requires going { coded.is_over part.old ≡ false }
     ensures within { result ≤ length input.now }
     ensures hands { Hands (Coding.Chunked framed part.old) (Coding.Chunked framed part.new) (take result input.now) out.old out.new }
-    ensures full { result ≡ 0 → OUTBOX_BYTES < length out.new + 18 }
+    ensures room { result ≡ 0 → LacksRoom (Coding.Chunked framed part.new) out.new input.now }
+    ensures short { result ≡ 0 → OUTBOX_BYTES < length out.new + 18 }
 {
     match *part {
         Part::Data(left) if left > 0 => {
@@ -88,6 +92,7 @@ fn is_over(part: &Part) -> bool
 pub(crate) fn feed_chunked(framed: bool, part: &mut Part, input: &[u8], out: &mut Outbox) -> usize
     ensures within { result ≤ length input.now }
     ensures hands { Hands (Coding.Chunked framed part.old) (Coding.Chunked framed part.new) (take result input.now) out.old out.new }
+    ensures room { is_whole part.new ≡ false → is_broken part.new ≡ false → (result ≡ length input.now) ⊎ LacksRoom (Coding.Chunked framed part.new) out.new (drop result input.now) }
     ensures all { length out.new + 18 ≤ OUTBOX_BYTES → is_whole part.new ≡ false → is_broken part.new ≡ false → result ≡ length input.now }
 {
     let mut used = 0;

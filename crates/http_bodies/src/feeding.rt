@@ -1,6 +1,6 @@
-ghost use Rattle.std.specs.Prelude.{◌≡◌, ◌==◌, ◌<◌, ◌+◌, ◌≤◌, false, length, take};
+ghost use Rattle.std.specs.Prelude.{◌≡◌, ◌==◌, ◌<◌, ◌+◌, ◌≤◌, ◌⊎◌, false, length, take, drop};
 ghost use Rattle.http_bodies.specs.Readings.{Hands, read, start_of};
-ghost use Rattle.http_bodies.specs.Stops.{Tells, is_done, is_bad};
+ghost use Rattle.http_bodies.specs.Stops.{LacksRoom, Tells, is_done, is_bad};
 
 use crate::chunked::{after_all, feed_chunked};
 use crate::coding::{Coding, Part};
@@ -109,6 +109,7 @@ impl Coding {
         ensures within { result.used ≤ length input.now }
         ensures hands { Hands self.old self.new (take result.used input.now) out.old out.new }
         ensures state { Tells self.new (result.used == length input.now) result.state }
+        ensures room { result.state ≡ State.Full → LacksRoom self.new out.new (drop result.used input.now) }
         ensures full { result.state ≡ State.Full → OUTBOX_BYTES < length out.new + 18 }
     {
         let used = self.take(input, out);
@@ -119,6 +120,7 @@ impl Coding {
     fn take(&mut self, input: &[u8], out: &mut Outbox) -> usize
         ensures within { result ≤ length input.now }
         ensures hands { Hands self.old self.new (take result input.now) out.old out.new }
+        ensures room { is_done self.new ≡ false → is_bad self.new ≡ false → (result ≡ length input.now) ⊎ LacksRoom self.new out.new (drop result input.now) }
         ensures all { length out.new + 18 ≤ OUTBOX_BYTES → is_done self.new ≡ false → is_bad self.new ≡ false → result ≡ length input.now }
     {
         match *self {

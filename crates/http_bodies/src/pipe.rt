@@ -98,6 +98,7 @@ impl Pipe {
         requires { (K.stream sink.old).calls + self.old.turns < 2 ^ 64 }
         ensures ok { OnOk result (Emits (K.stream sink.old) (K.stream sink.new) self.old.turns self.new.turns self.old.outbox self.new.outbox bytes.now) }
         ensures late { OnOk result (WaitsBehind (K.stream sink.old) (K.stream sink.new) self.old.outbox self.new.outbox bytes.now) }
+        ensures beyond { OnOk result (OUTBOX_BYTES < length (self.old.outbox ++ bytes.now) → self.new.outbox ≡ []) }
         ensures full { OnErr result (OUTBOX_BYTES < length (self.old.outbox ++ bytes.now)) }
         ensures err { IfErr result (λ fault. (stop : Stops (K.stream sink.old) (K.stream sink.new) self.old.turns self.new.turns (self.old.outbox ++ bytes.now) fault)
             × Remains stop.front.front self.old.outbox self.new.outbox) }

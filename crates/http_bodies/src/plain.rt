@@ -1,5 +1,6 @@
-ghost use Rattle.std.specs.Prelude.{◌≡◌, ◌+◌, ◌==◌, ◌≤◌, ◌++◌, false, ℕ, List, [], length, take};
+ghost use Rattle.std.specs.Prelude.{◌≡◌, ◌+◌, ◌==◌, ◌≤◌, ◌++◌, ◌⊎◌, false, ℕ, List, [], length, take, drop};
 ghost use Rattle.http_bodies.specs.Readings.{Feeds};
+ghost use Rattle.http_bodies.specs.Stops.{LacksRoom};
 
 use crate::coding::Coding;
 use crate::outbox::{OUTBOX_BYTES, Outbox};
@@ -9,6 +10,7 @@ pub(crate) fn feed_length(left: &mut u64, input: &[u8], out: &mut Outbox) -> usi
     ensures within { result ≤ length input.now }
     ensures given { out.new ≡ out.old ++ take result input.now }
     ensures feeds { Feeds (Coding.Length left.old) (Coding.Length left.new) (take result input.now) (take result input.now) }
+    ensures room { (left.new == 0) ≡ false → (result ≡ length input.now) ⊎ LacksRoom (Coding.Length left.new) out.new (drop result input.now) }
     ensures all { length out.new + 18 ≤ OUTBOX_BYTES → (left.new == 0) ≡ false → result ≡ length input.now }
 {
     let most = input.len().min(out.room());
@@ -23,6 +25,7 @@ pub(crate) fn feed_to_end(input: &[u8], out: &mut Outbox) -> usize
     ensures within { result ≤ length input.now }
     ensures given { out.new ≡ out.old ++ take result input.now }
     ensures feeds { Feeds Coding.ToEnd Coding.ToEnd (take result input.now) (take result input.now) }
+    ensures room { (result ≡ length input.now) ⊎ LacksRoom Coding.ToEnd out.new (drop result input.now) }
     ensures all { length out.new + 18 ≤ OUTBOX_BYTES → result ≡ length input.now }
 {
     let count = input.len().min(out.room());

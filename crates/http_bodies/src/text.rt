@@ -48,6 +48,7 @@ pub(crate) fn emit<K: Sink>(
     requires { (K.stream sink.old).calls + turns.old < 2 ^ 64 }
     ensures ok { OnOk result (Emits (K.stream sink.old) (K.stream sink.new) turns.old turns.new outbox.old outbox.new bytes.now) }
     ensures late { OnOk result (WaitsBehind (K.stream sink.old) (K.stream sink.new) outbox.old outbox.new bytes.now) }
+    ensures beyond { OnOk result (OUTBOX_BYTES < length (outbox.old ++ bytes.now) → outbox.new ≡ []) }
     ensures full { OnErr result (OUTBOX_BYTES < length (outbox.old ++ bytes.now)) }
     ensures err { IfErr result (λ fault. (stop : Stops (K.stream sink.old) (K.stream sink.new) turns.old turns.new (outbox.old ++ bytes.now) fault)
         × Remains stop.front.front outbox.old outbox.new) }

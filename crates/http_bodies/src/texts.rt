@@ -11,7 +11,7 @@ use http1::encode::Encoder;
 fn put(out: &mut Outbox, bytes: &[u8]) -> bool
     ensures fits { IsTrue result → out.new ≡ out.old ++ bytes.now }
     ensures full { IsFalse result → out.new ≡ out.old }
-    ensures room { IsFalse result → OUTBOX_BYTES < length out.old + length bytes.now }
+    ensures room { IsFalse result → OUTBOX_BYTES < length (out.old ++ bytes.now) }
 {
     if out.room() < bytes.len() {
         return false;
@@ -24,7 +24,8 @@ fn put_size(framed: bool, size: u64, out: &mut Outbox) -> bool
     requires { 0 < size }
     ensures fits { IsTrue result → out.new ≡ out.old ++ size_text framed size }
     ensures full { IsFalse result → out.new ≡ out.old }
-    ensures room { IsFalse result → OUTBOX_BYTES < length out.old + 18 }
+    ensures room { IsFalse result → OUTBOX_BYTES < length (out.old ++ size_text framed size) }
+    ensures short { IsFalse result → OUTBOX_BYTES < length out.old + 18 }
 {
     if !framed {
         return true;
@@ -39,7 +40,8 @@ fn put_size(framed: bool, size: u64, out: &mut Outbox) -> bool
 fn put_end(framed: bool, out: &mut Outbox) -> bool
     ensures fits { IsTrue result → out.new ≡ out.old ++ end_text framed }
     ensures full { IsFalse result → out.new ≡ out.old }
-    ensures room { IsFalse result → OUTBOX_BYTES < length out.old + 18 }
+    ensures room { IsFalse result → OUTBOX_BYTES < length (out.old ++ end_text framed) }
+    ensures short { IsFalse result → OUTBOX_BYTES < length out.old + 18 }
 {
     if !framed {
         return true;
@@ -50,7 +52,8 @@ fn put_end(framed: bool, out: &mut Outbox) -> bool
 fn put_last(framed: bool, out: &mut Outbox) -> bool
     ensures fits { IsTrue result → out.new ≡ out.old ++ last_text framed }
     ensures full { IsFalse result → out.new ≡ out.old }
-    ensures room { IsFalse result → OUTBOX_BYTES < length out.old + 18 }
+    ensures room { IsFalse result → OUTBOX_BYTES < length (out.old ++ last_text framed) }
+    ensures short { IsFalse result → OUTBOX_BYTES < length out.old + 18 }
 {
     if !framed {
         return true;
@@ -61,7 +64,8 @@ fn put_last(framed: bool, out: &mut Outbox) -> bool
 fn put_feed(framed: bool, line: Line, out: &mut Outbox) -> bool
     ensures fits { IsTrue result → out.new ≡ out.old ++ feed_text framed line }
     ensures full { IsFalse result → out.new ≡ out.old }
-    ensures room { IsFalse result → OUTBOX_BYTES < length out.old + 18 }
+    ensures room { IsFalse result → OUTBOX_BYTES < length (out.old ++ feed_text framed line) }
+    ensures short { IsFalse result → OUTBOX_BYTES < length out.old + 18 }
 {
     match line {
         Line::Fresh => put_last(framed, out),
@@ -73,7 +77,8 @@ fn put_feed(framed: bool, line: Line, out: &mut Outbox) -> bool
 fn tell_line(framed: bool, size: u64, byte: u8, out: &mut Outbox) -> bool
     ensures fits { IsTrue result → out.new ≡ out.old ++ told framed (Part.Return size) byte }
     ensures full { IsFalse result → out.new ≡ out.old }
-    ensures room { IsFalse result → OUTBOX_BYTES < length out.old + 18 }
+    ensures room { IsFalse result → OUTBOX_BYTES < length (out.old ++ told framed (Part.Return size) byte) }
+    ensures short { IsFalse result → OUTBOX_BYTES < length out.old + 18 }
 {
     if byte == b'\n' {
         if size == 0 {
@@ -87,7 +92,8 @@ fn tell_line(framed: bool, size: u64, byte: u8, out: &mut Outbox) -> bool
 fn tell_data(left: u64, byte: u8, out: &mut Outbox) -> bool
     ensures fits { IsTrue result → out.new ≡ out.old ++ told true (Part.Data left) byte }
     ensures full { IsFalse result → out.new ≡ out.old }
-    ensures room { IsFalse result → OUTBOX_BYTES < length out.old + 18 }
+    ensures room { IsFalse result → OUTBOX_BYTES < length (out.old ++ told true (Part.Data left) byte) }
+    ensures short { IsFalse result → OUTBOX_BYTES < length out.old + 18 }
 {
     if left == 0 {
         return true;
@@ -98,7 +104,8 @@ fn tell_data(left: u64, byte: u8, out: &mut Outbox) -> bool
 fn tell_end(framed: bool, byte: u8, out: &mut Outbox) -> bool
     ensures fits { IsTrue result → out.new ≡ out.old ++ told framed Part.DataReturn byte }
     ensures full { IsFalse result → out.new ≡ out.old }
-    ensures room { IsFalse result → OUTBOX_BYTES < length out.old + 18 }
+    ensures room { IsFalse result → OUTBOX_BYTES < length (out.old ++ told framed Part.DataReturn byte) }
+    ensures short { IsFalse result → OUTBOX_BYTES < length out.old + 18 }
 {
     if byte == b'\n' {
         return put_end(framed, out);
@@ -109,7 +116,8 @@ fn tell_end(framed: bool, byte: u8, out: &mut Outbox) -> bool
 fn tell_trailer(framed: bool, left: u64, line: Line, byte: u8, out: &mut Outbox) -> bool
     ensures fits { IsTrue result → out.new ≡ out.old ++ told framed (Part.Trailers left line) byte }
     ensures full { IsFalse result → out.new ≡ out.old }
-    ensures room { IsFalse result → OUTBOX_BYTES < length out.old + 18 }
+    ensures room { IsFalse result → OUTBOX_BYTES < length (out.old ++ told framed (Part.Trailers left line) byte) }
+    ensures short { IsFalse result → OUTBOX_BYTES < length out.old + 18 }
 {
     if left == 0 {
         return true;
@@ -124,7 +132,8 @@ fn tell_trailer(framed: bool, left: u64, line: Line, byte: u8, out: &mut Outbox)
 pub(crate) fn put_part(framed: bool, part: Part, byte: u8, out: &mut Outbox) -> bool
     ensures fits { IsTrue result → out.new ≡ out.old ++ told framed part byte }
     ensures full { IsFalse result → out.new ≡ out.old }
-    ensures room { IsFalse result → OUTBOX_BYTES < length out.old + 18 }
+    ensures room { IsFalse result → OUTBOX_BYTES < length (out.old ++ told framed part byte) }
+    ensures short { IsFalse result → OUTBOX_BYTES < length out.old + 18 }
 {
     match part {
         Part::Digits(_, _) => true,

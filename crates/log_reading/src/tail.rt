@@ -43,7 +43,7 @@ impl Batch {
     /// Makes an empty batch for a tail with room for this number of entries.
     pub fn with_room(alloc: Global, room: usize) -> Result<Batch, AllocError>
         ensures none { IfOk result (λ batch. (batch.entries.items ≡ []) × (batch.end ≡ None) × (batch.lost ≡ None)) }
-        ensures room { IfOk result (λ batch. room ≤ vec_capacity batch.entries) }
+        ensures room { IfOk result (λ batch. vec_capacity batch.entries ≡ room) }
     {
         Ok(Batch {
             entries: Vec::with_capacity(alloc, room)?,

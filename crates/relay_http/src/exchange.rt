@@ -48,7 +48,8 @@ impl Exchange {
 
     /// Makes an exchange that makes at most this number of reads and writes. It takes 84 KiB, once for its life.
     pub fn new(alloc: Global, turns: u64) -> Result<Exchange, AllocError>
-        ensures { IfOk result (IsFresh turns) }
+        ensures fresh { IfOk result (IsFresh turns) }
+        ensures unreached { IfOk result (λ exchange. exchange.reached ≡ false) }
     {
         let pipe = Pipe::new(alloc, turns)?;
         Ok(Exchange {
@@ -64,7 +65,8 @@ impl Exchange {
 
     /// Makes it new for the next client, without allocating.
     pub fn renew(&mut self)
-        ensures { IsFresh self.old.most self.new }
+        ensures fresh { IsFresh self.old.most self.new }
+        ensures unreached { self.new.reached ≡ false }
     {
         self.pipe.renew(self.most);
         self.stage = Stage::New;

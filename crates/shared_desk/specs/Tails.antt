@@ -54,10 +54,11 @@ pub record IsTakenFrom (waiting : Waiting) (capacity : ℕ) (left : Waiting) (ba
       → (left ≡ waiting) × (batch.entries.items ≡ []) × (batch.end ≡ None) × (batch.lost ≡ None) × (vec_capacity batch.entries ≡ capacity)
 
 -- What waited, with the entries that weren't taken yet of the log that the lock held, is in the batch,
--- which had this much room; where no reader follows the log the batch is empty, and has that room.
+-- which had this much room; where no reader follows the log it isn't looked at, and the batch is empty and
+-- has that room.
 abbrev pub ReadsNew : Terms → Setup → ℕ → Option Waiting → Option Waiting → Option Booked → Batch → Type 0
 ReadsNew terms setup room None None seen batch =
-    (batch.entries.items ≡ []) × (batch.end ≡ None) × (batch.lost ≡ None) × (vec_capacity batch.entries ≡ room)
+    (seen ≡ None) × (batch.entries.items ≡ []) × (batch.end ≡ None) × (batch.lost ≡ None) × (vec_capacity batch.entries ≡ room)
 ReadsNew terms setup room None (Some new) seen batch = ⊥
 ReadsNew terms setup room (Some old) None seen batch = ⊥
 ReadsNew terms setup room (Some old) (Some new) None batch = ⊥

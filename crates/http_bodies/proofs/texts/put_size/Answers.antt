@@ -24,6 +24,6 @@ prefix_len size small = by_test (size == 0)
     by_test true = omega arith
     by_test false = omega (arith, numeral_len size small, length-append (numeral 16 size) crlf_bytes)
 
-pub returns-clause-room : goal.returns-clause-room
-returns-clause-room c full =
-    omega (arith, c.put.ensures.room full, prefix_len c.args.size (omega arith), ap (length {A = ℕ}) (c.prefix.ensures ∙ c.in-Ok.ensures.prefix))
+pub returns-clause-short : goal.returns-clause-short
+returns-clause-short c full =
+    omega (arith, c.put.ensures.room full, length-append c.args.out.now c.prefix.result.now, prefix_len c.args.size (omega arith), ap (length {A = ℕ}) (c.prefix.ensures ∙ c.in-Ok.ensures.prefix))

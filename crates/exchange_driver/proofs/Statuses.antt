@@ -1,7 +1,7 @@
 -- The status of the answer, as the counters find it.
 use Rattle.std.proofs.Common.{◌≡◌, ◌≤◌, ◌<◌, ℕ, suc, true, false, nat_lt, [], ◌∷◌, List, refl, arith, ap}
 use Rattle.std.proofs.lemmas.Bool.Decides.{nat_tests}
-use Rattle.exchange_driver.specs.Meters.{digit_of, number_of, appended, settles, line_then, status_of, begun}
+use Rattle.exchange_driver.specs.Meters.{digit_of, number_of, appended, settles, line_then, answer_status, begun}
 
 digit_is_small : (byte : ℕ) → digit_of byte ≤ 9
 digit_is_small byte = grind arith
@@ -9,7 +9,7 @@ digit_is_small byte = grind arith
 three : (a b c : ℕ) → appended (appended (appended 0 a) b) c ≡ number_of a b c
 three a b c = omega (arith, digit_is_small a, digit_is_small b, digit_is_small c)
 
-pub line_from_first : (more : List ℕ) → line_then 0 0 more ≡ status_of more
+pub line_from_first : (more : List ℕ) → line_then 0 0 more ≡ answer_status more
 line_from_first [] = refl
 line_from_first (_ ∷ []) = refl
 line_from_first (_ ∷ _ ∷ []) = refl

@@ -1,5 +1,5 @@
 -- What one move tells an exchange, and what many tell one after the other.
-use Rattle.std.proofs.Common.{◌≡◌, inl, inr, Bool, true, false, List, [], ◌∷◌, ◌++◌, Option, None, Some, ℕ, refl, ap, sym, subst, ◌∙◌, append_assoc, append-nil}
+use Rattle.std.proofs.Common.{◌≡◌, inl, inr, Bool, true, false, List, [], ◌∷◌, ◌++◌, ◌+◌, Option, None, Some, ℕ, arith, length-append, refl, ap, sym, subst, ◌∙◌, append_assoc, append-nil}
 use Rattle.exchange_driver.specs.Answers.{SocketAnswer, Heard, with_answers}
 use Rattle.exchange_driver.specs.Wires.{Wire, HasHeard}
 use Rattle.exchange_driver.specs.Moves.{Move, OfClient, OfServer, ClientWaited, ServerWaited, ClientLacksMemory, ServerLacksMemory, Makes, MakeAll, told_by_client, told_by_server, IsDriven}
@@ -44,14 +44,15 @@ make_both aborts x y z (move ∷ one) two outcome (next, given, makes, inr (none
     (next, given, makes, inl (sym is, subst (λ moves. MakeAll aborts next (moves ++ two) outcome z) (sym none) (subst (λ w. MakeAll aborts w two outcome z) same second)))
 
 -- no move
-pub driven_none : (aborts : Bool) (client server : Option (List SocketAnswer)) (x : Exchange) → IsDriven aborts client client server server x Quiet x
-driven_none aborts client server x = record { moves = []; make = (refl, refl); client_is = with_none client; server_is = with_none server }
+pub driven_none : (aborts : Bool) (client server : Option (List SocketAnswer)) (x : Exchange) → IsDriven 0 aborts client client server server x Quiet x
+driven_none aborts client server x = record { moves = []; number = refl; make = (refl, refl); client_is = with_none client; server_is = with_none server }
 
 -- some moves, and then others
-pub driven_on : (aborts : Bool) (c0 c1 c2 s0 s1 s2 : Option (List SocketAnswer)) (x y z : Exchange) (outcome : Outcome) → IsDriven aborts c0 c1 s0 s1 x Quiet y
-    → IsDriven aborts c1 c2 s1 s2 y outcome z → IsDriven aborts c0 c2 s0 s2 x outcome z
-driven_on aborts c0 c1 c2 s0 s1 s2 x y z outcome one two = record {
+pub driven_on : (m n : ℕ) (aborts : Bool) (c0 c1 c2 s0 s1 s2 : Option (List SocketAnswer)) (x y z : Exchange) (outcome : Outcome) → IsDriven m aborts c0 c1 s0 s1 x Quiet y
+    → IsDriven n aborts c1 c2 s1 s2 y outcome z → IsDriven (m + n) aborts c0 c2 s0 s2 x outcome z
+driven_on m n aborts c0 c1 c2 s0 s1 s2 x y z outcome one two = record {
   moves = one.moves ++ two.moves;
+  number = omega (arith, one.number, two.number, length-append one.moves two.moves);
   make = make_both aborts x y z one.moves two.moves outcome one.make two.make;
   client_is = two.client_is ∙ ap (with_answers (told_by_client two.moves)) one.client_is ∙ with_both (told_by_client one.moves) (told_by_client two.moves) c0
       ∙ ap (λ l. with_answers l c0) (sym (client_append one.moves two.moves));
@@ -61,24 +62,24 @@ driven_on aborts c0 c1 c2 s0 s1 s2 x y z outcome one two = record {
 
 -- one move
 pub client_answered : (aborts : Bool) (c0 c1 s : Option (List SocketAnswer)) (x y : Exchange) (outcome : Outcome) (answer : SocketAnswer)
-    → c1 ≡ with_answers (answer ∷ []) c0 → Makes aborts x (OfClient answer) outcome y → IsDriven aborts c0 c1 s s x outcome y
+    → c1 ≡ with_answers (answer ∷ []) c0 → Makes aborts x (OfClient answer) outcome y → IsDriven 1 aborts c0 c1 s s x outcome y
 client_answered aborts c0 c1 s x y outcome answer is makes =
-    record { moves = OfClient answer ∷ []; make = (y, outcome, makes, inr (refl, refl, refl)); client_is = is; server_is = with_none s }
+    record { moves = OfClient answer ∷ []; number = refl; make = (y, outcome, makes, inr (refl, refl, refl)); client_is = is; server_is = with_none s }
 
 pub server_answered : (aborts : Bool) (c s0 s1 : Option (List SocketAnswer)) (x y : Exchange) (outcome : Outcome) (answer : SocketAnswer)
-    → s1 ≡ with_answers (answer ∷ []) s0 → Makes aborts x (OfServer answer) outcome y → IsDriven aborts c c s0 s1 x outcome y
+    → s1 ≡ with_answers (answer ∷ []) s0 → Makes aborts x (OfServer answer) outcome y → IsDriven 1 aborts c c s0 s1 x outcome y
 server_answered aborts c s0 s1 x y outcome answer is makes =
-    record { moves = OfServer answer ∷ []; make = (y, outcome, makes, inr (refl, refl, refl)); client_is = with_none c; server_is = is }
+    record { moves = OfServer answer ∷ []; number = refl; make = (y, outcome, makes, inr (refl, refl, refl)); client_is = with_none c; server_is = is }
 
 pub client_waited : (aborts : Bool) (c0 c1 s : Option (List SocketAnswer)) (x y : Exchange) (outcome : Outcome) → c1 ≡ c0 → Makes aborts x ClientWaited outcome y
-    → IsDriven aborts c0 c1 s s x outcome y
+    → IsDriven 1 aborts c0 c1 s s x outcome y
 client_waited aborts c0 c1 s x y outcome is makes =
-    record { moves = ClientWaited ∷ []; make = (y, outcome, makes, inr (refl, refl, refl)); client_is = is ∙ with_none c0; server_is = with_none s }
+    record { moves = ClientWaited ∷ []; number = refl; make = (y, outcome, makes, inr (refl, refl, refl)); client_is = is ∙ with_none c0; server_is = with_none s }
 
 pub server_waited : (aborts : Bool) (c s0 s1 : Option (List SocketAnswer)) (x y : Exchange) (outcome : Outcome) → s1 ≡ s0 → Makes aborts x ServerWaited outcome y
-    → IsDriven aborts c c s0 s1 x outcome y
+    → IsDriven 1 aborts c c s0 s1 x outcome y
 server_waited aborts c s0 s1 x y outcome is makes =
-    record { moves = ServerWaited ∷ []; make = (y, outcome, makes, inr (refl, refl, refl)); client_is = with_none c; server_is = is ∙ with_none s0 }
+    record { moves = ServerWaited ∷ []; number = refl; make = (y, outcome, makes, inr (refl, refl, refl)); client_is = with_none c; server_is = is ∙ with_none s0 }
 
 -- a read that didn't fail was answered by the socket
 pub heard_nothing : (old new : Wire) → HasHeard Nothing old new → new.answers ≡ with_answers (Heard Nothing ∷ []) old.answers
@@ -95,13 +96,13 @@ heard_end old new (inr (same, dry, is)) = let no : Ended true ≡ Ended false = 
 
 -- one that failed, or for which there was no memory
 pub client_failed : (aborts : Bool) (old new : Wire) (s : Option (List SocketAnswer)) (x y : Exchange) (outcome : Outcome) → HasHeard (Ended false) old new → LosesClient x outcome y
-    → IsDriven aborts old.answers new.answers s s x outcome y
+    → IsDriven 1 aborts old.answers new.answers s s x outcome y
 client_failed aborts old new s x y outcome (inl is) loses = client_answered aborts _ _ s x y outcome (Heard (Ended false)) is.0 loses
 client_failed aborts old new s x y outcome (inr (same, dry, is)) loses =
-    record { moves = ClientLacksMemory ∷ []; make = (y, outcome, loses, inr (refl, refl, refl)); client_is = same ∙ with_none old.answers; server_is = with_none s }
+    record { moves = ClientLacksMemory ∷ []; number = refl; make = (y, outcome, loses, inr (refl, refl, refl)); client_is = same ∙ with_none old.answers; server_is = with_none s }
 
 pub server_failed : (aborts : Bool) (c : Option (List SocketAnswer)) (old new : Wire) (x y : Exchange) (outcome : Outcome) (used : ℕ) → HasHeard (Ended false) old new
-    → RelayHears (HasHeardEnd false) x used outcome y → IsDriven aborts c c old.answers new.answers x outcome y
+    → RelayHears (HasHeardEnd false) x used outcome y → IsDriven 1 aborts c c old.answers new.answers x outcome y
 server_failed aborts c old new x y outcome used (inl is) hears = server_answered aborts c _ _ x y outcome (Heard (Ended false)) is.0 (used, hears)
 server_failed aborts c old new x y outcome used (inr (same, dry, is)) hears =
-    record { moves = ServerLacksMemory ∷ []; make = (y, outcome, (used, hears), inr (refl, refl, refl)); client_is = with_none c; server_is = same ∙ with_none old.answers }
+    record { moves = ServerLacksMemory ∷ []; number = refl; make = (y, outcome, (used, hears), inr (refl, refl, refl)); client_is = with_none c; server_is = same ∙ with_none old.answers }

@@ -1,15 +1,16 @@
 -- What a socket's answers make of an exchange, at worked examples: what must hold, and what must not.
-use Rattle.std.proofs.Common.{◌≡◌, inl, inr, true, false, [], ◌∷◌, None, Some, refl}
+use Rattle.std.proofs.Common.{◌≡◌, arith, inl, inr, true, false, [], ◌∷◌, None, Some, refl}
 use Rattle.exchange_driver.specs.Answers.{Heard, Said, with_answers, dry_after, full_after}
 use Rattle.exchange_driver.specs.Wires.{Wire, HasHeard}
-use Rattle.exchange_driver.specs.Moves.{OfClient, OfServer, Makes, MakeAll, told_by_client, told_by_server}
+use Rattle.exchange_driver.specs.Moves.{OfClient, OfServer, KeepsTurns, Makes, MakeAll, told_by_client, told_by_server}
+use Rattle.exchange_driver.specs.declared.driving.Rest.TheVariants.{Waits, Again}
 use Rattle.exchange_driver.specs.declared.socket.ReadResult.TheVariants.{Bytes, Nothing, Ended}
 use Rattle.exchange_driver.specs.declared.socket.WriteResult.TheVariants.{Full}
 use Rattle.exchange_driver.specs.declared.socket.WriteResult.TheVariants as said
 use Rattle.exchange_machine.specs.declared.waiting.Waiting as waitings
 use Rattle.exchange_events.specs.declared.exchange.Exchange.{Exchange}
 use Rattle.exchange_events.specs.declared.exchange.Exchange.TheVariants.{Waiting, Over}
-use Rattle.exchange_events.specs.declared.exchange.Outcome.TheVariants.{Quiet}
+use Rattle.exchange_events.specs.declared.exchange.Outcome.TheVariants.{Quiet, Retries}
 
 -- nothing is there: nothing changes
 nothing_there : (x : Exchange) → Makes false x (OfServer (Heard Nothing)) Quiet x
@@ -69,3 +70,17 @@ stands_open = refl
 -- one that gave no answer stands as before
 stands_as_before : dry_after (Said Full ∷ []) true ≡ true
 stands_as_before = refl
+
+-- at rest after one move of two turns it waits, and doesn't ask for more at once
+at_rest : KeepsTurns 2 1 Waits Quiet
+at_rest = record { most = omega arith; spent = λ again. let no : Waits ≡ Again = again in cc; gave = λ given. absurd (given refl) }
+
+asks_for_more : ¬ (KeepsTurns 2 1 Again Quiet)
+asks_for_more keeps = omega (arith, keeps.spent refl refl)
+
+three_moves_in_a_turn : ¬ (KeepsTurns 1 3 Waits Quiet)
+three_moves_in_a_turn keeps = omega (arith, keeps.most)
+
+-- what gave something away is looked at again
+gives_and_waits : ¬ (KeepsTurns 1 1 Waits Retries)
+gives_and_waits keeps = let no : Waits ≡ Again = keeps.gave (λ is. let none : Retries ≡ Quiet = is in cc) in cc

@@ -37,11 +37,11 @@ abbrev mutual
   status_behind (byte ∷ rest) = cond (begins_with_end (byte ∷ rest)) (status_at (3 + 9) rest) (status_behind rest)
 
 -- The status of the answer in these bytes: it stands behind `HTTP/1.1 ` in the first line.
-abbrev pub status_of : List ℕ → Option ℕ
-status_of bytes = status_at 9 bytes
+abbrev pub answer_status : List ℕ → Option ℕ
+answer_status bytes = status_at 9 bytes
 
 -- The state of a search for a status stands for what it tells of any bytes that follow. The rest of
--- this file says which; what `Meter::new`, `note_sent` and `status` promise ties it to `status_of`.
+-- this file says which; what `Meter::new`, `note_sent` and `status` promise ties it to `answer_status`.
 
 -- a status to which one more digit is added
 abbrev pub appended : ℕ → ℕ → ℕ

@@ -1,6 +1,8 @@
 -- What is told to an exchange while it is driven.
-use Rattle.std.specs.Prelude.{◌≡◌, ◌⊎◌, ℕ, Bool, true, false, List, [], ◌∷◌, Option}
+use Rattle.std.specs.Prelude.{◌≡◌, ◌≢◌, ◌≤◌, ◌*◌, ◌⊎◌, ℕ, Bool, true, false, List, [], ◌∷◌, length, Option}
 use Rattle.exchange_driver.specs.Answers.{SocketAnswer, Heard, Said, with_answers}
+use Rattle.exchange_driver.specs.declared.driving.Rest.{Rest}
+use Rattle.exchange_driver.specs.declared.driving.Rest.TheVariants.{Again}
 use Rattle.exchange_driver.specs.declared.socket.ReadResult.TheVariants as reads
 use Rattle.exchange_driver.specs.declared.socket.WriteResult.TheVariants as writes
 use Rattle.exchange_events.specs.Answers.{HasHeardEnd, HasServed, RelayHears, HearsClient, HearsServer, IsCutOff, IsHalfClosed, LosesClient, TellsClient}
@@ -65,10 +67,19 @@ told_by_server (ServerWaited ∷ moves) = told_by_server moves
 told_by_server (ClientLacksMemory ∷ moves) = told_by_server moves
 told_by_server (ServerLacksMemory ∷ moves) = told_by_server moves
 
--- An exchange was told just what its two sockets answered, in the order in which they did, and
--- gave this away. (The answers of both sockets, before and behind, where they remember them.)
-pub record IsDriven (aborts : Bool) (client client_then server server_then : Option (List SocketAnswer)) (x : Exchange) (outcome : Outcome) (next : Exchange) : Type 0 where
+-- By this number of moves an exchange was told just what its two sockets answered, in the order in
+-- which they did, and gave this away. (The answers of both sockets, before and behind, where they
+-- remember them.)
+pub record IsDriven (count : ℕ) (aborts : Bool) (client client_then server server_then : Option (List SocketAnswer)) (x : Exchange) (outcome : Outcome) (next : Exchange) : Type 0 where
   pub moves : List Move
+  pub number : length moves ≡ count
   pub make : MakeAll aborts x moves outcome next
   pub client_is : client_then ≡ with_answers (told_by_client moves) client
   pub server_is : server_then ≡ with_answers (told_by_server moves) server
+
+-- A turn makes at most two moves. Where there is more to do at once, each turn made a move, or
+-- something was given away; and where something was, there is.
+pub record KeepsTurns (turns count : ℕ) (rest : Rest) (outcome : Outcome) : Type 0 where
+  pub most : count ≤ 2 * turns
+  pub spent : rest ≡ Again → outcome ≡ Quiet → turns ≤ count
+  pub gave : outcome ≢ Quiet → rest ≡ Again

@@ -1,6 +1,6 @@
-ghost use Rattle.std.specs.Prelude.{◌≡◌, ◌<◌, ◌||◌, ◌++◌, length, false, is_some};
+ghost use Rattle.std.specs.Prelude.{◌≡◌, ◌≢◌, ◌<◌, ◌≤◌, ◌||◌, ◌++◌, ◌⊎◌, ℕ, length, true, false, is_some};
 ghost use Rattle.exchange_driver.specs.Drives.{Drives, IsSame, IsDownAtRest, IsUpAtRest, at_client, at_server};
-ghost use Rattle.exchange_driver.specs.Moves.{IsDriven};
+ghost use Rattle.exchange_driver.specs.Moves.{IsDriven, KeepsTurns};
 ghost use Rattle.exchange_driver.specs.Wires.{IsAsAnswered};
 ghost use Rattle.exchange_machine.specs.Histories.{ExchangeHistory};
 ghost use Rattle.exchange_events.specs.Passes.{held_by, gone_with};
@@ -65,7 +65,8 @@ pub fn drive<C: Socket, S: Socket>(
         → Drives client.old client.new server.old server.new (is_some result.client) (is_some result.server) h result.exchange result.outcome }
     ensures history { HasHistory exchange → HasHistory result.exchange }
     ensures passes { HasHistory exchange → held_by exchange ≡ gone_with result.outcome ++ held_by result.exchange }
-    ensures driven { IsDriven settings.rules.aborts client.old.answers client.new.answers server.old.answers server.new.answers exchange result.outcome result.exchange }
+    ensures driven { (count : ℕ) × IsDriven count settings.rules.aborts client.old.answers client.new.answers server.old.answers server.new.answers exchange result.outcome result.exchange
+        × KeepsTurns settings.turns count result.rest result.outcome }
     ensures client { IsAsAnswered client.old client.new }
     ensures server { IsAsAnswered server.old server.new }
     ensures own { IsOwn result.outcome }
@@ -85,7 +86,8 @@ fn drive_on<C: Socket, S: Socket>(
     requires { 0 < length buffer.old }
     ensures at { (h : ExchangeHistory) → IsAtItsStage exchange h
         → Drives client.old client.new server.old server.new (is_some result.client) (is_some result.server) h result.exchange result.outcome }
-    ensures driven { IsDriven settings.rules.aborts client.old.answers client.new.answers server.old.answers server.new.answers exchange result.outcome result.exchange }
+    ensures driven { (count : ℕ) × IsDriven count settings.rules.aborts client.old.answers client.new.answers server.old.answers server.new.answers exchange result.outcome result.exchange
+        × KeepsTurns settings.turns count result.rest result.outcome }
     ensures client { IsAsAnswered client.old client.new }
     ensures server { IsAsAnswered server.old server.new }
     ensures own { IsOwn result.outcome }
@@ -115,12 +117,20 @@ fn drive_on<C: Socket, S: Socket>(
             Outcome::Quiet => {}
             given => return gave(behind, given, moves),
         }
-        if down == Did::Rests && up == Did::Rests {
+        if both_rest(down, up) {
             return comes_to(behind, moves, Rest::Waits);
         }
         exchange = behind;
     }
     comes_to(exchange, moves, Rest::Again)
+}
+
+// Says whether neither direction had anything to do.
+fn both_rest(down: Did, up: Did) -> bool
+    ensures rest { result ≡ true → (down ≡ Did.Rests) × (up ≡ Did.Rests) }
+    ensures moved { result ≡ false → (down ≢ Did.Rests) ⊎ (up ≢ Did.Rests) }
+{
+    matches!((down, up), (Did::Rests, Did::Rests))
 }
 
 fn gave(exchange: Exchange, outcome: Outcome, moves: Moves) -> Driven
@@ -195,7 +205,8 @@ fn move_down<C: Socket, S: Socket>(
 ) -> Turned
     requires { 0 < length buffer.old }
     ensures at { (h : ExchangeHistory) → IsAtItsStage exchange h → Drives client.old client.new server.old server.new (at_client result.did) (at_server result.did) h result.exchange result.outcome }
-    ensures driven { IsDriven settings.rules.aborts client.old.answers client.new.answers server.old.answers server.new.answers exchange result.outcome result.exchange }
+    ensures driven { (count : ℕ) × IsDriven count settings.rules.aborts client.old.answers client.new.answers server.old.answers server.new.answers exchange result.outcome result.exchange
+        × (count ≤ 1) × (result.did ≢ Did.Rests → count ≡ 1) }
     ensures client { IsAsAnswered client.old client.new }
     ensures server { IsAsAnswered server.old server.new }
     ensures own { IsOwn result.outcome }
@@ -230,7 +241,8 @@ fn move_up<C: Socket, S: Socket>(
 ) -> Turned
     requires { 0 < length buffer.old }
     ensures at { (h : ExchangeHistory) → IsAtItsStage exchange h → Drives client.old client.new server.old server.new (at_client result.did) (at_server result.did) h result.exchange result.outcome }
-    ensures driven { IsDriven settings.rules.aborts client.old.answers client.new.answers server.old.answers server.new.answers exchange result.outcome result.exchange }
+    ensures driven { (count : ℕ) × IsDriven count settings.rules.aborts client.old.answers client.new.answers server.old.answers server.new.answers exchange result.outcome result.exchange
+        × (count ≤ 1) × (result.did ≢ Did.Rests → count ≡ 1) }
     ensures client { IsAsAnswered client.old client.new }
     ensures server { IsAsAnswered server.old server.new }
     ensures own { IsOwn result.outcome }

@@ -1,7 +1,7 @@
 //! The counters of a connection.
 
 ghost use Rattle.std.specs.Prelude.{◌≡◌, ◌+◌, ◌-◌, ◌^◌, ◌∷◌, ◌++◌, ℕ, List, [], min, length};
-ghost use Rattle.exchange_driver.specs.Meters.{status_of, tells, scan_tells};
+ghost use Rattle.exchange_driver.specs.Meters.{answer_status, tells, scan_tells};
 
 /// The position of the status in the first line of an answer, after `HTTP/1.1 ` (RFC 9112, section 4).
 const STATUS_AT: u8 = 9;
@@ -32,7 +32,7 @@ impl Meter {
     /// Makes the counters of a new connection.
     pub fn new() -> Meter
         ensures none { (result.received ≡ 0) × (result.sent ≡ 0) }
-        ensures status { (more : List ℕ) → tells result more ≡ status_of more }
+        ensures status { (more : List ℕ) → tells result more ≡ answer_status more }
     {
         Meter {
             received: 0,

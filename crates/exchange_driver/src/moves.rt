@@ -70,7 +70,7 @@ pub(crate) fn write_client<C: Socket, S: Socket>(
 ) -> Turned
     requires { to_client exchange ≢ [] }
     ensures at { (h : ExchangeHistory) → IsAtItsStage exchange h → Drives client.old client.new server.now server.now (at_client result.did) (at_server result.did) h result.exchange result.outcome }
-    ensures driven { IsDriven settings.rules.aborts client.old.answers client.new.answers server.now.answers server.now.answers exchange result.outcome result.exchange }
+    ensures driven { IsDriven 1 settings.rules.aborts client.old.answers client.new.answers server.now.answers server.now.answers exchange result.outcome result.exchange }
     ensures answered { IsAsAnswered client.old client.new }
     ensures own { IsOwn result.outcome }
     ensures moves { result.did ≢ Did.Rests }
@@ -98,7 +98,7 @@ pub(crate) fn write_server<C: Socket, S: Socket>(
 ) -> Turned
     requires { to_server exchange ≢ [] }
     ensures at { (h : ExchangeHistory) → IsAtItsStage exchange h → Drives client.now client.now server.old server.new (at_client result.did) (at_server result.did) h result.exchange result.outcome }
-    ensures driven { IsDriven settings.rules.aborts client.now.answers client.now.answers server.old.answers server.new.answers exchange result.outcome result.exchange }
+    ensures driven { IsDriven 1 settings.rules.aborts client.now.answers client.now.answers server.old.answers server.new.answers exchange result.outcome result.exchange }
     ensures answered { IsAsAnswered server.old server.new }
     ensures own { IsOwn result.outcome }
     ensures moves { result.did ≢ Did.Rests }
@@ -125,7 +125,7 @@ pub(crate) fn use_client<C: Socket, S: Socket>(
     server: &Line<S>,
 ) -> Turned
     ensures at { (h : ExchangeHistory) → IsAtItsStage exchange h → Drives client.old client.new server.now server.now (at_client result.did) (at_server result.did) h result.exchange result.outcome }
-    ensures driven { IsDriven settings.rules.aborts client.old.answers client.new.answers server.now.answers server.now.answers exchange result.outcome result.exchange }
+    ensures driven { IsDriven 1 settings.rules.aborts client.old.answers client.new.answers server.now.answers server.now.answers exchange result.outcome result.exchange }
     ensures answered { IsAsAnswered client.old client.new }
     ensures own { IsOwn result.outcome }
     ensures moves { result.did ≢ Did.Rests }
@@ -147,7 +147,7 @@ pub(crate) fn use_server<C: Socket, S: Socket>(
     server: &mut Line<S>,
 ) -> Turned
     ensures at { (h : ExchangeHistory) → IsAtItsStage exchange h → Drives client.now client.now server.old server.new (at_client result.did) (at_server result.did) h result.exchange result.outcome }
-    ensures driven { IsDriven settings.rules.aborts client.now.answers client.now.answers server.old.answers server.new.answers exchange result.outcome result.exchange }
+    ensures driven { IsDriven 1 settings.rules.aborts client.now.answers client.now.answers server.old.answers server.new.answers exchange result.outcome result.exchange }
     ensures answered { IsAsAnswered server.old server.new }
     ensures own { IsOwn result.outcome }
     ensures moves { result.did ≢ Did.Rests }
@@ -172,7 +172,7 @@ pub(crate) fn read_client<C: Socket, S: Socket>(
     requires some { 0 < length buffer.old }
     requires first { client.old.waits ≡ [] }
     ensures at { (h : ExchangeHistory) → IsAtItsStage exchange h → Drives client.old client.new server.now server.now (at_client result.did) (at_server result.did) h result.exchange result.outcome }
-    ensures driven { IsDriven settings.rules.aborts client.old.answers client.new.answers server.now.answers server.now.answers exchange result.outcome result.exchange }
+    ensures driven { IsDriven 1 settings.rules.aborts client.old.answers client.new.answers server.now.answers server.now.answers exchange result.outcome result.exchange }
     ensures answered { IsAsAnswered client.old client.new }
     ensures own { IsOwn result.outcome }
     ensures moves { result.did ≢ Did.Rests }
@@ -208,7 +208,7 @@ pub(crate) fn read_server<C: Socket, S: Socket>(
     requires some { 0 < length buffer.old }
     requires first { server.old.waits ≡ [] }
     ensures at { (h : ExchangeHistory) → IsAtItsStage exchange h → Drives client.now client.now server.old server.new (at_client result.did) (at_server result.did) h result.exchange result.outcome }
-    ensures driven { IsDriven settings.rules.aborts client.now.answers client.now.answers server.old.answers server.new.answers exchange result.outcome result.exchange }
+    ensures driven { IsDriven 1 settings.rules.aborts client.now.answers client.now.answers server.old.answers server.new.answers exchange result.outcome result.exchange }
     ensures answered { IsAsAnswered server.old server.new }
     ensures own { IsOwn result.outcome }
     ensures moves { result.did ≢ Did.Rests }

@@ -158,6 +158,7 @@ impl<N: BoardName + Ledger, S: Socket> Linked<N, S> {
         ensures its { IfOk result (λ _. (self.new.server ≡ unused.server) × (server_of (held_by self.old.seated.exchange) ≡ Some unused.server)) }
         ensures may { IfOk result (λ _. chains.takes_used self.old.seated.exchange ≡ true) }
         ensures dry { IfOk result (λ _. (self.new.line.dry ≡ true) × (self.new.line.waits ≡ [])) }
+        ensures full { IfOk result (λ _. self.new.line.full ≡ S.full unused.socket) }
         ensures quiet { IfOk result (λ _. (self.new.line.answers ≡ with_answers (Heard Nothing ∷ []) (S.answers unused.socket)) × (self.new.line.taken ≡ S.taken unused.socket)) }
         ensures on { IfOk result (λ _. (opened : Wire) (before : List Whole) → IsBehind opened before (S.taken unused.socket) (S.left unused.socket)
             → IsOn opened before self.new.seated.exchange self.new.line) }
@@ -202,6 +203,7 @@ impl<N: BoardName + Ledger, S: Socket> Linked<N, S> {
         ensures held { held_by self.old.seated.exchange ≢ [] → self.new ≡ self.old }
         ensures server { IfSome result (λ unused. unused.server ≡ self.old.server) }
         ensures answers { IfSome result (λ unused. S.answers unused.socket ≡ self.old.line.answers) }
+        ensures told { IfSome result (λ unused. (S.dry unused.socket ≡ self.old.line.dry) × (S.full unused.socket ≡ self.old.line.full)) }
         ensures clean { IfSome result (λ unused. chains.is_clean self.old.seated.exchange ≡ true) }
         ensures left { IfSome result (λ unused. (opened : Wire) (before : List Whole) → IsOn opened before self.old.seated.exchange self.old.line
             → IsLeft opened before self.old.seated.exchange (S.taken unused.socket) (S.left unused.socket)) }

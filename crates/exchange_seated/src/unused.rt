@@ -45,6 +45,7 @@ impl<S: Socket> Unused<S> {
         ensures server { self.new.server ≡ self.old.server }
         ensures left { OnTrue result (Consumes (S.left self.old.socket) (S.left self.new.socket) []) }
         ensures taken { S.taken self.new.socket ≡ S.taken self.old.socket }
+        ensures full { S.full self.new.socket ≡ S.full self.old.socket }
         ensures dry { OnTrue result (S.dry self.new.socket ≡ true) }
         ensures quiet { OnTrue result (S.answers self.new.socket ≡ with_answers (Heard Nothing ∷ []) (S.answers self.old.socket)) }
         ensures spoke { OnFalse result (HasSpoken (S.answers self.old.socket) (S.answers self.new.socket)) }

@@ -1,5 +1,5 @@
 -- What a worker does, from a client to the next one, and what its gate notes of that.
-use Rattle.std.specs.Prelude.{◌≡◌, ◌⊎◌, ℕ, false, List, [], ◌∷◌, Option, Result, Ok, Err}
+use Rattle.std.specs.Prelude.{◌≡◌, ◌≤◌, ◌⊎◌, ℕ, false, List, [], ◌∷◌, Option, Result, Ok, Err}
 use Rattle.base_verdict.specs.declared.Ending.TheVariants.{Done, Failed}
 use Rattle.dispatch_state.specs.declared.position.Ticketed.{Ticketed}
 use Rattle.grant_board.specs.RelayCalls.{new_relay, post_after}
@@ -62,8 +62,9 @@ module _ {C S : Type 0} (left told : C → Option (List ℕ)) where
     pub unpaused : (admitted.left ≡ first.left) × (admitted.view ≡ first.view)
     pub failed : HaveFailed terms setup at admitted last
 
-  -- A client whose pauses were spent, so that its request's place stays occupied.
-  pub record HasSpentPauses (terms : Terms) (setup : Setup) (config : Config) (client : C) (first last : Stand C S) : Type 0 where
+  -- A client whose pauses were spent, so that its request's place stays occupied. The exchange holds what
+  -- was read behind the request's head, and makes no more turns than it may.
+  pub record HasSpentPauses (terms : Terms) (setup : Setup) (config : Config) (exchange : Exchange) (client : C) (first last : Stand C S) : Type 0 where
     pub request : Request
     pub held : List ℕ
     pub at : Ticketed
@@ -71,6 +72,8 @@ module _ {C S : Type 0} (left told : C → Option (List ℕ)) where
     pub waits : Stand C S
     pub still : StillWaits terms setup config request held at client waiting first waits
     pub spends : SpendsPauses terms setup at waiting waits last
+    pub holds : exchange.pipe.inbox ≡ held
+    pub turns : exchange.pipe.turns ≤ exchange.most
 
 module _ {C S : Type 0} (left told : C → Option (List ℕ)) (left_there told_there : S → Option (List ℕ)) where
   -- A client's request ended under this pass: it was served with the bytes that were held behind its
@@ -117,12 +120,12 @@ module _ {C S : Type 0} (left told : C → Option (List ℕ)) (left_there told_t
   abbrev pub HasWorked : Terms → Setup → Config → Result Tally Stopped → Exchange → Exchange → Stand C S → Stand C S → Type 0
   HasWorked terms setup config (Ok tally) exchange exchange_then first last =
       (outcomes : List Outcome) × (before : Stand C S) × HaveEnded terms setup config outcomes exchange exchange_then first before
-      × (tally ≡ all_noted no_clients outcomes) × (last.notes ≡ noted NoMore before.notes) × (last.view ≡ before.view)
+      × (tally ≡ all_noted no_clients outcomes) × (last.notes ≡ noted NoMore before.notes) × (last.left ≡ before.left) × (last.view ≡ before.view)
   HasWorked terms setup config (Err PausesSpent) exchange exchange_then first last =
       (outcomes : List Outcome) × (before : Stand C S)
       × ((ended : Exchange) × HaveEnded terms setup config outcomes exchange ended first before)
       × (exchange_then.stage ≡ Asked)
-      × ((client : C) × (pauses : ℕ) × HasSpentPauses left told terms setup config client (with_client client pauses before) last)
+      × ((client : C) × (pauses : ℕ) × HasSpentPauses left told terms setup config exchange_then client (with_client client pauses before) last)
   HasWorked terms setup config (Err NoMemory) exchange exchange_then first last = ⊥
 
   -- a worker that returned this left its seat with this view, and a gate noted what it did: under some

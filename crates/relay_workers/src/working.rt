@@ -70,10 +70,11 @@ fn serve_next<R: Wait, N: DeskName, G: Gate + Drop, P: Pause + Drop>(
         (with_client client pauses (record { notes = G.notes hand.old.runner.gate; left = P.left hand.old.pause; view = seat.old.view }))
         (record { notes = G.notes hand.new.runner.gate; left = P.left hand.new.pause; view = seat.new.view })
         × (tally.new ≡ tally_noted outcome tally.old) }
-    ensures no_more { result ≡ Next.NoMore → (tally.new ≡ tally.old) × (seat.new.view ≡ seat.old.view) × (G.notes hand.new.runner.gate ≡ noted NoMore (G.notes hand.old.runner.gate)) × (hand.new.runner.exchange ≡ hand.old.runner.exchange) }
+    ensures no_more { result ≡ Next.NoMore → (tally.new ≡ tally.old) × (seat.new.view ≡ seat.old.view) × (G.notes hand.new.runner.gate ≡ noted NoMore (G.notes hand.old.runner.gate)) × (hand.new.runner.exchange ≡ hand.old.runner.exchange)
+        × (P.left hand.new.pause ≡ P.left hand.old.pause) }
     ensures asked { result ≡ Next.Spent → hand.new.runner.exchange.stage ≡ Asked }
     ensures spent { result ≡ Next.Spent → (client : G.Client) × (pauses : ℕ)
-        × HasSpentPauses G.Client.remaining G.Client.contents N.terms N.setup proxy.now.config client
+        × HasSpentPauses G.Client.remaining G.Client.contents N.terms N.setup proxy.now.config hand.new.runner.exchange client
         (with_client client pauses (record { notes = G.notes hand.old.runner.gate; left = P.left hand.old.pause; view = seat.old.view }))
         (record { notes = G.notes hand.new.runner.gate; left = P.left hand.new.pause; view = seat.new.view }) }
 {
@@ -108,7 +109,7 @@ fn attend<R: Wait, N: DeskName, G: Gate + Drop, P: Pause + Drop>(
         (record { notes = G.notes hand.old.runner.gate; left = P.left hand.old.pause; view = seat.old.view })
         (record { notes = G.notes hand.new.runner.gate; left = P.left hand.new.pause; view = seat.new.view })) }
     ensures asked { IfNone result (hand.new.runner.exchange.stage ≡ Asked) }
-    ensures given_up { IfNone result (HasSpentPauses G.Client.remaining G.Client.contents N.terms N.setup proxy.now.config client
+    ensures given_up { IfNone result (HasSpentPauses G.Client.remaining G.Client.contents N.terms N.setup proxy.now.config hand.new.runner.exchange client
         (record { notes = G.notes hand.old.runner.gate; left = P.left hand.old.pause; view = seat.old.view })
         (record { notes = G.notes hand.new.runner.gate; left = P.left hand.new.pause; view = seat.new.view })) }
 {

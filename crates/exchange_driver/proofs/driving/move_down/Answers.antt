@@ -1,3 +1,4 @@
+use Rattle.std.proofs.Common.{refl, arith}
 use Rattle.exchange_driver.proofs.Moving.{drives_none}
 use Rattle.exchange_driver.proofs.Telling.{driven_none}
 use Rattle.exchange_driver.proofs.Standing.{answered_none}
@@ -30,10 +31,12 @@ pub returns-clause-quiet : goal.returns-clause-quiet
 returns-clause-quiet g c e = absurd (c.read_server.ensures.moves e)
 
 pub returns-then-not-wants-clause-driven : goal.returns-then-not-wants-clause-driven
-returns-then-not-wants-clause-driven g c = rw (c.rests.ensures.exchange, c.rests.ensures.outcome) (driven_none _ _ _ c.args.exchange)
+returns-then-not-wants-clause-driven g c =
+    (0, rw (c.rests.ensures.exchange, c.rests.ensures.outcome) (driven_none _ _ _ c.args.exchange), omega arith, λ moves. absurd (moves c.rests.ensures.did))
 
 pub returns-then-is_dry-clause-driven : goal.returns-then-is_dry-clause-driven
-returns-then-is_dry-clause-driven g c = rw (c.rests-then-is_dry.ensures.exchange, c.rests-then-is_dry.ensures.outcome) (driven_none _ _ _ c.args.exchange)
+returns-then-is_dry-clause-driven g c =
+    (0, rw (c.rests-then-is_dry.ensures.exchange, c.rests-then-is_dry.ensures.outcome) (driven_none _ _ _ c.args.exchange), omega arith, λ moves. absurd (moves c.rests-then-is_dry.ensures.did))
 
 pub returns-then-not-is_full-clause-server : goal.returns-then-not-is_full-clause-server
 returns-then-not-is_full-clause-server g c = answered_none _
@@ -55,3 +58,12 @@ returns-then-is_dry-clause-server g c = answered_none _
 
 pub returns-clause-client : goal.returns-clause-client
 returns-clause-client g c = answered_none _
+
+pub returns-then-not-is_full-clause-driven : goal.returns-then-not-is_full-clause-driven
+returns-then-not-is_full-clause-driven g c = (1, c.write_client.ensures.driven, omega arith, λ moves. refl)
+
+pub returns-then-not-is_empty-clause-driven : goal.returns-then-not-is_empty-clause-driven
+returns-then-not-is_empty-clause-driven g c = (1, c.use_server.ensures.driven, omega arith, λ moves. refl)
+
+pub returns-clause-driven : goal.returns-clause-driven
+returns-clause-driven g c = (1, c.read_server.ensures.driven, omega arith, λ moves. refl)

@@ -1,4 +1,4 @@
-use Rattle.std.proofs.Common.{rules, ◌≡◌, inr, refl, ◌∙◌, ap, subst}
+use Rattle.std.proofs.Common.{rules, ◌≡◌, ◌≤◌, inr, refl, ◌∙◌, sym, ap, subst, arith}
 use Rattle.base_verdict.specs.declared.Verdict.{Verdict}
 use Rattle.base_verdict.specs.declared.Verdict.TheVariants.{Serve, Told}
 use Rattle.dispatch_state.specs.declared.position.Ticketed.{Ticketed}
@@ -76,7 +76,8 @@ returns-in-Ok-finish-clause-ended g c = record {
 -- no pass came as long as pauses were left
 pub returns-in_default-clause-given_up : goal.returns-in_default-clause-given_up
 returns-in_default-clause-given_up g c =
-    let spent = c.in_default.ensures.spent in record {
+    let spent = c.in_default.ensures.spent in
+    let same : c.wait.new.hand.runner.exchange ≡ c.admit.new.runner.exchange = c.wait.ensures.exchange ∙ c.loop.invariant.7 in record {
       request = c.in-Ok.admitted.view;
       held = c.admit.new.runner.exchange.pipe.inbox;
       at = c.in-Ok.admitted.at;
@@ -98,6 +99,9 @@ returns-in_default-clause-given_up g c =
           (record { notes = g.G.Gate.notes c.loop.hand.runner.gate; left = g.P.Pause.left c.loop.hand.pause; view = c.loop.seat.view })
           (record { notes = g.G.Gate.notes c.wait.new.hand.runner.gate; left = g.P.Pause.left c.wait.new.hand.pause; view = c.wait.new.seat.view }))
           c.loop.invariant.9 spent.2;
+      holds = ap (λ (it : Exchange). it.pipe.inbox) same;
+      turns = subst (λ (it : Exchange). it.pipe.turns ≤ it.most) (sym same)
+          (omega (arith, c.in-Ok.ensures.turns, c.admit.ensures.most, c.requires.fresh.turns));
     }
 
 pub loop-preserved : goal.loop-preserved

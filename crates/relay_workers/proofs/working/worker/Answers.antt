@@ -36,6 +36,7 @@ returns-in-NoMore-clause-worked g c =
           (sym none.3) others.1,
       none.0 ∙ others.2,
       none.2,
+      none.4,
       none.1,
     )
 

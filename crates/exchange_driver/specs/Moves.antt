@@ -1,5 +1,5 @@
 -- What is told to an exchange while it is driven.
-use Rattle.std.specs.Prelude.{◌≡◌, ◌≢◌, ◌≤◌, ◌*◌, ◌⊎◌, ℕ, Bool, true, false, List, [], ◌∷◌, length, Option}
+use Rattle.std.specs.Prelude.{◌≡◌, ◌≢◌, ◌≤◌, ◌<◌, ◌*◌, ◌⊎◌, ℕ, Bool, true, false, List, [], ◌∷◌, length, Option}
 use Rattle.exchange_driver.specs.Answers.{SocketAnswer, Heard, Said, with_answers}
 use Rattle.exchange_driver.specs.declared.driving.Rest.{Rest}
 use Rattle.exchange_driver.specs.declared.driving.Rest.TheVariants.{Again}
@@ -21,23 +21,23 @@ pub data Move : Type 0 where
   ServerLacksMemory : Move
 
 -- What a move makes of an exchange: where nothing is there, or a socket is full, nothing. Else bytes
--- came, or were taken; a side came to its end, without an error or with one; or it takes no more.
+-- came, as many as the socket said, or some waited, or some were taken; a side came to its end, without an error or with one; or it takes no more.
 abbrev pub Makes : Bool → Exchange → Move → Outcome → Exchange → Type 0
-Makes aborts x (OfClient (Heard (reads.Bytes count))) outcome y = (input : List ℕ) × (used : ℕ) × HearsClient input x used outcome y
+Makes aborts x (OfClient (Heard (reads.Bytes count))) outcome y = (input : List ℕ) × (length input ≡ count) × (used : ℕ) × HearsClient input x used outcome y
 Makes aborts x (OfClient (Heard reads.Nothing)) outcome y = (y ≡ x) × (outcome ≡ Quiet)
 Makes aborts x (OfClient (Heard (reads.Ended true))) outcome y = (used : ℕ) × IsHalfClosed aborts x used outcome y
 Makes aborts x (OfClient (Heard (reads.Ended false))) outcome y = LosesClient x outcome y
 Makes aborts x (OfClient (Said (writes.Bytes count))) outcome y = (used : ℕ) × TellsClient count x used outcome y
 Makes aborts x (OfClient (Said writes.Full)) outcome y = (y ≡ x) × (outcome ≡ Quiet)
 Makes aborts x (OfClient (Said writes.Failed)) outcome y = LosesClient x outcome y
-Makes aborts x (OfServer (Heard (reads.Bytes count))) outcome y = (input : List ℕ) × (used : ℕ) × HearsServer input x used outcome y
+Makes aborts x (OfServer (Heard (reads.Bytes count))) outcome y = (input : List ℕ) × (length input ≡ count) × (used : ℕ) × HearsServer input x used outcome y
 Makes aborts x (OfServer (Heard reads.Nothing)) outcome y = (y ≡ x) × (outcome ≡ Quiet)
 Makes aborts x (OfServer (Heard (reads.Ended well))) outcome y = (used : ℕ) × RelayHears (HasHeardEnd well) x used outcome y
 Makes aborts x (OfServer (Said (writes.Bytes count))) outcome y = (used : ℕ) × RelayHears (HasServed count) x used outcome y
 Makes aborts x (OfServer (Said writes.Full)) outcome y = (y ≡ x) × (outcome ≡ Quiet)
 Makes aborts x (OfServer (Said writes.Failed)) outcome y = (used : ℕ) × RelayHears IsCutOff x used outcome y
-Makes aborts x ClientWaited outcome y = (input : List ℕ) × (used : ℕ) × HearsClient input x used outcome y
-Makes aborts x ServerWaited outcome y = (input : List ℕ) × (used : ℕ) × HearsServer input x used outcome y
+Makes aborts x ClientWaited outcome y = (input : List ℕ) × (0 < length input) × (used : ℕ) × HearsClient input x used outcome y
+Makes aborts x ServerWaited outcome y = (input : List ℕ) × (0 < length input) × (used : ℕ) × HearsServer input x used outcome y
 Makes aborts x ClientLacksMemory outcome y = LosesClient x outcome y
 Makes aborts x ServerLacksMemory outcome y = (used : ℕ) × RelayHears (HasHeardEnd false) x used outcome y
 

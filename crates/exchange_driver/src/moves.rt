@@ -124,6 +124,7 @@ pub(crate) fn use_client<C: Socket, S: Socket>(
     client: &mut Line<C>,
     server: &Line<S>,
 ) -> Turned
+    requires { 0 < length client.old.waits }
     ensures at { (h : ExchangeHistory) → IsAtItsStage exchange h → Drives client.old client.new server.now server.now (at_client result.did) (at_server result.did) h result.exchange result.outcome }
     ensures driven { IsDriven 1 settings.rules.aborts client.old.answers client.new.answers server.now.answers server.now.answers exchange result.outcome result.exchange }
     ensures answered { IsAsAnswered client.old client.new }
@@ -146,6 +147,7 @@ pub(crate) fn use_server<C: Socket, S: Socket>(
     client: &Line<C>,
     server: &mut Line<S>,
 ) -> Turned
+    requires { 0 < length server.old.waits }
     ensures at { (h : ExchangeHistory) → IsAtItsStage exchange h → Drives client.now client.now server.old server.new (at_client result.did) (at_server result.did) h result.exchange result.outcome }
     ensures driven { IsDriven 1 settings.rules.aborts client.now.answers client.now.answers server.old.answers server.new.answers exchange result.outcome result.exchange }
     ensures answered { IsAsAnswered server.old server.new }

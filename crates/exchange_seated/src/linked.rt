@@ -2,7 +2,7 @@ ghost use Rattle.std.specs.Prelude.{◌≡◌, ◌≢◌, ◌<◌, ◌∷◌, �
 ghost use Rattle.std.specs.Bool.{OnTrue, OnFalse};
 ghost use Rattle.exchange_driver.specs.Answers.{SocketAnswer, Heard, with_answers};
 ghost use Rattle.exchange_driver.specs.Drives.{Drives, IsDownAtRest, IsUpAtRest};
-ghost use Rattle.exchange_driver.specs.Moves.{IsDriven};
+ghost use Rattle.exchange_driver.specs.Moves.{IsDriven, KeepsTurns};
 ghost use Rattle.exchange_driver.specs.Wires.{IsAsAnswered, Wire, is_still_at};
 ghost use Rattle.exchange_driver.specs.declared.socket.ReadResult.TheVariants.{Nothing};
 ghost use Rattle.exchange_machine.specs.Histories.{ExchangeHistory, granted};
@@ -203,6 +203,8 @@ impl<N: BoardName + Ledger, S: Socket> Linked<N, S> {
         ensures held { held_by self.old.seated.exchange ≢ [] → self.new ≡ self.old }
         ensures server { IfSome result (λ unused. unused.server ≡ self.old.server) }
         ensures answers { IfSome result (λ unused. S.answers unused.socket ≡ self.old.line.answers) }
+        ensures bytes { IfSome result (λ unused. (S.left unused.socket ≡ self.old.line.left) × (S.taken unused.socket ≡ self.old.line.taken)) }
+        ensures empty { IfSome result (λ _. self.old.line.waits ≡ []) }
         ensures told { IfSome result (λ unused. (S.dry unused.socket ≡ self.old.line.dry) × (S.full unused.socket ≡ self.old.line.full)) }
         ensures clean { IfSome result (λ unused. chains.is_clean self.old.seated.exchange ≡ true) }
         ensures left { IfSome result (λ unused. (opened : Wire) (before : List Whole) → IsOn opened before self.old.seated.exchange self.old.line
@@ -238,8 +240,9 @@ impl<N: BoardName + Ledger, S: Socket> Linked<N, S> {
         ensures up { result.rest ≡ Rest.Waits → IsUpAtRest result.linked.seated.exchange client.new result.linked.line }
         ensures answered { IsAsAnswered client.old client.new }
         ensures left { result.given ≢ Given.Retries → IsAsAnswered self.line result.linked.line }
-        ensures driven { (outcome : outcomes.Outcome) × (server : Option (List SocketAnswer))
-            × IsDriven settings.rules.aborts client.old.answers client.new.answers self.line.answers server self.seated.exchange outcome result.linked.seated.exchange
+        ensures driven { (outcome : outcomes.Outcome) × (count : ℕ) × (server : Option (List SocketAnswer))
+            × IsDriven count settings.rules.aborts client.old.answers client.new.answers self.line.answers server self.seated.exchange outcome result.linked.seated.exchange
+            × KeepsTurns settings.turns count result.rest outcome
             × (result.given ≢ Given.Retries → result.linked.line.answers ≡ server)
             × (outcome ≡ outcomes.Outcome.Retries → result.given ≡ Given.Retries)
             × (result.given ≡ Given.Retries → outcome ≡ outcomes.Outcome.Retries)

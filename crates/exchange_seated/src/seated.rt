@@ -1,7 +1,7 @@
 ghost use Rattle.std.specs.Prelude.{◌≡◌, ◌↔◌, ℕ, None, ◌<◌, ◌≤◌, ◌++◌, ◌∷◌, [], true, false, length, is_some, IfOk, IfErr, IfSome, IsTrue, MatchOption};
 ghost use Rattle.exchange_driver.specs.Drives.{Drives, IsDownAtRest, IsUpAtRest};
 ghost use Rattle.exchange_driver.specs.Wires.{IsAsAnswered};
-ghost use Rattle.exchange_driver.specs.Moves.{IsDriven};
+ghost use Rattle.exchange_driver.specs.Moves.{IsDriven, KeepsTurns};
 ghost use Rattle.grant_board.specs.RelayCalls.{post_after};
 ghost use Rattle.exchange_machine.specs.Histories.{ExchangeHistory};
 ghost use Rattle.exchange_machine.specs.Wholes.{EndsClean};
@@ -326,8 +326,9 @@ impl<N: BoardName + Ledger> Seated<N> {
             × (outcome ≡ outcomes.Outcome.Retries → result.given ≡ Given.Retries)
             × (result.given ≡ Given.Retries → outcome ≡ outcomes.Outcome.Retries)
             × ((posting : _) → result.given ≡ Given.Posts posting → IsPosted outcome posting.taken.held.pass posting.ending) }
-        ensures driven { (outcome : outcomes.Outcome)
-            × IsDriven settings.rules.aborts client.old.answers client.new.answers server.old.answers server.new.answers self.exchange outcome result.seated.exchange
+        ensures driven { (outcome : outcomes.Outcome) × (count : ℕ)
+            × IsDriven count settings.rules.aborts client.old.answers client.new.answers server.old.answers server.new.answers self.exchange outcome result.seated.exchange
+            × KeepsTurns settings.turns count result.rest outcome
             × (outcome ≡ outcomes.Outcome.Retries → result.given ≡ Given.Retries)
             × (result.given ≡ Given.Retries → outcome ≡ outcomes.Outcome.Retries)
             × ((posting : _) → result.given ≡ Given.Posts posting → IsPosted outcome posting.taken.held.pass posting.ending) }

@@ -124,7 +124,7 @@ module _ {C S : Type 0} (left told : C → Option (List ℕ)) (left_there told_t
   HasWorked terms setup config (Err PausesSpent) exchange exchange_then first last =
       (outcomes : List Outcome) × (before : Stand C S)
       × ((ended : Exchange) × HaveEnded terms setup config outcomes exchange ended first before)
-      × (exchange_then.stage ≡ Asked)
+      × (exchange_then.stage ≡ Asked) × (exchange_then.most ≡ exchange.most)
       × ((client : C) × (pauses : ℕ) × HasSpentPauses left told terms setup config exchange_then client (with_client client pauses before) last)
   HasWorked terms setup config (Err NoMemory) exchange exchange_then first last = ⊥
 

@@ -70,6 +70,7 @@ fn serve_next<R: Wait, N: DeskName, G: Gate + Drop, P: Pause + Drop>(
         (with_client client pauses (record { notes = G.notes hand.old.runner.gate; left = P.left hand.old.pause; view = seat.old.view }))
         (record { notes = G.notes hand.new.runner.gate; left = P.left hand.new.pause; view = seat.new.view })
         × (tally.new ≡ tally_noted outcome tally.old) }
+    ensures most { hand.new.runner.exchange.most ≡ hand.old.runner.exchange.most }
     ensures no_more { result ≡ Next.NoMore → (tally.new ≡ tally.old) × (seat.new.view ≡ seat.old.view) × (G.notes hand.new.runner.gate ≡ noted NoMore (G.notes hand.old.runner.gate)) × (hand.new.runner.exchange ≡ hand.old.runner.exchange)
         × (P.left hand.new.pause ≡ P.left hand.old.pause) }
     ensures asked { result ≡ Next.Spent → hand.new.runner.exchange.stage ≡ Asked }

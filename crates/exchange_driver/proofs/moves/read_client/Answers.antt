@@ -59,7 +59,7 @@ returns-in-Ended-false-clause-driven g c = rw (c.behind-in-Ended-false.ensures.e
 pub returns-in-Bytes-clause-driven : goal.returns-in-Bytes-clause-driven
 returns-in-Bytes-clause-driven g c = rw (c.behind-in-Bytes.ensures.exchange, c.behind-in-Bytes.ensures.outcome)
     (client_answered _ _ _ _ _ _ _ (Heard (Bytes c.in-Bytes.count)) (c.keep.ensures.answers ∙ heard_bytes c.args.client.now c.read_now.new.self c.in-Bytes.count c.in-Bytes.ensures.heard)
-    (_, c.step-step.result.used, c.step-step.ensures.does))
+    (_, omega (arith, c.in-Bytes.ensures.within, length-take c.in-Bytes.count c.read_now.new.buffer), c.step-step.result.used, c.step-step.ensures.does))
 
 pub returns-in-Nothing-clause-answered : goal.returns-in-Nothing-clause-answered
 returns-in-Nothing-clause-answered g c = answered_heard _ _ Nothing c.in-Nothing.ensures.heard c.in-Nothing.ensures.taken.1

@@ -7,13 +7,14 @@ use Rattle.relay_workers.proofs.Steps.{noted_more}
 use Rattle.relay_workers.proofs.working.worker.Goals as goal
 
 pub loop-init : goal.loop-init
-loop-init g c = (search rules, ([], (refl, refl), c.zero-tally.ensures))
+loop-init g c = (search rules, refl, ([], (refl, refl), c.zero-tally.ensures))
 
 pub loop-preserved : goal.loop-preserved
 loop-preserved g c =
     let served = c.in-Served.ensures.served refl in
-    let others = c.loop.invariant.1 in (
+    let others = c.loop.invariant.2 in (
       search rules,
+      c.serve_next.ensures.most ∙ c.loop.invariant.1,
       (
         others.0 ++ served.0 ∷ [],
         ended_more g.G.Client.Read.remaining g.G.Client.Write.contents g.G.Server.Read.remaining g.G.Server.Write.contents
@@ -26,7 +27,7 @@ loop-preserved g c =
 pub returns-in-NoMore-clause-worked : goal.returns-in-NoMore-clause-worked
 returns-in-NoMore-clause-worked g c =
     let none = c.in-NoMore.ensures.no_more refl in
-    let others = c.loop.invariant.1 in (
+    let others = c.loop.invariant.2 in (
       others.0,
       _,
       subst (λ (it : Exchange). HaveEnded g.G.Client.Read.remaining g.G.Client.Write.contents g.G.Server.Read.remaining g.G.Server.Write.contents
@@ -43,5 +44,5 @@ returns-in-NoMore-clause-worked g c =
 pub returns-in-Spent-clause-worked : goal.returns-in-Spent-clause-worked
 returns-in-Spent-clause-worked g c =
     let spent = c.in-Spent.ensures.spent refl in
-    let others = c.loop.invariant.1 in
-    (others.0, _, (_, others.1), c.in-Spent.ensures.asked refl, spent)
+    let others = c.loop.invariant.2 in
+    (others.0, _, (_, others.1), c.in-Spent.ensures.asked refl, c.serve_next.ensures.most ∙ c.loop.invariant.1, spent)

@@ -9,6 +9,7 @@ use Rattle.relay_workers.proofs.working.worker.Given as goal
 abbrev pub invariant-loop : goal.invariant-loop
 invariant-loop g l =
     IsSameSeat l.initial.idle.seat l.idle.seat
+    × (l.hand.runner.exchange.most ≡ l.initial.hand.runner.exchange.most)
     × ((outcomes : List Outcome)
     × HaveEnded g.G.Client.Read.remaining g.G.Client.Write.contents g.G.Server.Read.remaining g.G.Server.Write.contents
     g.N.BoardName.terms g.N.DeskName.setup l.proxy.config outcomes

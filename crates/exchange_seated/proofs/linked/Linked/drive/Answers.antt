@@ -49,12 +49,14 @@ returns-clause-driven g c =
     let anew = c.linked_anew.ensures in
     let d = c.drive-served.ensures.driven in (
       d.0,
+      d.1,
       c.drive-served.new.server.answers,
-      rw anew.seated d.1,
+      rw anew.seated d.2,
+      rw anew.rest.0 d.3,
       (λ kept. ap (λ (w : Wire). w.answers) (anew.stays (λ is. kept (anew.rest.1 ∙ is))).0),
-      (λ is. anew.rest.1 ∙ d.2 is),
-      (λ is. d.3 (sym anew.rest.1 ∙ is)),
-      (λ posting is. d.4 posting (sym anew.rest.1 ∙ is)),
+      (λ is. anew.rest.1 ∙ d.4 is),
+      (λ is. d.5 (sym anew.rest.1 ∙ is)),
+      (λ posting is. d.6 posting (sym anew.rest.1 ∙ is)),
     )
 
 pub returns-clause-answered : goal.returns-clause-answered

@@ -12,7 +12,9 @@ returns-clause-holds g c = holds_on _ _ _ _ (c.drive-exchange.ensures.passes c.a
 pub returns-clause-driven : goal.returns-clause-driven
 returns-clause-driven g c = (
   c.drive-exchange.result.outcome,
-  rw c.part-seated.ensures.exchange c.drive-exchange.ensures.driven,
+  c.drive-exchange.ensures.driven.0,
+  rw c.part-seated.ensures.exchange c.drive-exchange.ensures.driven.1,
+  c.drive-exchange.ensures.driven.2,
   c.part-seated.ensures.retries,
   c.part-seated.ensures.anew,
   c.part-seated.ensures.ends,

@@ -1,6 +1,7 @@
 ghost use Rattle.std.specs.Prelude.{◌≡◌, ◌<◌, [], ◌∷◌, IfOk, IfErr};
 ghost use Rattle.grant_board.specs.BoardWords.{MayEnd};
 ghost use Rattle.grant_board.specs.RelayCalls.{Answers, post_after};
+ghost use Rattle.grant_board.specs.Ruled.{RelayRuled};
 ghost use Rattle.grant_board.specs.declared.pass.Taking.TheVariants as taking;
 
 use crate::asking::TakeResult;
@@ -44,6 +45,8 @@ impl<N: BoardName + Ledger> Lent<N> {
         ensures taken { IfOk result (λ got. Answers self.idle.seat.view got.held.seat.view place ticket (taking.Taken got.held.pass)) }
         ensures pass { IfOk result (λ got. (got.held.pass.place ≡ place) × (got.held.pass.ticket ≡ ticket)) }
         ensures back { IfErr result (λ lent. Answers self.idle.seat.view lent.idle.seat.view place ticket taking.NotYet) }
+        ensures ruled { IfOk result (λ got. RelayRuled got.held.seat.view) }
+        ensures ruled_back { IfErr result (λ lent. RelayRuled lent.idle.seat.view) }
     {
         let Lent { idle, out } = self;
         match idle.take(board, place, ticket) {
@@ -84,7 +87,8 @@ impl<N: BoardName + Ledger> Taken<N> {
     pub fn post(self, board: &Board, ending: Ending) -> Lent<N>
         requires same_board { board.now ≡ N.board }
         requires may_end { MayEnd self.held.pass.verdict ending }
-        ensures { result.idle.seat.view ≡ post_after self.held.seat.view self.held.pass ending }
+        ensures posted { result.idle.seat.view ≡ post_after self.held.seat.view self.held.pass ending }
+        ensures ruled { RelayRuled result.idle.seat.view }
     {
         let Taken { held, out } = self;
         Lent {

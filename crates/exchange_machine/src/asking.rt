@@ -1,10 +1,11 @@
-ghost use Rattle.std.specs.Prelude.{◌≡◌, ◌≤◌, ◌++◌, List, [], length, take, drop, false};
+ghost use Rattle.std.specs.Prelude.{◌≡◌, ◌-◌, ◌⊎◌, ◌≤◌, ◌++◌, List, [], length, min, take, drop, false};
 ghost use Rattle.exchange_machine.specs.Histories.{ExchangeHistory, client_came, nothing_yet};
 ghost use Rattle.exchange_machine.specs.Reasons.{Shows};
 ghost use Rattle.exchange_machine.specs.Requests.{MayCome};
 ghost use Rattle.exchange_machine.specs.Stages as stages;
 ghost use Rattle.exchange_machine.specs.Wants.{is_none};
 ghost use Rattle.http_texts.specs.Heads.{LacksRequest};
+ghost use Rattle.req_view.specs.declared.viewing.TheConstants.{HEAD_BYTES};
 ghost use Rattle.req_view.specs.Heads.{HasNoHead, Waits};
 ghost use Rattle.http_texts.specs.Replies.{refusal_text};
 
@@ -60,6 +61,7 @@ impl Asking {
         ensures within { result.0 ≤ length input.now }
         ensures turn { (h : ExchangeHistory) → stages.IsAsking self h → stages.IsTurn result.1 (client_came h (take result.0 input.now)) }
         ensures more { stages.IsMore result.1 → result.0 ≡ length input.now }
+        ensures all { (result.0 ≡ min (length input.now) (HEAD_BYTES - length self.held.items)) ⊎ (result.1 ≡ Turn.Refused Fault.NoMemory) }
         ensures checked { stages.IsChecked result.1 }
     {
         let (used, turn) = self.head_bytes(alloc, input);
@@ -72,6 +74,7 @@ impl Asking {
         ensures turn { (h : ExchangeHistory) → stages.IsAsking self h → stages.IsTurn result.1 (client_came h (take result.0 input.now)) }
         ensures says { stages.HeadSays result.1 (self.held.items ++ take result.0 input.now) }
         ensures more { stages.IsMore result.1 → result.0 ≡ length input.now }
+        ensures all { (result.0 ≡ min (length input.now) (HEAD_BYTES - length self.held.items)) ⊎ (result.1 ≡ Turn.Refused Fault.NoMemory) }
     {
         let Asking { mut held } = self;
         let room = HEAD_BYTES.saturating_sub(held.len());
@@ -148,6 +151,7 @@ pub(crate) fn look_on(alloc: Global, held: Vec<u8>) -> Turn
 fn looked_behind(turn: Turn) -> Turn
     ensures turn { (h : ExchangeHistory) → stages.HistoryIsFresh h → stages.IsTurn turn h → stages.IsTurn result h }
     ensures more { stages.IsMore result → stages.IsMore turn }
+    ensures refused { (why : Fault) → turn ≡ Turn.Refused why → result ≡ turn }
     ensures checked { stages.IsChecked result }
 {
     match turn {

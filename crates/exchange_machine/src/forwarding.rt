@@ -1,4 +1,4 @@
-ghost use Rattle.std.specs.Prelude.{◌≡◌, ◌-◌, ◌≤◌, ◌++◌, [], length, take, drop, IfOk, OnErr, false, true, IsTrue};
+ghost use Rattle.std.specs.Prelude.{◌≡◌, ◌-◌, ◌≤◌, ◌++◌, [], length, min, take, drop, IfOk, OnErr, false, true, IsTrue};
 ghost use Rattle.http_bodies.specs.Stops.{is_bad, is_done};
 ghost use Rattle.http_bodies.specs.declared.coding.Coding as codings;
 ghost use Rattle.exchange_machine.specs.Changes.{Uses, begun_after, left_after, looks_again};
@@ -6,6 +6,8 @@ ghost use Rattle.exchange_machine.specs.Histories.{ExchangeHistory, client_came,
 ghost use Rattle.exchange_machine.specs.Answerings.{has_answered};
 ghost use Rattle.exchange_machine.specs.Reasons.{HasEnded, Shows};
 ghost use Rattle.exchange_machine.specs.Stages as stages;
+ghost use Rattle.exchange_machine.specs.Ways.{IsUsedUp};
+ghost use Rattle.req_view.specs.declared.viewing.TheConstants.{HEAD_BYTES};
 
 use crate::held::{forget, looks_again};
 use crate::sides::Down;
@@ -68,6 +70,7 @@ impl Forwarding {
         ensures uses { Uses self.old self.new }
         ensures within { result ≤ length input.now }
         ensures cut { self.old.cut ≡ true → result ≡ 0 }
+        ensures all { self.old.cut ≡ false → IsUsedUp self.new.up (drop result input.now) }
         ensures passes { (h : ExchangeHistory) → stages.IsForwarding self.old h → self.old.up_held.items ≡ []
             → stages.IsForwarding self.new (client_came h (take result input.now)) }
     {
@@ -91,6 +94,7 @@ impl Forwarding {
         ensures passes { (h : ExchangeHistory) → stages.IsForwarding self.old h → stages.IsForwarding self.new h }
         ensures phase { self.new.phase ≡ self.old.phase }
         ensures only { self.new ≡ record self.old { up = self.new.up; up_held = self.new.up_held } }
+        ensures all { IsUsedUp self.new.up self.new.up_held.items }
         ensures uses { Uses self.old self.new }
     {
         let fed = self.up.take(self.up_held.as_slice());
@@ -103,6 +107,7 @@ impl Forwarding {
         ensures passes { (h : ExchangeHistory) → stages.IsForwarding self.old h → stages.IsForwarding self.new h }
         ensures body { self.new.phase ≡ Down.Body }
         ensures only { self.new ≡ record self.old { down = self.new.down; down_held = self.new.down_held } }
+        ensures all { IsUsedUp self.new.down self.new.down_held.items }
         ensures uses { Uses self.old self.new }
     {
         let fed = self.down.take(self.down_held.as_slice());
@@ -273,6 +278,7 @@ impl Forwarding {
         requires body { self.old.phase ≡ Down.Body }
         requires first { self.old.down_held.items ≡ [] }
         ensures only { self.new ≡ record self.old { down = self.new.down } }
+        ensures all { IsUsedUp self.new.down (drop result input.now) }
         ensures uses { Uses self.old self.new }
         ensures within { result ≤ length input.now }
         ensures passes { (h : ExchangeHistory) → stages.IsForwarding self.old h → stages.IsForwarding self.new (server_came h (take result input.now)) }
@@ -286,6 +292,7 @@ impl Forwarding {
         ensures only { self.new ≡ record self.old { down_held = self.new.down_held; looks = self.new.looks } }
         ensures uses { Uses self.old self.new }
         ensures within { IfOk result (λ used. used ≤ length input.now) }
+        ensures all { IfOk result (λ used. used ≡ min (length input.now) (HEAD_BYTES - length self.old.down_held.items)) }
         ensures held { IfOk result (λ used. self.new.down_held.items ≡ self.old.down_held.items ++ take used input.now) }
         ensures looks { IfOk result (λ used. self.new.looks ≡ looks_again self.old.looks (take used input.now) (length self.new.down_held.items)) }
         ensures passes { IfOk result (λ used. (h : ExchangeHistory) → stages.IsForwarding self.old h → stages.IsForwarding self.new (server_came h (take used input.now))) }

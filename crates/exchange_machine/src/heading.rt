@@ -69,6 +69,7 @@ impl Forwarding {
     pub fn read_head(&mut self, alloc: Global) -> Headed
         ensures passes { (h : ExchangeHistory) → stages.IsForwarding self.old h → stages.IsForwarding self.new h }
         ensures uses { Uses self.old self.new }
+        ensures up { (self.new.up ≡ self.old.up) × (self.new.up_held ≡ self.old.up_held) }
         ensures stays { self.old.phase ≡ Down.Body → self.new.phase ≡ Down.Body }
         ensures body { result ≡ Headed.Answer → self.new.phase ≡ Down.Body }
         ensures heads { result ≢ Headed.Answer → self.new.phase ≢ Down.Body }
@@ -117,6 +118,7 @@ impl Forwarding {
         ensures heads { result ≢ Headed.Answer → self.new.phase ≢ Down.Body }
         ensures passes { (h : ExchangeHistory) → stages.IsForwarding self.old h → stages.IsForwarding self.new h }
         ensures uses { Uses self.old self.new }
+        ensures up { (self.new.up ≡ self.old.up) × (self.new.up_held ≡ self.old.up_held) }
         ensures looks { self.new.looks ≡ self.old.looks }
         ensures full { result ≡ Headed.Full → self.new ≡ self.old }
     {
@@ -143,6 +145,7 @@ impl Forwarding {
         ensures heads { result ≢ Headed.Answer → self.new.phase ≢ Down.Body }
         ensures passes { (h : ExchangeHistory) → stages.IsForwarding self.old h → stages.IsForwarding self.new h }
         ensures uses { Uses self.old self.new }
+        ensures up { (self.new.up ≡ self.old.up) × (self.new.up_held ≡ self.old.up_held) }
         ensures looks { self.new.looks ≡ self.old.looks }
         ensures full { result ≡ Headed.Full → self.new ≡ self.old }
     {

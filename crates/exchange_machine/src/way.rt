@@ -2,7 +2,7 @@ ghost use Rattle.std.specs.Prelude.{◌≡◌, ◌==◌, ◌+◌, ◌≤◌, ◌
 ghost use Rattle.http_bodies.specs.Readings.{start_of};
 ghost use Rattle.http_bodies.specs.Stops.{Tells, is_bad, is_done};
 ghost use Rattle.http_bodies.specs.declared.coding.Coding as codings;
-ghost use Rattle.exchange_machine.specs.Ways.{Hears, is_read};
+ghost use Rattle.exchange_machine.specs.Ways.{Hears, IsUsedUp, is_read};
 ghost use Rattle.base_lists.specs.Fronts.{IsFront};
 
 use http_bodies::{Coding, Fed, Framing, OUTBOX_BYTES, Outbox, State};
@@ -52,6 +52,7 @@ impl Way {
         ensures hears { (start : codings.Coding) (text came went : List ℕ) → Hears start self.old.coding text self.old.out came went
             → Hears start self.new.coding text self.new.out (came ++ take result.used input.now) went }
         ensures state { Tells self.new.coding (result.used == length input.now) result.state }
+        ensures all { IsUsedUp self.new (drop result.used input.now) }
         ensures grows { IsFront self.old.out self.new.out }
         ensures full { result.state ≡ State.Full → OUTBOX_BYTES < length self.new.out + 18 }
     {

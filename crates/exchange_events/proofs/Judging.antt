@@ -1,6 +1,7 @@
 -- How an exchange with both sides active is judged, once what it held was used.
 use Rattle.std.proofs.Common.{◌≡◌, ◌≢◌, ℕ, false, refl, subst}
 use Rattle.exchange_machine.specs.Changes.{Uses}
+use Rattle.exchange_machine.specs.Ways.{IsUsedUp}
 use Rattle.exchange_machine.specs.Histories.{ExchangeHistory}
 use Rattle.exchange_machine.specs.Stages.{HoldsNoHead, IsForwarding}
 use Rattle.exchange_machine.specs.declared.forwarding.Forwarding.{Forwarding}
@@ -32,24 +33,31 @@ holds_none p dry other h is =
     let at = heads_of p.phase other in
     is.looked dry at.0 at.1
 
-pub judged_at_head : (p q r : Forwarding) (outcome : Outcome) (next : Exchange) → Uses p q → Uses q r → (p.phase ≡ Body → r.phase ≡ Body)
+pub judged_at_head : (p q r : Forwarding) (outcome : Outcome) (next : Exchange) → Uses p q → Uses q r
+    → IsUsedUp q.up q.up_held.items → (r.up ≡ q.up) × (r.up_held ≡ q.up_held) → (p.phase ≡ Body → r.phase ≡ Body)
     → ((h : ExchangeHistory) → IsForwarding p h → IsForwarding r h) → r.phase ≢ Body → AwaitsAnswer r outcome next → IsRelayJudged p outcome next
-judged_at_head p q r outcome next one two stays same heads awaits = record {
+judged_at_head p q r outcome next one two up kept stays same heads awaits = record {
   now = r;
   uses = uses_both p q r one two;
   stays = stays;
   same = same;
+  up_all = rw (kept.0, kept.1) up;
+  down_all = λ at. absurd (heads at);
   head = λ other. awaits;
   body = λ at. absurd (heads at);
 }
 
 pub judged_at_body : (p q r s : Forwarding) (outcome : Outcome) (next : Exchange) → Uses p q → Uses q r → Uses r s
+    → IsUsedUp q.up q.up_held.items → (r.up ≡ q.up) × (r.up_held ≡ q.up_held) → (s.up ≡ r.up) × (s.up_held ≡ r.up_held)
+    → IsUsedUp s.down s.down_held.items
     → ((h : ExchangeHistory) → IsForwarding p h → IsForwarding s h) → s.phase ≡ Body → AwaitsBody s outcome next → IsRelayJudged p outcome next
-judged_at_body p q r s outcome next one two three same body awaits = record {
+judged_at_body p q r s outcome next one two three up kept still down same body awaits = record {
   now = s;
   uses = uses_both p q s one (uses_both q r s two three);
   stays = λ at. body;
   same = same;
+  up_all = rw (still.0, still.1, kept.0, kept.1) up;
+  down_all = λ at. down;
   head = λ other. absurd (other body);
   body = λ at. awaits;
 }

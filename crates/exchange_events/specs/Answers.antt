@@ -10,12 +10,13 @@ use Rattle.http_texts.specs.Replies.{refusal_text}
 use Rattle.http_texts.specs.declared.refusals.Code.{Code}
 use Rattle.http_texts.specs.declared.refusals.Code.TheVariants.{BadGateway, BadRequest, Unavailable}
 use Rattle.exchange_machine.specs.Changes.{IsBegunOn, IsLeftOf, Uses, begun_after, left_after}
-use Rattle.exchange_machine.specs.Findings.{HeadStands}
+use Rattle.exchange_machine.specs.Findings.{LacksHeadRoom}
 use Rattle.exchange_machine.specs.Histories.{ExchangeHistory, client_came, server_came}
 use Rattle.exchange_machine.specs.Reasons.{NoneFollows}
 use Rattle.exchange_machine.specs.Repeatables.{IsSentAgain, IsUntouched}
 use Rattle.exchange_machine.specs.Stages.{HoldsNoHead, IsChecked, IsForwarding}
 use Rattle.exchange_machine.specs.Wants.{is_none}
+use Rattle.exchange_machine.specs.Ways.{IsUsedUp}
 use Rattle.exchange_machine.specs.declared.asking.Turn.TheVariants as Turns
 use Rattle.exchange_machine.specs.declared.dialing.Dialing as dialings
 use Rattle.exchange_machine.specs.declared.dialing.Terms.{Terms}
@@ -130,7 +131,7 @@ pub record LacksAnswerHead (p : forwardings.Forwarding) (outcome : Outcome) (nex
 pub record WaitsForRoom (p : forwardings.Forwarding) (outcome : Outcome) (next : Exchange) : Type 0 where
   pub count : ℕ
   pub heads : p.phase ≡ Heads count
-  pub stands : HeadStands p.view.method count p.down_held.items
+  pub room : LacksHeadRoom count p
   pub behind : p.down.out ≢ []
   pub relays : RelaysOn p outcome next
 
@@ -147,6 +148,8 @@ pub record IsRelayJudged (p : forwardings.Forwarding) (outcome : Outcome) (next 
   pub uses : Uses p now
   pub stays : p.phase ≡ Body → now.phase ≡ Body
   pub same : (h : ExchangeHistory) → IsForwarding p h → IsForwarding now h
+  pub up_all : IsUsedUp now.up now.up_held.items
+  pub down_all : now.phase ≡ Body → IsUsedUp now.down now.down_held.items
   pub head : now.phase ≢ Body → AwaitsAnswer now outcome next
   pub body : now.phase ≡ Body → AwaitsBody now outcome next
 

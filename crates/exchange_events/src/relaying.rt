@@ -1,13 +1,14 @@
 ghost use Rattle.std.specs.Prelude.{◌≡◌, ◌≢◌, ◌⊎◌, ◌+◌, ◌<◌, ◌≤◌, ℕ, Some, true, false, []};
 ghost use Rattle.http_bodies.specs.Stops.{is_bad};
 ghost use Rattle.exchange_machine.specs.Changes.{Uses};
-ghost use Rattle.exchange_machine.specs.Findings.{HeadStands};
+ghost use Rattle.exchange_machine.specs.Findings.{LacksHeadRoom};
 ghost use Rattle.exchange_machine.specs.declared.forwarding.Forwarding as forwardings;
 ghost use Rattle.exchange_machine.specs.Histories.{ExchangeHistory, posted, signed};
 ghost use Rattle.exchange_machine.specs.Reasons.{LacksAnswer, NoneFollows, told_for};
 ghost use Rattle.exchange_machine.specs.Repeatables.{IsRepeatable, IsUntouched};
 ghost use Rattle.exchange_machine.specs.Settlings.{IsRest};
 ghost use Rattle.exchange_machine.specs.Stages.{IsLeaving, IsForwarding};
+ghost use Rattle.exchange_machine.specs.Ways.{IsUsedUp};
 ghost use Rattle.exchange_events.specs.Answers as answers;
 ghost use Rattle.exchange_events.specs.Steps as steps;
 ghost use Rattle.http_texts.specs.declared.refusals.Code as codes;
@@ -46,10 +47,11 @@ fn read_heads(forwarding: &mut Forwarding, alloc: Global, left: u8) -> Headed
     ensures body { result ≡ Headed.Answer → forwarding.new.phase ≡ Down.Body }
     ensures heads { result ≢ Headed.Answer → forwarding.new.phase ≢ Down.Body }
     ensures more { result ≡ Headed.More → forwarding.new.looks ≡ false }
-    ensures full { result ≡ Headed.Full → (count : ℕ) × (forwarding.new.phase ≡ Down.Heads count) × HeadStands forwarding.new.view.method count forwarding.new.down_held.items }
+    ensures full { result ≡ Headed.Full → (count : ℕ) × (forwarding.new.phase ≡ Down.Heads count) × LacksHeadRoom count forwarding.new }
     ensures few { result ≡ Headed.Interim → (before : ℕ) × (count : ℕ) × (forwarding.old.phase ≡ Down.Heads before) × (forwarding.new.phase ≡ Down.Heads count) × (before + left < count) × (count ≤ 8) }
     ensures none { result ≡ Headed.Refused → (count : ℕ) × (forwarding.new.phase ≡ Down.Heads count) × NoneFollows forwarding.new.view.method count forwarding.new.down_held.items }
     ensures uses { Uses forwarding.old forwarding.new }
+    ensures up { (forwarding.new.up ≡ forwarding.old.up) × (forwarding.new.up_held ≡ forwarding.old.up_held) }
     ensures stays { forwarding.old.phase ≡ Down.Body → forwarding.new.phase ≡ Down.Body }
     ensures passes { (h : ExchangeHistory) → IsForwarding forwarding.old h → IsForwarding forwarding.new h }
     ensures refused { result ≡ Headed.Refused → (h : ExchangeHistory) → IsForwarding forwarding.old h → LacksAnswer forwarding.new.view.method h.server_in }
@@ -172,7 +174,8 @@ fn again(forwarding: Forwarding) -> Turned
 fn body_goes_on(mut forwarding: Forwarding) -> Turned
     ensures at { (h : ExchangeHistory) → IsForwarding forwarding h → steps.IsAtItsStage result.next (steps.ended result.outcome h) }
     ensures does { forwarding.phase ≡ Down.Body
-        → (now : forwardings.Forwarding) × Uses forwarding now × (now.phase ≡ Down.Body) × ((h : ExchangeHistory) → IsForwarding forwarding h → IsForwarding now h)
+        → (now : forwardings.Forwarding) × Uses forwarding now × (now.phase ≡ Down.Body) × (now.up ≡ forwarding.up) × (now.up_held ≡ forwarding.up_held)
+        × IsUsedUp now.down now.down_held.items × ((h : ExchangeHistory) → IsForwarding forwarding h → IsForwarding now h)
         × answers.AwaitsBody now result.outcome result.next }
     ensures fails { steps.FailsInTurn result.outcome result.next }
 {

@@ -1,12 +1,15 @@
 //! The heads that a server sends: they are found in its bytes, and handed on.
 
-ghost use Rattle.std.specs.Prelude.{◌≡◌, ◌≢◌, ◌<◌, ◌+◌, ◌⊎◌, ℕ, true, false, Some, IsSome};
+ghost use Rattle.std.specs.Prelude.{◌≡◌, ◌≢◌, ◌<◌, ◌+◌, ◌++◌, ◌⊎◌, ℕ, length, true, false, Some, IsSome};
 ghost use Rattle.exchange_machine.specs.Changes.{HasHeaded, Uses};
 ghost use Rattle.exchange_machine.specs.Histories.{ExchangeHistory};
 ghost use Rattle.exchange_machine.specs.Reasons.{LacksAnswer, NoneFollows};
-ghost use Rattle.exchange_machine.specs.Findings.{IsSeen, HeadStands};
+ghost use Rattle.exchange_machine.specs.Findings.{IsSeen, LacksHeadRoom};
 ghost use Rattle.exchange_machine.specs.Stages as stages;
+ghost use Rattle.http_bodies.specs.declared.outbox.TheConstants.{OUTBOX_BYTES};
 ghost use Rattle.http_texts.specs.Framings.{answer_plan, is_interim};
+ghost use Rattle.http_texts.specs.Persistences.{answer_says};
+ghost use Rattle.http_texts.specs.Texts.{answer_text, framed_for, interim_text};
 ghost use Rattle.req_view.specs.AnswerHeads.{SaysAnswer, WaitsForAnswer};
 
 use crate::forwarding::Forwarding;
@@ -78,7 +81,7 @@ impl Forwarding {
         ensures looks { result ≢ Headed.More → self.new.looks ≡ self.old.looks }
         ensures interim { result ≡ Headed.Interim → (count : ℕ) × (self.old.phase ≡ Down.Heads count) × (self.new.phase ≡ Down.Heads (count + 1)) × (count < 8) }
         ensures headed { result ≡ Headed.Answer → (self.new ≡ self.old) ⊎ HasHeaded self.old self.new }
-        ensures full { result ≡ Headed.Full → (count : ℕ) × (self.new.phase ≡ Down.Heads count) × HeadStands self.new.view.method count self.new.down_held.items }
+        ensures full { result ≡ Headed.Full → (count : ℕ) × (self.new.phase ≡ Down.Heads count) × LacksHeadRoom count self.new }
         ensures none { result ≡ Headed.Refused → (count : ℕ) × (self.new.phase ≡ Down.Heads count) × NoneFollows self.new.view.method count self.new.down_held.items }
         ensures refused { result ≡ Headed.Refused → (h : ExchangeHistory) → stages.IsForwarding self.old h → LacksAnswer self.new.view.method h.server_in }
     {
@@ -121,6 +124,7 @@ impl Forwarding {
         ensures up { (self.new.up ≡ self.old.up) × (self.new.up_held ≡ self.old.up_held) }
         ensures looks { self.new.looks ≡ self.old.looks }
         ensures full { result ≡ Headed.Full → self.new ≡ self.old }
+        ensures room { result ≡ Headed.Full → OUTBOX_BYTES < length (self.old.down.out ++ interim_text (framed_for self.old.view.version) head.now) }
     {
         let framed = is_framed(self.view.version());
         let Ok(text) = interim_head(alloc, head, framed) else {
@@ -148,6 +152,7 @@ impl Forwarding {
         ensures up { (self.new.up ≡ self.old.up) × (self.new.up_held ≡ self.old.up_held) }
         ensures looks { self.new.looks ≡ self.old.looks }
         ensures full { result ≡ Headed.Full → self.new ≡ self.old }
+        ensures room { result ≡ Headed.Full → OUTBOX_BYTES < length (self.old.down.out ++ answer_text (answer_says self.old.willing self.old.view plan) (framed_for self.old.view.version) head.now plan) }
     {
         let framed = is_framed(self.view.version());
         let says = answer_says(self.willing, &self.view, plan);

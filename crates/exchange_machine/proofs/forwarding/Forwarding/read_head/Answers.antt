@@ -1,8 +1,12 @@
 use Rattle.exchange_machine.proofs.EventLemmas.{forwarding_marked, head_refused, none_follows}
-use Rattle.std.proofs.Common.{List, ℕ, refl, subst}
+use Rattle.std.proofs.Common.{◌∙◌, List, ℕ, ap, refl, subst, sym}
 use Rattle.exchange_machine.specs.Stages.{AwaitsAnswerHead}
 use Rattle.exchange_machine.proofs.HeadEnds.{may_come}
 use Rattle.exchange_machine.specs.Reasons.{NoneFollows}
+use Rattle.exchange_machine.specs.Findings.{IsSeen, LacksHeadRoom}
+use Rattle.exchange_machine.specs.declared.forwarding.Forwarding.{Forwarding}
+use Rattle.exchange_machine.specs.declared.heading.Seen.TheVariants.{Final}
+use Rattle.http_texts.specs.declared.roles.Role.TheVariants as Roles
 use Rattle.exchange_machine.proofs.forwarding.Forwarding.read_head.Goals as goal
 
 pub returns-in-Refused-clause-refused : goal.returns-in-Refused-clause-refused
@@ -31,3 +35,21 @@ returns-in-Final-clause-interim c interim = absurd (c.forward_final.ensures.answ
 
 pub returns-in-Refused-clause-interim : goal.returns-in-Refused-clause-interim
 returns-in-Refused-clause-interim c interim = absurd (c.headed_for.ensures.unanswered.2 interim)
+
+pub returns-in-Final-clause-full : goal.returns-in-Final-clause-full
+returns-in-Final-clause-full c is =
+    let same = c.forward_final.ensures.full is in
+    let held = subst (λ (l : List ℕ). IsSeen c.method.result.now c.in-Heads.count l (Final c.in-Final.head c.in-Final.len c.in-Final.plan)) c.as_slice.ensures.value c.in-Final.ensures in
+    let seen = subst (λ (m : List ℕ). IsSeen m c.in-Heads.count c.args.self.now.down_held.items (Final c.in-Final.head c.in-Final.len c.in-Final.plan)) c.method.ensures held in (
+      c.in-Heads.count,
+      ap (λ (p : Forwarding). p.phase) same ∙ c.in-Heads.is,
+      subst (λ (p : Forwarding). LacksHeadRoom c.in-Heads.count p) (sym same) (record {
+        answer = c.in-Final.head;
+        len = c.in-Final.len;
+        says = seen.0;
+        role = Roles.Final c.in-Final.plan;
+        handed = λ wrong. cc;
+        its = seen.1;
+        room = c.forward_final.ensures.room is;
+      }),
+    )

@@ -1,11 +1,12 @@
 -- How an exchange with both sides active is judged, once what it held was used.
-use Rattle.std.proofs.Common.{◌≡◌, ◌≢◌, ℕ, false, refl, subst}
+use Rattle.std.proofs.Common.{◌≡◌, ◌≢◌, ℕ, false, List, [], ◌∷◌, ◌++◌, inl, inr, refl, subst}
 use Rattle.exchange_machine.specs.Changes.{Uses}
 use Rattle.exchange_machine.specs.Ways.{IsUsedUp}
 use Rattle.exchange_machine.specs.Histories.{ExchangeHistory}
 use Rattle.exchange_machine.specs.Stages.{HoldsNoHead, IsForwarding}
 use Rattle.exchange_machine.specs.declared.forwarding.Forwarding.{Forwarding}
 use Rattle.exchange_machine.specs.declared.sides.Down.{Down}
+use Rattle.exchange_machine.specs.declared.way.Way.{Way}
 use Rattle.exchange_machine.specs.declared.sides.Down.TheVariants.{Body, Heads}
 use Rattle.exchange_events.specs.Answers.{AwaitsAnswer, AwaitsBody, IsRelayJudged}
 use Rattle.exchange_events.specs.declared.exchange.Exchange.{Exchange}
@@ -26,6 +27,12 @@ uses_both p q r one two = subst (λ s. r ≡ record s {
 heads_of : (d : Down) → d ≢ Body → (count : ℕ) × (d ≡ Heads count)
 heads_of (Heads count) other = (count, refl)
 heads_of Body other = absurd (other refl)
+
+-- where some bytes are left, more of them behind change nothing
+pub used_up_more : (way : Way) (left more : List ℕ) → left ≢ [] → IsUsedUp way left → IsUsedUp way (left ++ more)
+used_up_more way [] more some used = absurd (some refl)
+used_up_more way (byte ∷ left) more some (inl none) = absurd (some none)
+used_up_more way (byte ∷ left) more some (inr other) = inr other
 
 -- where no line has ended since the last look, no whole head is held
 pub holds_none : (p : Forwarding) → p.looks ≡ false → p.phase ≢ Body → HoldsNoHead p

@@ -1,5 +1,5 @@
 -- What events make of exchanges, at worked examples: what must hold, and what must not.
-use Rattle.std.proofs.Common.{◌≡◌, Bool, true, false, refl, arith}
+use Rattle.std.proofs.Common.{◌≡◌, Bool, true, false, [], codes, inl, inr, refl, arith}
 use Rattle.base_verdict.specs.declared.Ending.TheVariants.{Done, Failed}
 use Rattle.grant_board.specs.Views.{Grant}
 use Rattle.http_bodies.specs.Stops.{is_bad}
@@ -9,7 +9,9 @@ use Rattle.exchange_machine.specs.declared.asking.Turn.TheVariants as Turns
 use Rattle.exchange_machine.specs.declared.dialing.Dialing as dialings
 use Rattle.exchange_machine.specs.declared.forwarding.Forwarding as forwardings
 use Rattle.exchange_machine.specs.declared.waiting.Waiting as waitings
-use Rattle.exchange_events.specs.Answers.{AwaitsHead, HasHeardEnd, HasReadOn, LosesClient, IsGranted, MissesServer, IsHalfClosed}
+use Rattle.exchange_machine.specs.Ways.{IsUsedUp}
+use Rattle.http_bodies.specs.declared.coding.Coding.TheVariants.{Length, ToEnd}
+use Rattle.exchange_events.specs.Answers.{AwaitsHead, Fills, HasHeardEnd, HasReadOn, LosesClient, IsGranted, MissesServer, IsHalfClosed}
 use Rattle.exchange_events.specs.declared.exchange.Exchange.TheVariants.{Waiting, Dialing, Forwarding, Over}
 use Rattle.exchange_events.specs.declared.exchange.Outcome.TheVariants.{Quiet, Posts, Returns}
 
@@ -70,3 +72,22 @@ hears_an_end p = (refl, refl)
 
 hears_no_more : (p : forwardings.Forwarding) → ¬ (HasHeardEnd true p 1 (record p { ended = true; well = true }))
 hears_no_more p is = omega (arith, is.0)
+
+-- all bytes of a head are held, and not half of them
+all_fit : Fills [] 4 (codes "GET ")
+all_fit = refl
+
+half_of_them : ¬ (Fills [] 2 (codes "GET "))
+half_of_them fills = omega (arith, fills)
+
+-- a body to the end of the input takes each byte that has room; one that is whole takes none
+some_left : ¬ (IsUsedUp (record { coding = ToEnd; out = [] }) (codes "a"))
+some_left used = elim used [
+  | inl none ↦ cc
+  | inr (inl done) ↦ cc
+  | inr (inr (inl bad)) ↦ cc
+  | inr (inr (inr full)) ↦ omega (arith, full)
+]
+
+behind_a_whole_body : IsUsedUp (record { coding = Length 0; out = [] }) (codes "a")
+behind_a_whole_body = inr (inl refl)

@@ -1,6 +1,6 @@
 -- What an event makes of an exchange, beyond its history: how much of it is taken, what is given
 -- away, and the next exchange.
-use Rattle.std.specs.Prelude.{◌≡◌, ◌≢◌, ◌⊎◌, ℕ, ◌+◌, ◌≤◌, min, Bool, true, false, if◌then◌else◌, List, [], ◌++◌, length, take, drop}
+use Rattle.std.specs.Prelude.{◌≡◌, ◌≢◌, ◌⊎◌, ℕ, ◌+◌, ◌-◌, ◌≤◌, min, Bool, true, false, if◌then◌else◌, List, [], ◌++◌, length, take, drop}
 use Rattle.base_verdict.specs.declared.Ending.TheVariants.{Done, Failed}
 use Rattle.grant_board.specs.Views.{Grant}
 use Rattle.http_bodies.specs.Stops.{is_bad, is_done}
@@ -198,15 +198,32 @@ HasReadOn outcome x = ⊥
 abbrev pub IsReadOn : Exchange → Type 0
 IsReadOn next = (outcome : Outcome) × HasReadOn outcome next
 
--- bytes came from the client, of which none are used once the server takes no more
+-- bytes came that are held: as many as fit into 16 KiB behind those that are held already
+abbrev pub Fills : List ℕ → ℕ → List ℕ → Type 0
+Fills held used input = used ≡ min (length input) (16384 - length held)
+
+-- Bytes of a request's body came: none are used once the server takes no more; until then they are
+-- used behind those that are held, up to the body's end and as far as there is room.
+pub record HasUsedRequest (input : List ℕ) (p : forwardings.Forwarding) (used : ℕ) (now : forwardings.Forwarding) : Type 0 where
+  pub by : HasUsed client_came input p used now
+  pub cut : p.cut ≡ true → used ≡ 0
+  pub all : p.cut ≡ false → IsUsedUp now.up (now.up_held.items ++ drop used input)
+
+-- Bytes came from the server: those of the answer's body are used up to its end and as far as there
+-- is room, where none are held before them; others are held, or none where there is no memory.
+pub record HasUsedAnswer (input : List ℕ) (p : forwardings.Forwarding) (used : ℕ) (now : forwardings.Forwarding) : Type 0 where
+  pub by : HasUsed server_came input p used now
+  pub body : p.phase ≡ Body → p.down_held.items ≡ [] → IsUsedUp now.down (drop used input)
+  pub held : (p.phase ≡ Body → p.down_held.items ≢ []) → Fills p.down_held.items used input ⊎ (used ≡ 0)
+
+-- bytes came from the client: those of a head are held, unless memory is short
 abbrev pub HearsClient : List ℕ → Exchange → ℕ → Outcome → Exchange → Type 0
-HearsClient input (Asking a) used outcome next = HasReadOn outcome next
-HearsClient input (Forwarding p) used outcome next = RelayHears (HasUsed client_came input) (Forwarding p) used outcome next × (p.cut ≡ true → used ≡ 0)
-HearsClient input x used outcome next = RelayHears (HasUsed client_came input) x used outcome next
+HearsClient input (Asking a) used outcome next = HasReadOn outcome next × (Fills a.held.items used input ⊎ (outcome ≡ Starved))
+HearsClient input x used outcome next = RelayHears (HasUsedRequest input) x used outcome next
 
 -- bytes came from the server
 abbrev pub HearsServer : List ℕ → Exchange → ℕ → Outcome → Exchange → Type 0
-HearsServer input x used outcome next = RelayHears (HasUsed server_came input) x used outcome next
+HearsServer input x used outcome next = RelayHears (HasUsedAnswer input) x used outcome next
 
 -- once both sides are done, the client took this number of the bytes that still wait for it
 abbrev pub TellsSettling : ℕ → settlings.Settling → ℕ → Exchange → Type 0

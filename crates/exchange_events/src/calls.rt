@@ -1,10 +1,12 @@
-ghost use Rattle.std.specs.Prelude.{◌≡◌, ◌≤◌, ℕ, List, [], true, false, Some, IsTrue, length, min, take};
+ghost use Rattle.std.specs.Prelude.{◌≡◌, ◌≢◌, ◌≤◌, ◌⊎◌, ◌++◌, ℕ, List, [], true, false, Some, IsTrue, length, min, take, drop};
 ghost use Rattle.exchange_machine.specs.Changes.{Uses};
 ghost use Rattle.exchange_machine.specs.Histories.{ExchangeHistory, client_came, server_came, server_got, client_got, signed};
 ghost use Rattle.exchange_machine.specs.Reasons.{told_for};
 ghost use Rattle.exchange_machine.specs.declared.dialing.Terms.{Terms};
 ghost use Rattle.exchange_machine.specs.declared.signs.Sign.{Sign};
 ghost use Rattle.exchange_machine.specs.Stages.{IsAsking, IsChecked, IsDialing, IsForwarding, IsTurn, IsUnread};
+ghost use Rattle.exchange_machine.specs.Ways.{IsUsedUp};
+ghost use Rattle.exchange_machine.specs.declared.sides.Down.TheVariants as down;
 ghost use Rattle.exchange_events.specs.Answers as answers;
 ghost use Rattle.exchange_events.specs.Steps as steps;
 ghost use Rattle.http_texts.specs.declared.additions.Additions as additions;
@@ -74,7 +76,7 @@ pub(crate) fn client_bytes(exchange: Exchange, alloc: Global, input: &[u8]) -> S
 fn asking_bytes(asking: Asking, alloc: Global, input: &[u8]) -> Step
     ensures within { result.used ≤ length input.now }
     ensures at { (h : ExchangeHistory) → IsAsking asking h → steps.IsAtItsStage result.next (steps.ended result.outcome (client_came h (take result.used input.now))) }
-    ensures does { answers.HasReadOn result.outcome result.next }
+    ensures does { answers.HearsClient input.now (Exchange.Asking asking) result.used result.outcome result.next }
     ensures fails { steps.FailsInTurn result.outcome result.next }
 {
     let (used, turn) = asking.client_bytes(alloc, input);
@@ -89,6 +91,7 @@ fn asking_bytes(asking: Asking, alloc: Global, input: &[u8]) -> Step
 fn begun(turn: Turn) -> Turned
     ensures at { (h : ExchangeHistory) → IsTurn turn h → steps.IsAtItsStage result.next (steps.ended result.outcome h) }
     ensures does { IsChecked turn → answers.HasReadOn result.outcome result.next }
+    ensures starved { turn ≡ Turn.Refused Fault.NoMemory → result.outcome ≡ Outcome.Starved }
     ensures fails { steps.FailsInTurn result.outcome result.next }
 {
     match turn {
@@ -105,6 +108,7 @@ fn begun(turn: Turn) -> Turned
 }
 
 fn unread(why: Fault) -> Turned
+    ensures starved { why ≡ Fault.NoMemory → result.outcome ≡ Outcome.Starved }
     ensures at { (h : ExchangeHistory) → IsUnread why h → steps.IsAtItsStage result.next (steps.ended result.outcome h) }
     ensures does { answers.HasReadOn result.outcome result.next }
     ensures fails { steps.FailsInTurn result.outcome result.next }
@@ -141,6 +145,7 @@ fn take_request(forwarding: &mut Forwarding, input: &[u8]) -> usize
     ensures uses { Uses forwarding.old forwarding.new }
     ensures phase { forwarding.new.phase ≡ forwarding.old.phase }
     ensures cut { forwarding.old.cut ≡ true → result ≡ 0 }
+    ensures all { forwarding.old.cut ≡ false → IsUsedUp forwarding.new.up (forwarding.new.up_held.items ++ drop result input.now) }
     ensures passes { (h : ExchangeHistory) → IsForwarding forwarding.old h → IsForwarding forwarding.new (client_came h (take result input.now)) }
 {
     forwarding.use_held();
@@ -181,6 +186,8 @@ fn take_answer(forwarding: &mut Forwarding, input: &[u8]) -> usize
     ensures within { result ≤ length input.now }
     ensures uses { Uses forwarding.old forwarding.new }
     ensures phase { forwarding.new.phase ≡ forwarding.old.phase }
+    ensures all { forwarding.old.phase ≡ down.Body → forwarding.old.down_held.items ≡ [] → IsUsedUp forwarding.new.down (drop result input.now) }
+    ensures held { (forwarding.old.phase ≡ down.Body → forwarding.old.down_held.items ≢ []) → answers.Fills forwarding.old.down_held.items result input.now ⊎ (result ≡ 0) }
     ensures passes { (h : ExchangeHistory) → IsForwarding forwarding.old h → IsForwarding forwarding.new (server_came h (take result input.now)) }
 {
     if forwarding.is_at_body() && forwarding.holds_no_answer() {

@@ -253,5 +253,5 @@ module _ {framing : Framing} {framed : Bool} {c : Coding} {a b : Ends} (p : Forw
       → StopsAmid framing framed a b Faulty.Read
   part_at_end is other end none =
       let early = run_early framing framed ((p.used, p.text) ∷ []) c (c, p.feeds, refl) other is in
-      part_of (λ is. absurd (read_is_not_framing is)) (breaks_end (LacksBody framing) (IsUnfinished framing) p.moves end
+      part_of (λ is. absurd (read_is_not_framing is)) (breaks_end (LacksBody framing) (IsUnfinished framing) (λ l lacks. inr lacks) p.moves end
       (subst (LacksBody framing) (ap (λ l. p.used ++ l) (sym none)) early))

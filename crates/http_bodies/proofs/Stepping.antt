@@ -129,6 +129,7 @@ moves_breaks {a} {b} {c} {used} {text} {more_used} {more_text} {fault} Lacks Who
         | inl some ↦ inl some
         | inr wants ↦ inr (subst All (sym front) (want (b.pipe.inbox ++ q.taken) wants))
       ];
+      wanted = λ is. subst All (sym front) (want (b.pipe.inbox ++ q.taken) (q.wanted is));
     }
 
 pub moves_as : {a b : Ends} {used text same_used same_text : List ℕ} → used ≡ same_used → text ≡ same_text → Moves a b used text → Moves a b same_used same_text
@@ -175,6 +176,13 @@ stopped_by w0 w turns Turns by = inr refl
 stopped_by w0 w turns Read by = absurd by
 stopped_by w0 w turns Framing by = absurd by
 
+-- and no read
+stopped_by_no_read : (w0 w : Stream) (turns : ℕ) (fault : Fault) → StopsBy w0 w turns fault → fault ≡ Read → ⊥
+stopped_by_no_read w0 w turns Write by is = cc
+stopped_by_no_read w0 w turns Turns by is = cc
+stopped_by_no_read w0 w turns Read by is = absurd by
+stopped_by_no_read w0 w turns Framing by is = absurd by
+
 -- what waits is as it was where it wasn't written whole
 lingers_stopped : {w0 w : Stream} {turns0 turns : ℕ} {text : List ℕ} {fault : Fault} (waiting : List ℕ) → (e : Stops w0 w turns0 turns text fault)
     → waiting ≡ text → Lingers e.front.front e.front.rest waiting fault
@@ -206,6 +214,7 @@ breaks_flush {p0} {p} {w0} {w} {fault} s Wants stops held waits = let e = stops_
   waiting = lingers_stopped p.outbox e (waits ∙ sym (append-nil p0.outbox));
   blames = stops_blame fault p0 p w0 w s (p0.inbox ++ []) e.cause;
   undone = λ spent. inl e.left;
+  wanted = λ is. absurd (stopped_by_no_read w0 w p.turns fault e.cause is);
 }
 
 read_is_not_turns : Read ≡ Turns → ⊥
@@ -214,11 +223,17 @@ read_is_not_turns is = cc
 framing_is_not_turns : Framing ≡ Turns → ⊥
 framing_is_not_turns is = cc
 
+framing_is_not_read : Framing ≡ Read → ⊥
+framing_is_not_read is = cc
+
+turns_is_not_read : Turns ≡ Read → ⊥
+turns_is_not_read is = cc
+
 -- steps after which the input ended too early
-pub breaks_end : {a b : Ends} {used text : List ℕ} (Lacks Wants : List ℕ → Type 0) → Moves a b used text → IsAtEnd b.source.bytes
-    → Lacks (used ++ b.pipe.inbox)
+pub breaks_end : {a b : Ends} {used text : List ℕ} (Lacks Wants : List ℕ → Type 0) → ((l : List ℕ) → Lacks l → Wants l)
+    → Moves a b used text → IsAtEnd b.source.bytes → Lacks (used ++ b.pipe.inbox)
     → Breaks a b used text Lacks Wants Read
-breaks_end {a} {b} {used} Lacks Wants p end lacks = record {
+breaks_end {a} {b} {used} Lacks Wants want p end lacks = record {
   taken = p.taken;
   reads = p.reads;
   held = p.held;
@@ -226,6 +241,7 @@ breaks_end {a} {b} {used} Lacks Wants p end lacks = record {
   waiting = lingers_rest p.front b.pipe.outbox Read;
   blames = (p.good_writes, inr (p.good_reads, end, subst Lacks (sym p.held) lacks));
   undone = λ spent. absurd (read_is_not_turns spent);
+  wanted = λ is. want (a.pipe.inbox ++ p.taken) (subst Lacks (sym p.held) lacks);
 }
 
 -- no continuation of the input has what is wanted
@@ -240,6 +256,7 @@ breaks_framing {a} {b} {used} Lacks Wants p never = record {
   waiting = lingers_rest p.front b.pipe.outbox Framing;
   blames = (p.good_reads, p.good_writes, λ more. subst (λ (l : List ℕ). Lacks (l ++ more)) (sym p.held) (never more));
   undone = λ spent. absurd (framing_is_not_turns spent);
+  wanted = λ is. absurd (framing_is_not_read is);
 }
 
 -- the front of what is held is used, and nothing else is changed
@@ -274,6 +291,7 @@ breaks_unasked p s w none = record {
   waiting = lingers_rest [] p.outbox Turns;
   blames = (refl, refl, none);
   undone = λ spent. inr (append-nil p.inbox);
+  wanted = λ is. absurd (turns_is_not_read is);
 }
 
 -- a read failed, and nothing else is changed
@@ -288,4 +306,5 @@ breaks_read p0 p s0 s w held waits reads failed = record {
   waiting = lingers_rest [] p.outbox Read;
   blames = (refl, inl failed);
   undone = λ spent. absurd (read_is_not_turns spent);
+  wanted = λ is. append-nil p0.inbox;
 }

@@ -3,14 +3,17 @@ use base.Fml.{GName}
 use Rattle.std.proofs.Common.{◌≡◌, ℕ, List, [], Some, true, codes, length, length-append, refl, ap, arith, inl, inr}
 use Rattle.base_streams.specs.Streams.{Stream}
 use Rattle.httparse.specs.Grammar.LineEnd.{lf}
-use Rattle.http_bodies.specs.Framings.{IsBody, LacksBody}
-use Rattle.http_bodies.specs.Steps.{Ends, HoldsBack, Lingers}
+use Rattle.std.proofs.KnownBytes.{Consumes-nil}
+use Rattle.http_bodies.specs.Framings.{IsBody, LacksBody, IsUnfinished}
+use Rattle.http_bodies.specs.Steps.{Ends, ends, Breaks, HoldsBack, Lingers}
 use Rattle.http_bodies.specs.Stops.{LacksRoom}
 use Rattle.http_bodies.specs.Texts.{Remains, WaitsBehind, Wrote}
 use Rattle.http_bodies.specs.declared.coding.Coding.TheVariants as Coded
-use Rattle.http_bodies.specs.declared.fault.Fault.TheVariants.{Framing, Write, Turns}
+use Rattle.http_bodies.specs.declared.fault.Fault.TheVariants.{Framing, Read, Write, Turns}
 use Rattle.http_bodies.specs.declared.framing.Framing.TheVariants.{Length, ToEnd}
 use Rattle.http_bodies.specs.declared.outbox.TheConstants.{OUTBOX_BYTES}
+use Rattle.http_bodies.specs.declared.pipe.Pipe.{Pipe}
+use Rattle.http_bodies.proofs.Writing.{Wrote-nil}
 use Rattle.http_bodies.specs.Trailers.{print_trailers, IsTrailer}
 
 -- an empty line that ends in a line feed alone ends the trailers
@@ -125,4 +128,41 @@ not_again : ¬ (Lingers (codes "a") (codes "b") (codes "ab") Framing)
 not_again x = elim x.stopped [
   | inl none ↦ absurd (omega (arith, ap (length {A = ℕ}) x.waiting_is, length-append x.again (codes "b"), ap (length {A = ℕ}) none))
   | inr stopped ↦ elim stopped.1 [ inl is ↦ absurd (no_write is) | inr is ↦ absurd (no_turns is) ]
+]
+
+holding : List ℕ → ℕ → Pipe
+holding held turns = record { inbox = held; outbox = []; turns = turns }
+
+failing : GName → List ℕ → ℕ → Stream
+failing end bytes calls = record { name = end; bytes = Some bytes; calls = calls; failures = 1 }
+
+-- a read may fail where one byte of a body of two is held, and not behind both bytes
+failed_amid_a_body : (end : GName) (w : Stream) → Breaks (ends (holding (codes "a") 9) (stream end (codes "b") 0) w)
+    (ends (holding (codes "a") 8) (failing end (codes "b") 1) w) [] [] (LacksBody (Length 2)) (IsUnfinished (Length 2)) Read
+unfolding holding stream failing
+failed_amid_a_body end w = record {
+  taken = [];
+  reads = record {
+    same_source = refl;
+    same_sink = refl;
+    bytes = Consumes-nil (Some (codes "b"));
+    few = omega arith;
+    reads = omega arith;
+    writes = omega arith;
+    spent = omega arith;
+  };
+  held = refl;
+  writes = record { front = []; rest = []; wrote = Wrote-nil w; all = refl };
+  waiting = record { sent = []; again = []; front_is = refl; waiting_is = refl; stopped = inl refl };
+  blames = (refl, inl refl);
+  undone = λ is. cc;
+  wanted = λ is. inr (omega arith);
+}
+
+not_behind_a_body : (end : GName) (w : Stream) → ¬ (Breaks (ends (holding (codes "a") 9) (stream end (codes "b") 0) w)
+    (ends (holding [] 7) (failing end [] 2) w) (codes "ab") [] (LacksBody (Length 2)) (IsUnfinished (Length 2)) Read)
+unfolding holding stream failing
+not_behind_a_body end w x = elim (x.wanted refl) [
+  | inl is ↦ cc
+  | inr lacks ↦ absurd (omega (arith, lacks, ap (length {A = ℕ}) x.held))
 ]

@@ -65,7 +65,8 @@ pub record Lingers (front rest waiting : List ℕ) (fault : Fault) : Type 0 wher
 
 -- A fault was met. The pipe has taken `used` from what it held and read, and holds what is left. A
 -- front of what waited and of the text was written, and the rest of these waits. Where the turns were
--- spent, some of these wasn't written, or Wants says of what was held and read that more is wanted.
+-- spent, some of these wasn't written, or Wants says of what was held and read that more is wanted. A
+-- read that failed, or that met the end of the input, was made where more is wanted.
 pub record Breaks (old new : Ends) (used text : List ℕ) (Lacks Wants : List ℕ → Type 0) (fault : Fault) : Type 0 where
   pub taken : List ℕ
   pub reads : Reads old new taken
@@ -74,6 +75,7 @@ pub record Breaks (old new : Ends) (used text : List ℕ) (Lacks Wants : List �
   pub waiting : Lingers writes.front writes.rest new.pipe.outbox fault
   pub blames : Blames old new Lacks (old.pipe.inbox ++ taken) fault
   pub undone : fault ≡ Turns → (0 < length writes.rest) ⊎ Wants (old.pipe.inbox ++ taken)
+  pub wanted : fault ≡ Read → Wants (old.pipe.inbox ++ taken)
 
 -- Where nothing was read, nothing was written either, unless there was no room for what waited, for
 -- the text, and for the longest text of one more byte of the input.

@@ -1,15 +1,18 @@
 -- What a socket's answers make of an exchange, at worked examples: what must hold, and what must not.
-use Rattle.std.proofs.Common.{◌≡◌, arith, inl, inr, true, false, [], ◌∷◌, None, Some, refl}
+use Rattle.std.proofs.Common.{◌≡◌, ◌∙◌, ◌&&◌, not, arith, inl, inr, true, false, [], ◌∷◌, None, Some, refl, ap, sym}
 use Rattle.exchange_driver.specs.Answers.{Heard, Said, with_answers, dry_after, full_after}
 use Rattle.exchange_driver.specs.Wires.{Wire, HasHeard}
-use Rattle.exchange_driver.specs.Moves.{OfClient, OfServer, KeepsTurns, Makes, MakeAll, told_by_client, told_by_server}
+use Rattle.exchange_driver.specs.Moves.{OfClient, OfServer, KeepsTurns, IsWanted, Makes, MakeAll, told_by_client, told_by_server}
 use Rattle.exchange_driver.specs.declared.driving.Rest.TheVariants.{Waits, Again}
 use Rattle.exchange_driver.specs.declared.socket.ReadResult.TheVariants.{Bytes, Nothing, Ended}
 use Rattle.exchange_driver.specs.declared.socket.WriteResult.TheVariants.{Full}
 use Rattle.exchange_driver.specs.declared.socket.WriteResult.TheVariants as said
+use Rattle.exchange_machine.specs.Wants.{is_none}
+use Rattle.exchange_machine.specs.declared.asking.Asking as askings
+use Rattle.exchange_machine.specs.declared.forwarding.Forwarding as forwardings
 use Rattle.exchange_machine.specs.declared.waiting.Waiting as waitings
 use Rattle.exchange_events.specs.declared.exchange.Exchange.{Exchange}
-use Rattle.exchange_events.specs.declared.exchange.Exchange.TheVariants.{Waiting, Over}
+use Rattle.exchange_events.specs.declared.exchange.Exchange.TheVariants.{Asking, Waiting, Forwarding, Over}
 use Rattle.exchange_events.specs.declared.exchange.Outcome.TheVariants.{Quiet, Retries}
 
 -- nothing is there: nothing changes
@@ -36,6 +39,20 @@ breaks w = record { gives = refl; over = refl }
 -- no move changes nothing, and gives nothing away
 no_move_changes_none : (w : waitings.Waiting) → ¬ (MakeAll false (Waiting w) [] Quiet Over)
 no_move_changes_none w is = over_isnt_waiting w is.0
+
+-- an exchange whose request isn't whole looks for more of it; one that waits for its pass doesn't
+looks_for_more : (a : askings.Asking) → MakeAll false (Asking a) (OfClient (Heard Nothing) ∷ []) Quiet (Asking a)
+looks_for_more a = (Asking a, Quiet, refl, (refl, refl), inr (refl, refl, refl))
+
+looks_while_it_waits : (w : waitings.Waiting) → ¬ (MakeAll false (Waiting w) (OfClient (Heard Nothing) ∷ []) Quiet (Waiting w))
+looks_while_it_waits w (next, given, wanted, makes, others) = let no : false ≡ true = wanted in cc
+
+-- bytes of a request are written to a server that takes them, and to no other
+takes_them : (p : forwardings.Forwarding) → p.cut ≡ false → p.dialing ≡ false → is_none p.up.out ≡ false → IsWanted (Forwarding p) (OfServer (Said Full))
+takes_them p cut dialing some = rw (cut, dialing, some) refl
+
+takes_no_more : (p : forwardings.Forwarding) → p.cut ≡ true → p.dialing ≡ false → is_none p.up.out ≡ false → ¬ (IsWanted (Forwarding p) (OfServer (Said Full)))
+takes_no_more p cut dialing some wanted = let no : false ≡ true = sym (ap (λ b. not b && not p.dialing && not (is_none p.up.out)) cut) ∙ wanted in cc
 
 -- each side's answers, in their order
 own_answers : told_by_client (OfClient (Heard Nothing) ∷ OfServer (Said Full) ∷ OfClient (Heard (Bytes 3)) ∷ []) ≡ Heard Nothing ∷ Heard (Bytes 3) ∷ []

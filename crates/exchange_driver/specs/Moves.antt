@@ -6,6 +6,7 @@ use Rattle.exchange_driver.specs.declared.driving.Rest.TheVariants.{Again}
 use Rattle.exchange_driver.specs.declared.socket.ReadResult.TheVariants as reads
 use Rattle.exchange_driver.specs.declared.socket.WriteResult.TheVariants as writes
 use Rattle.exchange_events.specs.Answers.{HasHeardEnd, HasServed, RelayHears, HearsClient, HearsServer, IsCutOff, IsHalfClosed, LosesClient, TellsClient}
+use Rattle.exchange_events.specs.Steps.{reads_client, reads_server, to_client, writes_server}
 use Rattle.exchange_events.specs.declared.exchange.Exchange.{Exchange}
 use Rattle.exchange_events.specs.declared.exchange.Outcome.{Outcome}
 use Rattle.exchange_events.specs.declared.exchange.Outcome.TheVariants.{Quiet}
@@ -19,6 +20,18 @@ pub data Move : Type 0 where
   ServerWaited : Move
   ClientLacksMemory : Move
   ServerLacksMemory : Move
+
+-- The exchange wants this move: it takes more bytes of the side that is read, or whose waiting bytes
+-- are looked at; or it has bytes for the client; or it has some for a server that takes them.
+abbrev pub IsWanted : Exchange → Move → Type 0
+IsWanted x (OfClient (Heard result)) = reads_client x ≡ true
+IsWanted x (OfClient (Said result)) = to_client x ≢ []
+IsWanted x (OfServer (Heard result)) = reads_server x ≡ true
+IsWanted x (OfServer (Said result)) = writes_server x ≡ true
+IsWanted x ClientWaited = reads_client x ≡ true
+IsWanted x ServerWaited = reads_server x ≡ true
+IsWanted x ClientLacksMemory = reads_client x ≡ true
+IsWanted x ServerLacksMemory = reads_server x ≡ true
 
 -- What a move makes of an exchange: where nothing is there, or a socket is full, nothing. Else bytes
 -- came, as many as the socket said, or some waited, or some were taken; a side came to its end, without an error or with one; or it takes no more.
@@ -41,11 +54,11 @@ Makes aborts x ServerWaited outcome y = (input : List ℕ) × (0 < length input)
 Makes aborts x ClientLacksMemory outcome y = LosesClient x outcome y
 Makes aborts x ServerLacksMemory outcome y = (used : ℕ) × RelayHears (HasHeardEnd false) x used outcome y
 
--- these moves, one after the other; only the last one gave something away
+-- these moves, one after the other, each of which was wanted; only the last one gave something away
 abbrev pub MakeAll : Bool → Exchange → List Move → Outcome → Exchange → Type 0
 MakeAll aborts x [] outcome y = (y ≡ x) × (outcome ≡ Quiet)
 MakeAll aborts x (move ∷ moves) outcome y =
-    (next : Exchange) × (given : Outcome) × Makes aborts x move given next
+    (next : Exchange) × (given : Outcome) × IsWanted x move × Makes aborts x move given next
     × (((given ≡ Quiet) × MakeAll aborts next moves outcome y) ⊎ ((moves ≡ []) × (outcome ≡ given) × (y ≡ next)))
 
 -- the answers of the client's socket among them, and of the server's

@@ -1,11 +1,11 @@
 //! A single call of a socket, or a single look at its waiting bytes, and what the exchange makes of it.
 
-ghost use Rattle.std.specs.Prelude.{◌≡◌, ◌≢◌, ◌<◌, [], length};
+ghost use Rattle.std.specs.Prelude.{◌≡◌, ◌≢◌, ◌<◌, true, [], length};
 ghost use Rattle.exchange_driver.specs.Drives.{Drives, at_client, at_server};
 ghost use Rattle.exchange_driver.specs.Moves.{IsDriven};
 ghost use Rattle.exchange_driver.specs.Wires.{IsAsAnswered};
 ghost use Rattle.exchange_machine.specs.Histories.{ExchangeHistory};
-ghost use Rattle.exchange_events.specs.Steps.{IsAtItsStage, IsOwn, to_client, to_server};
+ghost use Rattle.exchange_events.specs.Steps.{IsAtItsStage, IsOwn, reads_client, reads_server, to_client, to_server, writes_server};
 
 use crate::driving::Settings;
 use crate::line::Line;
@@ -96,7 +96,8 @@ pub(crate) fn write_server<C: Socket, S: Socket>(
     client: &Line<C>,
     server: &mut Line<S>,
 ) -> Turned
-    requires { to_server exchange ≢ [] }
+    requires some { to_server exchange ≢ [] }
+    requires wanted { writes_server exchange ≡ true }
     ensures at { (h : ExchangeHistory) → IsAtItsStage exchange h → Drives client.now client.now server.old server.new (at_client result.did) (at_server result.did) h result.exchange result.outcome }
     ensures driven { IsDriven 1 settings.rules.aborts client.now.answers client.now.answers server.old.answers server.new.answers exchange result.outcome result.exchange }
     ensures answered { IsAsAnswered server.old server.new }
@@ -124,7 +125,8 @@ pub(crate) fn use_client<C: Socket, S: Socket>(
     client: &mut Line<C>,
     server: &Line<S>,
 ) -> Turned
-    requires { 0 < length client.old.waits }
+    requires some { 0 < length client.old.waits }
+    requires wanted { reads_client exchange ≡ true }
     ensures at { (h : ExchangeHistory) → IsAtItsStage exchange h → Drives client.old client.new server.now server.now (at_client result.did) (at_server result.did) h result.exchange result.outcome }
     ensures driven { IsDriven 1 settings.rules.aborts client.old.answers client.new.answers server.now.answers server.now.answers exchange result.outcome result.exchange }
     ensures answered { IsAsAnswered client.old client.new }
@@ -147,7 +149,8 @@ pub(crate) fn use_server<C: Socket, S: Socket>(
     client: &Line<C>,
     server: &mut Line<S>,
 ) -> Turned
-    requires { 0 < length server.old.waits }
+    requires some { 0 < length server.old.waits }
+    requires wanted { reads_server exchange ≡ true }
     ensures at { (h : ExchangeHistory) → IsAtItsStage exchange h → Drives client.now client.now server.old server.new (at_client result.did) (at_server result.did) h result.exchange result.outcome }
     ensures driven { IsDriven 1 settings.rules.aborts client.now.answers client.now.answers server.old.answers server.new.answers exchange result.outcome result.exchange }
     ensures answered { IsAsAnswered server.old server.new }
@@ -173,6 +176,7 @@ pub(crate) fn read_client<C: Socket, S: Socket>(
 ) -> Turned
     requires some { 0 < length buffer.old }
     requires first { client.old.waits ≡ [] }
+    requires wanted { reads_client exchange ≡ true }
     ensures at { (h : ExchangeHistory) → IsAtItsStage exchange h → Drives client.old client.new server.now server.now (at_client result.did) (at_server result.did) h result.exchange result.outcome }
     ensures driven { IsDriven 1 settings.rules.aborts client.old.answers client.new.answers server.now.answers server.now.answers exchange result.outcome result.exchange }
     ensures answered { IsAsAnswered client.old client.new }
@@ -209,6 +213,7 @@ pub(crate) fn read_server<C: Socket, S: Socket>(
 ) -> Turned
     requires some { 0 < length buffer.old }
     requires first { server.old.waits ≡ [] }
+    requires wanted { reads_server exchange ≡ true }
     ensures at { (h : ExchangeHistory) → IsAtItsStage exchange h → Drives client.now client.now server.old server.new (at_client result.did) (at_server result.did) h result.exchange result.outcome }
     ensures driven { IsDriven 1 settings.rules.aborts client.now.answers client.now.answers server.old.answers server.new.answers exchange result.outcome result.exchange }
     ensures answered { IsAsAnswered server.old server.new }

@@ -46,20 +46,20 @@ returns-in-Bytes-clause-at g c h is =
 
 pub returns-in-Nothing-clause-driven : goal.returns-in-Nothing-clause-driven
 returns-in-Nothing-clause-driven g c = rw (c.unmoved.ensures.exchange, c.unmoved.ensures.outcome)
-    (server_answered _ _ _ _ _ _ _ (Heard Nothing) (heard_nothing c.args.server.now c.read_now.new.self c.in-Nothing.ensures.heard) (refl, refl))
+    (server_answered _ _ _ _ _ _ _ (Heard Nothing) (heard_nothing c.args.server.now c.read_now.new.self c.in-Nothing.ensures.heard) c.requires.wanted (refl, refl))
 
 pub returns-in-Ended-true-clause-driven : goal.returns-in-Ended-true-clause-driven
 returns-in-Ended-true-clause-driven g c = rw (c.behind.ensures.exchange, c.behind.ensures.outcome)
-    (server_answered _ _ _ _ _ _ _ (Heard (Ended true)) (heard_end c.args.server.now c.read_now.new.self (subst (λ (well : Bool). HasHeard (Ended well) c.args.server.now c.read_now.new.self) c.in-Ended-true.well-test c.in-Ended-true.ensures.heard)) (c.step.result.used, c.step.ensures.does))
+    (server_answered _ _ _ _ _ _ _ (Heard (Ended true)) (heard_end c.args.server.now c.read_now.new.self (subst (λ (well : Bool). HasHeard (Ended well) c.args.server.now c.read_now.new.self) c.in-Ended-true.well-test c.in-Ended-true.ensures.heard)) c.requires.wanted (c.step.result.used, c.step.ensures.does))
 
 pub returns-in-Ended-false-clause-driven : goal.returns-in-Ended-false-clause-driven
 returns-in-Ended-false-clause-driven g c = rw (c.behind-in-Ended-false.ensures.exchange, c.behind-in-Ended-false.ensures.outcome)
-    (server_failed _ _ c.args.server.now c.read_now.new.self _ _ _ c.step-in-Ended-false.result.used (subst (λ (well : Bool). HasHeard (Ended well) c.args.server.now c.read_now.new.self) c.in-Ended-false.well-test c.in-Ended-false.ensures.heard) c.step-in-Ended-false.ensures.does)
+    (server_failed _ _ c.args.server.now c.read_now.new.self _ _ _ c.step-in-Ended-false.result.used (subst (λ (well : Bool). HasHeard (Ended well) c.args.server.now c.read_now.new.self) c.in-Ended-false.well-test c.in-Ended-false.ensures.heard) c.requires.wanted c.step-in-Ended-false.ensures.does)
 
 pub returns-in-Bytes-clause-driven : goal.returns-in-Bytes-clause-driven
 returns-in-Bytes-clause-driven g c = rw (c.behind-in-Bytes.ensures.exchange, c.behind-in-Bytes.ensures.outcome)
     (server_answered _ _ _ _ _ _ _ (Heard (Bytes c.in-Bytes.count)) (c.keep.ensures.answers ∙ heard_bytes c.args.server.now c.read_now.new.self c.in-Bytes.count c.in-Bytes.ensures.heard)
-    (_, omega (arith, c.in-Bytes.ensures.within, length-take c.in-Bytes.count c.read_now.new.buffer), c.step-step.result.used, c.step-step.ensures.does))
+    c.requires.wanted (_, omega (arith, c.in-Bytes.ensures.within, length-take c.in-Bytes.count c.read_now.new.buffer), c.step-step.result.used, c.step-step.ensures.does))
 
 pub returns-in-Nothing-clause-answered : goal.returns-in-Nothing-clause-answered
 returns-in-Nothing-clause-answered g c = answered_heard _ _ Nothing c.in-Nothing.ensures.heard c.in-Nothing.ensures.taken.1

@@ -15,7 +15,7 @@ returns-clause-at g c h is =
 
 pub returns-clause-driven : goal.returns-clause-driven
 returns-clause-driven g c = rw (c.behind.ensures.exchange, c.behind.ensures.outcome)
-    (server_waited _ _ _ _ _ _ _ c.taken.ensures.answers (_, rw c.waiting.ensures c.requires, c.step-step.result.used, c.step-step.ensures.does))
+    (server_waited _ _ _ _ _ _ _ c.taken.ensures.answers c.requires.wanted (_, rw c.waiting.ensures c.requires.some, c.step-step.result.used, c.step-step.ensures.does))
 
 pub returns-clause-answered : goal.returns-clause-answered
 returns-clause-answered g c = answered_kept _ _ c.taken.ensures.answers c.taken.ensures.told.0 c.taken.ensures.told.1

@@ -26,15 +26,15 @@ returns-in-Bytes-clause-at g c h is =
 
 pub returns-in-Full-clause-driven : goal.returns-in-Full-clause-driven
 returns-in-Full-clause-driven g c = rw (c.unmoved.ensures.exchange, c.unmoved.ensures.outcome)
-    (client_answered _ _ _ _ _ _ _ (Said Full) c.in-Full.ensures.said (refl, refl))
+    (client_answered _ _ _ _ _ _ _ (Said Full) c.in-Full.ensures.said c.requires (refl, refl))
 
 pub returns-in-Failed-clause-driven : goal.returns-in-Failed-clause-driven
 returns-in-Failed-clause-driven g c = rw (c.behind.ensures.exchange, c.behind.ensures.outcome)
-    (client_answered _ _ _ _ _ _ _ (Said Failed) c.in-Failed.ensures.said c.step.ensures.does)
+    (client_answered _ _ _ _ _ _ _ (Said Failed) c.in-Failed.ensures.said c.requires c.step.ensures.does)
 
 pub returns-in-Bytes-clause-driven : goal.returns-in-Bytes-clause-driven
 returns-in-Bytes-clause-driven g c = rw (c.behind-in-Bytes.ensures.exchange, c.behind-in-Bytes.ensures.outcome)
-    (client_answered _ _ _ _ _ _ _ (Said (Bytes c.in-Bytes.count)) c.in-Bytes.ensures.said (c.step-in-Bytes.result.used, c.step-in-Bytes.ensures.does))
+    (client_answered _ _ _ _ _ _ _ (Said (Bytes c.in-Bytes.count)) c.in-Bytes.ensures.said c.requires (c.step-in-Bytes.result.used, c.step-in-Bytes.ensures.does))
 
 pub returns-in-Full-clause-answered : goal.returns-in-Full-clause-answered
 returns-in-Full-clause-answered g c = answered_said _ _ Full c.in-Full.ensures.said c.in-Full.ensures.full c.in-Full.ensures.left.1

@@ -26,15 +26,15 @@ returns-in-Bytes-clause-at g c h is =
 
 pub returns-in-Full-clause-driven : goal.returns-in-Full-clause-driven
 returns-in-Full-clause-driven g c = rw (c.unmoved.ensures.exchange, c.unmoved.ensures.outcome)
-    (server_answered _ _ _ _ _ _ _ (Said Full) c.in-Full.ensures.said (refl, refl))
+    (server_answered _ _ _ _ _ _ _ (Said Full) c.in-Full.ensures.said c.requires.wanted (refl, refl))
 
 pub returns-in-Failed-clause-driven : goal.returns-in-Failed-clause-driven
 returns-in-Failed-clause-driven g c = rw (c.behind.ensures.exchange, c.behind.ensures.outcome)
-    (server_answered _ _ _ _ _ _ _ (Said Failed) c.in-Failed.ensures.said (c.step.result.used, c.step.ensures.does))
+    (server_answered _ _ _ _ _ _ _ (Said Failed) c.in-Failed.ensures.said c.requires.wanted (c.step.result.used, c.step.ensures.does))
 
 pub returns-in-Bytes-clause-driven : goal.returns-in-Bytes-clause-driven
 returns-in-Bytes-clause-driven g c = rw (c.behind-in-Bytes.ensures.exchange, c.behind-in-Bytes.ensures.outcome)
-    (server_answered _ _ _ _ _ _ _ (Said (Bytes c.in-Bytes.count)) c.in-Bytes.ensures.said (c.step-in-Bytes.result.used, c.step-in-Bytes.ensures.does))
+    (server_answered _ _ _ _ _ _ _ (Said (Bytes c.in-Bytes.count)) c.in-Bytes.ensures.said c.requires.wanted (c.step-in-Bytes.result.used, c.step-in-Bytes.ensures.does))
 
 pub returns-in-Full-clause-answered : goal.returns-in-Full-clause-answered
 returns-in-Full-clause-answered g c = answered_said _ _ Full c.in-Full.ensures.said c.in-Full.ensures.full c.in-Full.ensures.left.1

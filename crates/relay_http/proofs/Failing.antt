@@ -70,6 +70,7 @@ moves_fails {a} {b} {c} {used} {text} {more_used} {more_text} {fault} Why Whole 
         | inl some ↦ inl some
         | inr wants ↦ inr (subst All (sym front) (want (b.pipe.inbox ++ q.taken) wants))
       ];
+      wanted = λ is. subst All (sym front) (want (b.pipe.inbox ++ q.taken) (q.wanted is));
     }
 
 -- a fault of the relay's is one of a body of the same name
@@ -78,6 +79,12 @@ relayed_turns OfBody.Turns is = refl
 relayed_turns OfBody.Read is = cc
 relayed_turns OfBody.Write is = cc
 relayed_turns OfBody.Framing is = cc
+
+relayed_read : (fault : Body.Fault) → relayed fault ≡ Read → fault ≡ OfBody.Read
+relayed_read OfBody.Read is = refl
+relayed_read OfBody.Turns is = cc
+relayed_read OfBody.Write is = cc
+relayed_read OfBody.Framing is = cc
 
 head_is_not_turns : Head ≡ Turns → ⊥
 head_is_not_turns is = cc
@@ -90,6 +97,15 @@ memory_is_not_turns is = cc
 
 read_is_not_turns : Read ≡ Turns → ⊥
 read_is_not_turns is = cc
+
+head_is_not_read : Head ≡ Read → ⊥
+head_is_not_read is = cc
+
+framing_is_not_read : Framing ≡ Read → ⊥
+framing_is_not_read is = cc
+
+memory_is_not_read : NoMemory ≡ Read → ⊥
+memory_is_not_read is = cc
 
 blames_of : (fault : Body.Fault) (a b : Ends) (Lacks : List ℕ → Type 0) (Why : Fault → List ℕ → Type 0) (input : List ℕ)
     → ((l : List ℕ) → Lacks l → Why Read l) → ((l : List ℕ) → ((more : List ℕ) → Lacks (l ++ more)) → Why Framing l)
@@ -112,6 +128,7 @@ fails_of {a} {b} {fault = fault} Lacks Why Wants early bad p = record {
   writes = p.writes;
   blames = blames_of fault a b Lacks Why (a.pipe.inbox ++ p.taken) early bad p.blames;
   undone = λ spent. p.undone (relayed_turns fault spent);
+  wanted = λ is. p.wanted (relayed_read fault is);
 }
 
 pub fails_as : {a b : Ends} {used text same_used same_text : List ℕ} {fault : Fault} (Why : Fault → List ℕ → Type 0) (Wants : List ℕ → Type 0)
@@ -132,6 +149,7 @@ fails_less Why Wants used tail p = record {
   writes = p.writes;
   blames = p.blames;
   undone = p.undone;
+  wanted = p.wanted;
 }
 
 -- one amid a body: a part of it stands at the front of what was taken
@@ -161,6 +179,7 @@ fails_head {a} {b} Why Wants p why = record {
   writes = record { front = p.front; rest = b.pipe.outbox; wrote = p.writes; all = p.waiting };
   blames = (record { reads = p.good_reads; writes = p.good_writes }, subst (Why Head) (sym p.held) why);
   undone = λ spent. absurd (head_is_not_turns spent);
+  wanted = λ is. absurd (head_is_not_read is);
 }
 
 pub fails_framing : {a b : Ends} {used text : List ℕ} (Why : Fault → List ℕ → Type 0) (Wants : List ℕ → Type 0) → Moves a b used text
@@ -174,6 +193,7 @@ fails_framing {a} {b} Why Wants p why = record {
   writes = record { front = p.front; rest = b.pipe.outbox; wrote = p.writes; all = p.waiting };
   blames = (record { reads = p.good_reads; writes = p.good_writes }, subst (Why Framing) (sym p.held) why);
   undone = λ spent. absurd (framing_is_not_turns spent);
+  wanted = λ is. absurd (framing_is_not_read is);
 }
 
 -- or memory is wanting
@@ -188,13 +208,14 @@ fails_memory {a} {b} Why Wants p why = record {
   writes = record { front = p.front; rest = b.pipe.outbox; wrote = p.writes; all = p.waiting };
   blames = (record { reads = p.good_reads; writes = p.good_writes }, subst (Why NoMemory) (sym p.held) why);
   undone = λ spent. absurd (memory_is_not_turns spent);
+  wanted = λ is. absurd (memory_is_not_read is);
 }
 
--- or the input ended
+-- or the input ended where more is wanted
 pub fails_end : {a b : Ends} {used text : List ℕ} (Why : Fault → List ℕ → Type 0) (Wants : List ℕ → Type 0) → Moves a b used text → IsAtEnd b.source.bytes
-    → Why Read (used ++ b.pipe.inbox)
+    → Why Read (used ++ b.pipe.inbox) → Wants (used ++ b.pipe.inbox)
     → Fails a b used text Why Wants Read
-fails_end {a} {b} Why Wants p end why = record {
+fails_end {a} {b} Why Wants p end why wants = record {
   taken = p.taken;
   reads = p.reads;
   rest = b.pipe.inbox;
@@ -202,6 +223,7 @@ fails_end {a} {b} Why Wants p end why = record {
   writes = record { front = p.front; rest = b.pipe.outbox; wrote = p.writes; all = p.waiting };
   blames = (p.good_writes, inr (p.good_reads, end, subst (Why Read) (sym p.held) why));
   undone = λ spent. absurd (read_is_not_turns spent);
+  wanted = λ is. subst Wants (sym p.held) wants;
 }
 
 -- what was put, as a step
@@ -215,6 +237,13 @@ stops_blames OfBody.Read p0 p w0 w s Why input by = absurd by
 stops_blames OfBody.Write p0 p w0 w s Why input by = (refl, by)
 stops_blames OfBody.Turns p0 p w0 w s Why input by = (record { reads = refl; writes = by.0 }, by.1)
 stops_blames OfBody.Framing p0 p w0 w s Why input by = absurd by
+
+-- and no read
+stops_no_read : (fault : Body.Fault) (w0 w : Stream) (turns : ℕ) → StopsBy w0 w turns fault → relayed fault ≡ Read → ⊥
+stops_no_read OfBody.Read w0 w turns by is = absurd by
+stops_no_read OfBody.Write w0 w turns by is = cc
+stops_no_read OfBody.Turns w0 w turns by is = cc
+stops_no_read OfBody.Framing w0 w turns by is = absurd by
 
 pub fails_put : {p q : Pipe} {a b : Stream} {text : List ℕ} {fault : Body.Fault} (s : Stream) (Why : Fault → List ℕ → Type 0) (Wants : List ℕ → Type 0)
     → Halts p q a b text fault
@@ -235,6 +264,7 @@ fails_put {p} {q} {a} {b} {fault = fault} s Why Wants x = record {
   writes = x.stops.front;
   blames = stops_blames fault p q a b s Why (p.inbox ++ []) x.stops.cause;
   undone = λ spent. inl x.stops.left;
+  wanted = λ is. absurd (stops_no_read fault a b q.turns x.stops.cause is);
 }
 
 -- a step, and then a text that stopped on its way
@@ -275,6 +305,7 @@ fails_after {a} {p} {s} {w} {fault = fault} Why Wants q e x = record {
   writes = x.writes;
   blames = turns_same fault a p q s w Why (a.pipe.inbox ++ x.taken) e x.blames;
   undone = x.undone;
+  wanted = x.wanted;
 }
 
 explains : (fault : Fault) (a b : Ends) (Why : Fault → List ℕ → Type 0) (input : List ℕ) → Blames a b Why input fault → Explains Why fault input
@@ -310,6 +341,7 @@ misses_of {a} {b} {used} {text} {fault} Why Wants none x = record {
   text_is = ap (λ l. l ++ text) (sym none) ∙ x.writes.all;
   why = explains fault a b Why (a.pipe.inbox ++ x.taken) x.blames;
   undone = x.undone;
+  wanted = x.wanted;
 }
 
 -- a fault of the bytes is one of a body

@@ -91,7 +91,7 @@ pub fails_ended : {a b : Ends} (fault : Fault) → Moves a b [] [] → IsAtEnd b
 fails_ended Faulty.Head so_far end why = fails_head LacksRequest HasNoHead so_far why
 fails_ended Faulty.Framing so_far end why = fails_framing LacksRequest HasNoHead so_far why
 fails_ended Faulty.NoMemory so_far end why = fails_memory LacksRequest HasNoHead so_far tt
-fails_ended Faulty.Read so_far end why = fails_end LacksRequest HasNoHead so_far end why
+fails_ended Faulty.Read so_far end why = fails_end LacksRequest HasNoHead so_far end why why
 fails_ended Faulty.Write so_far end why = absurd why
 fails_ended Faulty.Turns so_far end why = absurd why
 fails_ended Faulty.Closed so_far end why = absurd why

@@ -61,6 +61,7 @@ thin_fault Why Wants same none x =
       text_is = p.text_is;
       why = p.why;
       undone = p.undone;
+      wanted = p.wanted;
     }
 
 -- a stream of which only the bytes matter

@@ -1,15 +1,18 @@
 -- Worked examples of what an exchange is after its calls.
-use Rattle.std.proofs.Common.{◌≡◌, ℕ, List, [], Some, true, false, codes, length, refl, ap, arith, inl, inr}
+use Rattle.std.proofs.Common.{◌≡◌, ℕ, Option, List, [], Some, true, false, codes, length, refl, ap, arith, inl, inr}
+use Rattle.std.proofs.KnownBytes.{Consumes-nil, Appends-nil}
 use base.Fml.{GName}
 use Rattle.base_streams.specs.Streams.{Stream}
+use Rattle.http_bodies.specs.Framings.{IsUnfinished}
 use Rattle.http_bodies.specs.Steps.{Ends}
-use Rattle.http_texts.specs.declared.fault.Fault.TheVariants.{Turns as TurnsSpent}
+use Rattle.http_bodies.specs.declared.framing.Framing.TheVariants.{Length}
+use Rattle.http_texts.specs.declared.fault.Fault.TheVariants.{Read, Turns as TurnsSpent}
 use Rattle.http_bodies.proofs.Writing.{Wrote-nil}
 use Rattle.http_texts.specs.Messages.{AreInterims}
 use Rattle.http_texts.specs.Messages.PartOfAnswered.{some_heads}
 use Rattle.http_texts.specs.declared.persistence.Persistence.TheVariants.{Close}
 use Rattle.relay_http.specs.Calls.{HoldsHead}
-use Rattle.relay_http.specs.Failures.{Blames, NoCause}
+use Rattle.relay_http.specs.Failures.{Blames, Misses, NoCause}
 use Rattle.relay_http.specs.States.{Serves, Marks}
 use Rattle.base_verdict.specs.declared.cause.Cause.TheVariants.{Aborted}
 use Rattle.base_verdict.specs.declared.Verdict.TheVariants.{Serve, Told}
@@ -51,4 +54,27 @@ unfolding stream
 not_held end method holds = elim (holds (omega arith)) [
   | inl wrote ↦ absurd (omega (arith, wrote.some))
   | inr full ↦ absurd (omega (arith, full))
+]
+
+-- a read may fail where one byte of a body of two is held, and not behind both bytes
+failed_amid_a_body : (w : Option (List ℕ))
+    → Misses (codes "a") (Some (codes "b")) (Some (codes "b")) w w [] [] NoCause (IsUnfinished (Length 2)) Read
+failed_amid_a_body w = record {
+  taken = [];
+  reads = Consumes-nil (Some (codes "b"));
+  rest = codes "a";
+  all = refl;
+  front = [];
+  left = [];
+  writes = Appends-nil w;
+  text_is = refl;
+  why = tt;
+  undone = λ is. cc;
+  wanted = λ is. inr (omega arith);
+}
+
+not_behind_a_body : (w : Option (List ℕ)) → ¬ (Misses (codes "a") (Some (codes "b")) (Some []) w w (codes "ab") [] NoCause (IsUnfinished (Length 2)) Read)
+not_behind_a_body w x = elim (x.wanted refl) [
+  | inl is ↦ cc
+  | inr lacks ↦ absurd (omega (arith, lacks, ap (length {A = ℕ}) x.all))
 ]

@@ -30,7 +30,8 @@ NoCause fault input = ⊥
 
 -- A fault was met. `used` stands at the front of what was held and read. A front of what waited and
 -- of the text was written. Where the turns were spent, some of these wasn't written, or Wants says of
--- what was held and read that more is wanted.
+-- what was held and read that more is wanted. A read that failed, or that met the end of the input,
+-- was made where more is wanted.
 pub record Fails (old new : Ends) (used text : List ℕ) (Why : Fault → List ℕ → Type 0) (Wants : List ℕ → Type 0) (fault : Fault) : Type 0 where
   pub taken : List ℕ
   pub reads : Reads old new taken
@@ -39,6 +40,7 @@ pub record Fails (old new : Ends) (used text : List ℕ) (Why : Fault → List �
   pub writes : WritesFront old.sink new.sink (old.pipe.outbox ++ text)
   pub blames : Blames old new Why (old.pipe.inbox ++ taken) fault
   pub undone : fault ≡ Turns → (0 < length writes.rest) ⊎ Wants (old.pipe.inbox ++ taken)
+  pub wanted : fault ≡ Read → Wants (old.pipe.inbox ++ taken)
 
 -- the meaning of the fault for the input, where the fault is one of the bytes, or whether it can be met at all
 abbrev pub Explains : (Fault → List ℕ → Type 0) → Fault → List ℕ → Type 0
@@ -59,7 +61,8 @@ pub record Conveys (held rest : List ℕ) (r0 r w0 w : Option (List ℕ)) (used 
   pub writes : Appends w0 w text
 
 -- A fault was met: `used` stands at the front of what was held and read, and a front of the text was
--- written; where the turns were spent, not all of it, or more is wanted.
+-- written; where the turns were spent, not all of it, or more is wanted; and more is wanted where a
+-- read failed, or met the end of the input.
 pub record Misses (held : List ℕ) (r0 r w0 w : Option (List ℕ)) (used text : List ℕ) (Why : Fault → List ℕ → Type 0) (Wants : List ℕ → Type 0)
     (fault : Fault) : Type 0 where
   pub taken : List ℕ
@@ -72,6 +75,7 @@ pub record Misses (held : List ℕ) (r0 r w0 w : Option (List ℕ)) (used text :
   pub text_is : text ≡ front ++ left
   pub why : Explains Why fault (held ++ taken)
   pub undone : fault ≡ Turns → (0 < length left) ⊎ Wants (held ++ taken)
+  pub wanted : fault ≡ Read → Wants (held ++ taken)
 
 -- a front of the text was written
 pub record WrotePrefix (w0 w : Option (List ℕ)) (text : List ℕ) : Type 0 where

@@ -1,4 +1,4 @@
--- What is still wanted of a message where the turns are spent.
+-- What is still wanted of a message where the turns are spent, or a read fails.
 use Rattle.std.specs.Prelude.{◌≡◌, ℕ, List, ◌++◌, Some}
 use Rattle.httparse.specs.Grammar.{ResponseHead, print_response}
 use Rattle.http_bodies.specs.Framings.{IsUnfinished}

@@ -169,12 +169,13 @@ returns-then-came-eq0-clause-err g c =
     let are : AreInterims method hs = record { each = so_far.1; few = omega (arith, so_far.2, so_far.3) } in
     let came = c.in_ok-came-in-More.ensures in
     let same = c.held.ensures.value ∙ sym (came.none c.if-came-eq0.true) in
+    let none = subst (λ (l : List ℕ). HasNoAnswer l) same c.in-More.ensures.none in
     let read =
     moves_as (append-nil (print_heads hs)) (append-nil (interims_text framed hs)) (moves_trans so_far.4 (came.ok (g.K.Sink.stream c.heads.sink))) in (
       hs,
       are,
       fails_end (LacksAnswer method) (WantsAnswer method) read (came.end c.if-came-eq0.true)
-          (heads_then method hs Read c.fill.new.self.inbox are (subst (λ (l : List ℕ). HasNoAnswer l) same c.in-More.ensures.none)),
+          (heads_then method hs Read c.fill.new.self.inbox are none) (head_wanted method hs c.fill.new.self.inbox c.fill.new.self.inbox are none refl),
       λ at. absurd (read_not_framing at),
     )
 

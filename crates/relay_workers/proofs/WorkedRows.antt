@@ -139,7 +139,7 @@ left_at_once terms setup config exchange fresh = (
   exchange,
   record { notes = Some []; left = 0; view = new_relay terms false },
   record { notes = Some (NoMore ∷ []); left = 0; view = new_relay terms false },
-  ([], record { notes = Some []; left = 0; view = new_relay terms false }, (refl, refl), refl, refl, refl),
+  ([], record { notes = Some []; left = 0; view = new_relay terms false }, (refl, refl), refl, refl, refl, refl),
   refl,
   refl,
   fresh,

@@ -1,3 +1,4 @@
+pub mod WorkedRows
 pub mod Tabled
 pub mod Runners
 pub mod Patience

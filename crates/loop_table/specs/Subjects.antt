@@ -1,5 +1,5 @@
 -- The numbers by which a poll identifies its subjects.
-use Rattle.std.specs.Prelude.{◌≡◌, ◌<◌, ℕ, ◌+◌, ◌*◌}
+use Rattle.std.specs.Prelude.{◌≡◌, ◌≢◌, ◌<◌, ◌≤◌, ◌⊎◌, ℕ, ◌+◌, ◌*◌, ◌^◌}
 use Rattle.loop_table.specs.declared.token.Token.{Token}
 use Rattle.loop_table.specs.declared.subject.Subject.{Subject}
 use Rattle.loop_table.specs.declared.subject.Subject.TheVariants.{Listener, Mailbox, Client, Server, Waiting, Outside}
@@ -14,6 +14,15 @@ subject_number (Client token) = 8 * token_number token + 2
 subject_number (Server token) = 8 * token_number token + 3
 subject_number (Waiting place ticket) = 8 * (4096 * ticket + place) + 4
 subject_number (Outside token) = 8 * token_number token + 5
+
+-- its place or its ticket is too large for a number
+abbrev pub IsTooLarge : Subject → Type 0
+IsTooLarge (Waiting place ticket) = (4096 ≤ place) ⊎ (2 ^ 40 ≤ ticket)
+IsTooLarge _ = ⊥
+
+-- no subject has the number that this kind has above this one
+abbrev pub NamesNone : ℕ → ℕ → Type 0
+NamesNone kind above = (kind < 2 → 0 < above) × (kind ≡ 2 → 2 ^ 60 ≤ above) × (kind ≡ 3 → 2 ^ 60 ≤ above) × (kind ≢ 4) × (kind ≡ 5 → 2 ^ 60 ≤ above)
 
 -- the two are the same
 abbrev pub AreSame : Subject → Subject → Type 0

@@ -1,5 +1,5 @@
-ghost use Rattle.std.specs.Prelude.{◌≡◌, ◌<◌, ◌^◌, IfSome};
-ghost use Rattle.loop_table.specs.Subjects.{subject_number, AreSame};
+ghost use Rattle.std.specs.Prelude.{◌≡◌, ◌<◌, ◌≤◌, ◌^◌, ◌/◌, ◌%◌, IfNone, IfSome};
+ghost use Rattle.loop_table.specs.Subjects.{subject_number, AreSame, IsTooLarge, NamesNone};
 ghost use Rattle.loop_table.specs.declared.subject.Subject.{Subject};
 
 use crate::token::{MOST_CELLS, Token};
@@ -28,7 +28,8 @@ const TICKETS: u64 = 1 << 40;
 impl Subject {
     /// Returns its number for the poll; `None` where its place or its ticket is too large.
     pub fn number(self) -> Option<usize>
-        ensures { IfSome result (λ number. number ≡ subject_number self) }
+        ensures some { IfSome result (λ number. number ≡ subject_number self) }
+        ensures none { IfNone result (IsTooLarge self) }
     {
         match self {
             Subject::Listener => Some(0),
@@ -48,7 +49,8 @@ impl Subject {
 
     /// Returns the subject with this number, if any.
     pub fn of(number: usize) -> Option<Subject>
-        ensures { IfSome result (λ subject. subject_number subject ≡ number) }
+        ensures some { IfSome result (λ subject. subject_number subject ≡ number) }
+        ensures none { IfNone result (NamesNone (number % 8) (number / 8)) }
     {
         let above = number / 8;
         match number % 8 {
@@ -77,7 +79,8 @@ impl Token {
     }
 
     fn of(number: usize) -> Option<Token>
-        ensures { IfSome result (λ token. token_number token ≡ number) }
+        ensures some { IfSome result (λ token. token_number token ≡ number) }
+        ensures none { IfNone result (2 ^ 60 ≤ number) }
     {
         let (index, generation) = (number % MOST_CELLS, (number / MOST_CELLS) as u64);
         if generation < 1 << 40 {

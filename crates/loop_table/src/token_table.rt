@@ -151,6 +151,7 @@ impl<T> TokenTable<T> {
     pub fn token_of(&self, index: usize) -> Option<Token>
         ensures held { IfSome result (λ token. (value : T) × HasValue self.now token value) }
         ensures index { IfSome result (λ token. token.index ≡ index) }
+        ensures none { IfNone result ((token : Token) (value : T) → token.index ≡ index → ¬ (HasValue self.now token value)) }
     {
         let generation = *self.generations.as_slice().get(index)?;
         if GENERATIONS <= generation || MOST_CELLS <= index {

@@ -1,8 +1,7 @@
-use Rattle.std.proofs.Common.{◌≡◌, ◌+◌, ◌*◌, ◌<◌, ◌^◌, ℕ, arith}
-use Rattle.loop_table.specs.declared.token.Token.{Token}
+use Rattle.std.proofs.Common.{◌≡◌, ◌+◌, ◌*◌, ◌<◌, ℕ, arith}
 use Rattle.loop_table.specs.declared.subject.Subject.{Subject}
 use Rattle.loop_table.specs.declared.subject.Subject.TheVariants.{Listener, Mailbox, Client, Server, Waiting, Outside}
-use Rattle.loop_table.specs.Subjects.{subject_number, token_number, AreSame}
+use Rattle.loop_table.specs.Subjects.{subject_number, AreSame}
 use Rattle.loop_table.proofs.subject.numbers_differ.Goals as goal
 
 parts : (i j g h : ℕ) → i < 1048576 → j < 1048576 → g * 1048576 + i ≡ h * 1048576 + j → (i ≡ j) × (g ≡ h)

@@ -1,7 +1,5 @@
-use Rattle.std.proofs.Common.{◌≡◌, ◌<◌, Some, None, List, length, slice_get, refl, sym, ap, subst, ◌∙◌, arith}
-use Rattle.std.proofs.lemmas.Option.{slice_get_within, slice_get_read}
-use Rattle.loop_table.specs.TokenTables.{Table, IsNow, IsTokenTable}
-use Rattle.queue_waits.specs.Order.{Order}
+use Rattle.std.proofs.Common.{refl}
+use Rattle.std.proofs.lemmas.Option.{slice_get_read}
 use Rattle.loop_table.proofs.Tabled.{held_yes, held_others, within_now}
 use Rattle.loop_table.proofs.token_table.TokenTable.is_held.Goals as goal
 

@@ -1,4 +1,4 @@
-use Rattle.std.proofs.Common.{◌≡◌, slice_get, Some, None, subst, sym, arith}
+use Rattle.std.proofs.Common.{sym, arith}
 use Rattle.std.proofs.lemmas.Option.{slice_get_read}
 use Rattle.loop_table.proofs.Tabled.{first_among, low_generation, cells_opened, vacant, out_opened}
 use Rattle.loop_table.proofs.token_table.TokenTable.open.Goals as goal

@@ -1,6 +1,6 @@
 //! The threads that serve a proxy: by the command line, or by the configuration and the machine.
 
-ghost use Rattle.std.specs.Prelude.{◌≡◌, ◌≤◌};
+ghost use Rattle.std.specs.Prelude.{◌≡◌, ◌≤◌, IfSome};
 
 use crate::limits::{LoopSizes, MOST_LOOPS, MOST_WAITING, MOST_WORKERS, RunLimits};
 use proxy_config::Config;
@@ -22,6 +22,9 @@ pub struct Crew {
 pub fn crew_of(rt: &impl Threads, config: &Config, sizes: RunLimits) -> Crew
     ensures places { result.threads.places ≡ sizes.places }
     ensures requests { result.requests ≡ sizes.requests }
+    ensures loops { IfSome sizes.loops (λ loops. result.threads.loops ≡ loops) }
+    ensures workers { IfSome sizes.workers (λ workers. result.workers ≡ workers) }
+    ensures waiting { IfSome sizes.waiting (λ waiting. result.threads.waiting ≡ waiting) }
 {
     let slots = slots_of(config, sizes.places);
     let loops = match sizes.loops {

@@ -1,6 +1,6 @@
 //! What the threads of a proxy share beside its dispatcher.
 
-ghost use Rattle.std.specs.Prelude.{◌≡◌};
+ghost use Rattle.std.specs.Prelude.{◌≡◌, IfOk};
 
 use crate::fault::ServeFault;
 use crate::limits::LoopSizes;
@@ -46,7 +46,9 @@ pub fn service_parts_of<R: Clock + AllocGlobal>(
     options: RunOptions,
     threads: LoopSizes,
     wakes: WakeKey,
-) -> Result<ServiceParts, ServeFault> {
+) -> Result<ServiceParts, ServeFault>
+    ensures options { IfOk result (λ parts. (parts.keeping ≡ options.keeping) × (parts.reusing ≡ options.reusing) × (parts.window ≡ options.window) × (parts.forwarded_for ≡ options.forwarded_for)) }
+{
     let alloc = rt.alloc();
     let Ok(start) = Instant::now(rt) else {
         return Err(ServeFault::Read);
@@ -120,7 +122,10 @@ pub fn front_of<'a>(
     requests: u64,
     beside: &'a ServiceParts,
 ) -> GateShared<'a>
-    ensures { result.config.now ≡ config.now }
+    ensures config { result.config.now ≡ config.now }
+    ensures clients { result.clients.most ≡ requests }
+    ensures options { (result.keeping ≡ beside.now.keeping) × (result.reusing ≡ beside.now.reusing) × (result.window ≡ beside.now.window) × (result.forwarded_for ≡ beside.now.forwarded_for) }
+    ensures start { result.start ≡ beside.now.start }
 {
     GateShared {
         alloc,

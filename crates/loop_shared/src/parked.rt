@@ -1,3 +1,6 @@
+ghost use Rattle.std.specs.Prelude.{◌↔◌, IsTrue};
+ghost use Rattle.loop_shared.specs.Hopeless.{IsHopeless};
+
 use crate::presence::Presence;
 use dispatch_state::Ticketed;
 use due_key::Moment;
@@ -46,7 +49,9 @@ impl Parked {
     }
 
     /// Says whether its request is one of those, and isn't given up yet.
-    pub(crate) fn is_hopeless(&self, hopeless: &GivenUpSet) -> bool {
+    pub(crate) fn is_hopeless(&self, hopeless: &GivenUpSet) -> bool
+        ensures { IsTrue result ↔ IsHopeless self.now hopeless.now }
+    {
         if self.late {
             return false;
         }

@@ -1,4 +1,4 @@
-ghost use Rattle.std.specs.Prelude.{◌≡◌, ◌<◌, ◌≤◌, ◌↔◌, IsTrue, if◌then◌else◌, Some, None, vec_len};
+ghost use Rattle.std.specs.Prelude.{◌≡◌, ◌<◌, ◌≤◌, ◌↔◌, IsTrue, if◌then◌else◌, Some, None, is_some, true, vec_len};
 
 use crate::descriptors::ConnectionBounds;
 use crate::mail::Mailbox;
@@ -198,7 +198,9 @@ impl<N: DeskName + Ledger> Shared<'_, N> {
     /// requests, and whether the client may stay. A client may stay only as long as there is room
     /// for others.
     pub fn terms(&self, presence: &Presence, fresh: bool) -> Terms
-        ensures { result.fresh ≡ fresh }
+        ensures fresh { result.fresh ≡ fresh }
+        ensures adds { result.adds ≡ record { asks = if is_some self.now.front.now.reusing then Persistence.Persist else Persistence.Close; client = if self.now.front.now.forwarded_for then Some presence.now.address else None } }
+        ensures willing { result.willing ≡ true → is_some self.now.front.now.keeping ≡ true }
     {
         let asks = if self.front.reusing.is_some() {
             Persistence::Persist

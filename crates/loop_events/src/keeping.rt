@@ -1,8 +1,5 @@
 //! Guests in their cells: they are kept until there is more to do, and closed.
 
-ghost use Rattle.std.specs.Prelude.{◌≡◌};
-ghost use Rattle.loop_table.specs.TokenTables.{IsOut, filled};
-
 use crate::guest::{Guest, Keyword, Resident, Visit, Watch, break_off};
 use crate::looping::Looper;
 use crate::serving::MoreToDo;
@@ -117,9 +114,7 @@ impl<
     }
 
     /// Puts the occupant of a cell back there.
-    pub(crate) fn lay(&mut self, resident: Resident<N>, hole: Hole)
-        ensures { IsOut self.old.guests hole.token → self.new.guests ≡ filled self.old.guests hole.token resident }
-    {
+    pub(crate) fn lay(&mut self, resident: Resident<N>, hole: Hole) {
         match self.guests.fill(hole, resident) {
             Ok(()) => {}
             Err(resident) => self.let_go(resident),

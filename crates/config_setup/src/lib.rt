@@ -3,4 +3,4 @@
 
 mod setup;
 
-pub use setup::{limits_of, setup_of};
+pub use setup::{configured_limits_of, limits_of, setup_of};

@@ -67,3 +67,15 @@ pub fn limits_of(alloc: Global, setup: &Setup) -> Result<Vec<u32>, AllocError>
     }
     Ok(limits)
 }
+
+/// Returns the limits of a configuration's servers, in file order.
+pub fn configured_limits_of(alloc: Global, config: &Config) -> Result<Vec<u32>, AllocError>
+    ensures { IfOk result (λ limits. limits.items ≡ map (λ server. server.maxconn) config.now.servers) }
+{
+    let servers = config.servers.as_slice();
+    let mut limits = Vec::new(alloc);
+    for server in servers {
+        limits.push(server.maxconn)?;
+    }
+    Ok(limits)
+}

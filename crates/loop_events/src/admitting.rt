@@ -3,13 +3,12 @@
 use crate::accounting::{note_refused, note_ticket};
 use crate::guest::{Task, Visit};
 use crate::looping::Looper;
-use base_places::{MOST_PLACES, PlaceSet};
 use dispatch_state::Ticketed;
 use due_key::Moment;
 use exchange_seated::Linked;
 use locked_book::DeskName;
 use log_lines::{During, EndedBy};
-use loop_shared::{Admission, Gate, Outsider, Parked};
+use loop_shared::{Admission, Outsider, OwedAdmission, Parked};
 use loop_table::Token;
 use prio_rules::Wish;
 use std::net::{Net, TcpListener, TcpStream};
@@ -23,17 +22,22 @@ impl<
     R: Net<Listener = TcpListener, Stream = TcpStream> + Clock + Print + Wait,
 > Looper<'a, N, R> {
     /// Gives places to the requests that wait for one, in the order of those outside, as long as there are places.
-    pub(crate) fn admit_all(&mut self) {
+    pub(crate) fn admit_all(&mut self, owed: OwedAdmission) {
+        let mut owed = owed;
         for _ in self.rt.forever() {
-            if !self.shared.has_outside() {
-                return;
-            }
-            match self.shared.admit_first(self.rt, &mut self.gate) {
+            match self.shared.admit_first(self.rt, &mut self.gate, owed) {
                 Admission::Rests => return,
-                Admission::Admitted(outsider, at) => self.lay_down(outsider, at),
-                Admission::Refused(outsider) => self.refuse(outsider),
+                Admission::Admitted(outsider, at, left) => {
+                    self.lay_down(outsider, at);
+                    owed = left;
+                }
+                Admission::Refused(outsider, left) => {
+                    self.refuse(outsider);
+                    owed = left;
+                }
             }
         }
+        unreachable!()
     }
 
     // Puts the request at its place, and looks at the place afterwards.
@@ -47,7 +51,7 @@ impl<
         } = outsider;
         let mut presence = presence;
         note_ticket(&mut presence, at);
-        self.shared.park(
+        let look = self.shared.park(
             self.rt,
             Parked {
                 presence,
@@ -61,16 +65,7 @@ impl<
             },
         );
         self.shared.note_wait();
-        self.look_later_at(at.place);
-    }
-
-    /// Adds a place to those that the loop will look at.
-    pub(crate) fn look_later_at(&mut self, place: usize) {
-        let mut here = PlaceSet::new();
-        if place < MOST_PLACES {
-            here.insert(place);
-        }
-        self.gate.add_woken(&here);
+        look.put_off(&mut self.gate);
     }
 
     // Tells a request that it gets no place.
@@ -96,10 +91,11 @@ impl<
 
     /// Lets a request wait for a place. It comes back where there is no memory or no room for it.
     pub(crate) fn wait_outside(&mut self, wish: &Wish, outsider: Outsider) -> Result<(), Outsider> {
-        self.shared
+        let owed = self
+            .shared
             .come_outside(self.rt, &self.registry, wish, outsider)?;
         self.shared.note_wait();
-        self.freed = true;
+        self.owe(owed);
         Ok(())
     }
 

@@ -1,16 +1,21 @@
 //! From a pass to a connection to its server.
 
-ghost use Rattle.std.specs.Prelude.{◌≡◌, IfSome, true};
+ghost use Rattle.std.specs.Prelude.{◌≡◌, IfSome, Some, true};
+ghost use Rattle.std.specs.Bool.{OnTrue};
+ghost use Rattle.exchange_events.specs.Passes.{held_by};
+ghost use Rattle.exchange_seated.specs.Seats.{server_of};
 
 use crate::guest::{Guest, Task, Watch};
 use crate::keeping::NextLook;
 use crate::looping::Looper;
 use crate::serving::MoreToDo;
 use exchange_driver::Live;
-use exchange_seated::Notice;
+use exchange_seated::{Linked, Notice};
+use grant_board::BoardName;
 use locked_book::DeskName;
+use loop_shared::{DialFault, Dialed};
 use loop_table::{Hole, Token};
-use mio::net::TcpStream as Dialing;
+use std::alloc::Global;
 use std::net::{Net, TcpListener, TcpStream};
 use std::sync::Wait;
 use std::sync::ledger::Ledger;
@@ -66,8 +71,9 @@ impl<
         if self.takes_up(guest, server) {
             return Some(ConnectionOrigin::Used);
         }
-        let live = self.opened(server)?;
-        if guest.linked.open(self.settings.alloc, live) {
+        let server = guest.linked.seated().server()?;
+        let dialed = self.opened(server)?;
+        if link(&mut guest.linked, self.settings.alloc, dialed) {
             Some(ConnectionOrigin::Fresh)
         } else {
             None
@@ -75,15 +81,16 @@ impl<
     }
 
     // Opens a connection. Where the system is short of descriptors, an unused connection is closed first.
-    fn opened(&mut self, server: usize) -> Option<Live> {
-        let address = self.shared.address_of(self.rt, server)?;
-        let stream = match Dialing::connect(self.rt, address) {
-            Ok(stream) => stream,
-            Err(_) if self.close_any() => Dialing::connect(self.rt, address).ok()?,
-            Err(_) => return None,
-        };
-        let _ = stream.set_nodelay(true);
-        Some(Live::new(TcpStream::from(stream)))
+    fn opened(&mut self, server: usize) -> Option<Dialed>
+        ensures { IfSome result (λ dialed. dialed.server ≡ server) }
+    {
+        match self.shared.dial(self.rt, server) {
+            Ok(dialed) => Some(dialed),
+            Err(DialFault::NoConnection) if self.close_any() => {
+                self.shared.dial(self.rt, server).ok()
+            }
+            Err(_) => None,
+        }
     }
 
     // Registers a new connection with the poll.
@@ -151,6 +158,14 @@ impl<
         };
         MoreToDo::Goes(guest, hole)
     }
+}
+
+// Makes a connection to the server of its pass the connection of an exchange.
+fn link<N: BoardName + Ledger>(linked: &mut Linked<N, Live>, alloc: Global, dialed: Dialed) -> bool
+    requires { server_of (held_by linked.old.seated.exchange) ≡ Some dialed.server }
+    ensures { OnTrue result (linked.new.line.there ≡ true) }
+{
+    linked.open(alloc, dialed.into_live())
 }
 
 // Counts the connection's bytes from 0 for this exchange.

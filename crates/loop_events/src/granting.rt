@@ -1,6 +1,6 @@
 //! From a pass at a place to its guest, and back to the dispatcher.
 
-ghost use Rattle.std.specs.Prelude.{◌≡◌, [], false};
+ghost use Rattle.std.specs.Prelude.{◌≡◌, [], None};
 ghost use Rattle.loop_shared.specs.Looks.{OwesNoLook};
 
 use crate::accounting::note_cause;
@@ -8,12 +8,12 @@ use crate::guest::{Guest, Task, Visit, Watch};
 use crate::keeping::NextLook;
 use crate::looping::Looper;
 use crate::serving::MoreToDo;
-use base_verdict::{Cause, Ending, Verdict};
-use board_seats::{Lent, Taken};
+use base_verdict::{Cause, Verdict};
+use board_seats::Taken;
 use exchange_seated::{Linked, Posting, Stage};
 use locked_book::DeskName;
 use log_lines::{During, EndedBy};
-use loop_shared::{GrantedRequest, Looked, OwedLooks, Parked};
+use loop_shared::{GrantedRequest, Looked, OwedAdmission, OwedLook, OwedLooks, Parked};
 use loop_table::Hole;
 use std::net::{Net, TcpListener, TcpStream};
 use std::sync::Wait;
@@ -31,10 +31,10 @@ impl<
         ensures soon { self.new.agenda.soon ≡ [] }
     {
         for _ in self.rt.forever() {
-            let mut owed = OwedLooks::of(self.gate.take_woken());
+            let mut owed = OwedLooks::of_gate(&mut self.gate);
             match owed.next() {
-                Some(place) => {
-                    self.look_at(place);
+                Some(look) => {
+                    self.look_at(look);
                     self.look_at_all(owed);
                 }
                 None => {
@@ -54,15 +54,14 @@ impl<
     pub(crate) fn go_on_with_places(&mut self)
         ensures told { OwesNoLook self.new.gate.woken }
         ensures soon { self.new.agenda.soon ≡ [] }
-        ensures freed { self.new.freed ≡ false }
+        ensures freed { self.new.freed ≡ None }
     {
         for _ in self.rt.forever() {
             self.go_on();
-            if !self.freed {
+            let Some(owed) = self.freed.take() else {
                 return;
-            }
-            self.freed = false;
-            self.admit_all();
+            };
+            self.admit_all(owed);
         }
     }
 
@@ -70,15 +69,15 @@ impl<
         let mut owed = owed;
         for _ in self.rt.forever() {
             match owed.next() {
-                Some(place) => self.look_at(place),
+                Some(look) => self.look_at(look),
                 None => return owed.end(),
             }
         }
         unreachable!()
     }
 
-    fn look_at(&mut self, place: usize) {
-        match self.granted_at(place) {
+    fn look_at(&mut self, owed: OwedLook) {
+        match self.granted_at(owed) {
             Some(granted) => self.take_in(granted),
             None => {}
         }
@@ -86,16 +85,18 @@ impl<
 
     /// Looks at a place, and returns the request that waits there with its pass; `None` where no
     /// request waits there, or it waits on.
-    pub(crate) fn granted_at(&mut self, place: usize) -> Option<GrantedRequest<N>> {
-        match self.shared.look_at(self.rt, &self.registry, place) {
-            Looked::Granted(granted) => return Some(granted),
-            Looked::Waits | Looked::Nobody => {}
-            Looked::Unwatched(ticket) => {
-                let _ = self.shared.proxy.give_up(self.rt, &mut self.gate, ticket);
+    pub(crate) fn granted_at(&mut self, owed: OwedLook) -> Option<GrantedRequest<N>> {
+        let looked = self
+            .shared
+            .look_at(self.rt, &self.registry, &mut self.gate, owed);
+        match looked {
+            Looked::Granted(granted) => Some(granted),
+            Looked::Waits | Looked::Unwatched(_) | Looked::Nobody => None,
+            Looked::NoSeat(owed) => {
+                self.shared.look_again(self.rt, self.home, owed);
+                None
             }
-            Looked::NoSeat => self.shared.look_again(self.rt, self.home, place),
         }
-        None
     }
 
     // Puts a request with its verdict into a cell of this loop.
@@ -202,23 +203,25 @@ impl<
 
     /// Posts how an exchange ended, and collects it at its own place.
     pub(crate) fn post(&mut self, posting: Posting<N>) {
-        let place = posting.place();
-        let lent = posting.post(self.shared.proxy.desk.board());
-        self.return_seat(lent, place);
+        let owed = self.shared.post(self.rt, &mut self.gate, posting);
+        self.owe(owed);
     }
 
     // Posts a pass that no exchange used.
     fn give_back(&mut self, taken: Taken<N>) {
-        let place = taken.place();
-        let lent = taken.post(self.shared.proxy.desk.board(), Ending::Done);
-        self.return_seat(lent, place);
+        let owed = self.shared.give_back(self.rt, &mut self.gate, taken);
+        self.owe(owed);
     }
 
-    fn return_seat(&mut self, lent: Lent<N>, place: usize) {
-        self.shared.return_seat(self.rt, lent);
-        if self.shared.has(place) {
-            let _ = self.shared.proxy.collect(self.rt, &mut self.gate, place);
-            self.freed = true;
+    /// Notes that a place may have come free.
+    pub(crate) fn owe(&mut self, owed: OwedAdmission) {
+        let all = match self.freed.take() {
+            None => owed,
+            Some(earlier) => earlier.and(owed),
+        };
+        match self.freed.replace(all) {
+            None => {}
+            Some(_) => unreachable!(),
         }
     }
 }

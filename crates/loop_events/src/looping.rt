@@ -1,4 +1,4 @@
-ghost use Rattle.std.specs.Prelude.{◌≡◌, ◌<◌, [], false, vec_len};
+ghost use Rattle.std.specs.Prelude.{◌≡◌, ◌<◌, [], None, vec_len};
 ghost use Rattle.loop_shared.specs.Looks.{OwesNoLook};
 
 use crate::guest::{Guest, Resident};
@@ -9,7 +9,7 @@ use due_key::Moment;
 use exchange_driver::Settings;
 use locked_book::DeskName;
 use log_requests::RecordSink;
-use loop_shared::{Gate, Shared, SocketGate};
+use loop_shared::{Gate, Over, OwedAdmission, Shared, SocketGate};
 use loop_table::{Agenda, Subject, Timers, TokenTable};
 use mio::{Events, Poll, Registry};
 use std::net::{Net, TcpListener, TcpStream};
@@ -50,7 +50,7 @@ pub(crate) struct Looper<'a, N: DeskName + Ledger, R> {
     /// When the loop last tried again after a shortage.
     pub(crate) tried: Moment,
     /// A place may have come free for a request that waits for one.
-    pub(crate) freed: bool,
+    pub(crate) freed: Option<OwedAdmission>,
     /// The number of lingering clients, and the most that there may be.
     pub(crate) lingering: usize,
     pub(crate) most_lingering: usize,
@@ -68,7 +68,7 @@ impl<
     /// posts its passes.
     pub(crate) fn run(self, poll: Poll) {
         let mut looper = self;
-        looper.go_round(poll);
+        let over = looper.go_round(poll);
         looper.tell_of_rest();
         let Looper {
             rt,
@@ -87,22 +87,25 @@ impl<
             more: _,
             short: _,
             tried: _,
-            freed: _,
+            freed,
             lingering: _,
             most_lingering: _,
             teller: _,
         } = looper;
+        if let Some(owed) = freed {
+            owed.end_last(over);
+        }
         let mut residents = guests.into_values();
         while let Some(resident) = residents.pop() {
             match resident {
                 None => {}
-                Some(resident) => part_with(rt, shared, resident),
+                Some(resident) => part_with(rt, shared, resident, over),
             }
         }
         residents.destroy_empty();
     }
 
-    fn go_round(&mut self, poll: Poll) {
+    fn go_round(&mut self, poll: Poll) -> Over {
         let mut poll = poll;
         let Ok(mut events) = Events::with_capacity(self.shared.proxy.alloc, EVENTS) else {
             return self.shared.give_up(self.rt);
@@ -110,8 +113,8 @@ impl<
         let mut batches = 0;
         self.go_on_with_places();
         for _ in self.rt.forever() {
-            if self.shared.is_over() {
-                return;
+            if let Some(over) = self.shared.seen_over() {
+                return over;
             }
             self.sleep(&mut poll, &mut events, batches != 0);
             let now = self.gate.moment();
@@ -128,6 +131,7 @@ impl<
             }
             self.go_on_with_places();
         }
+        unreachable!()
     }
 
     // Waits until the poll reports something or a timeout expires, unless there is more to do. No
@@ -135,7 +139,7 @@ impl<
     fn sleep(&mut self, poll: &mut Poll, events: &mut Events, is_more: bool)
         requires told { OwesNoLook self.old.gate.woken }
         requires soon { self.old.agenda.soon ≡ [] }
-        requires freed { self.old.freed ≡ false }
+        requires freed { self.old.freed ≡ None }
     {
         let wait = if is_more { Some(0) } else { self.patience() };
         let _ = poll.poll(events, wait.map(Duration::from_millis));
@@ -180,8 +184,8 @@ impl<
 
     // Reads what other loops report of places.
     fn open_mail(&mut self) {
-        let places = self.shared.take_mail(self.rt, self.home);
-        self.gate.add_woken(&places);
+        let owed = self.shared.take_mail(self.rt, self.home);
+        owed.put_off(&mut self.gate);
         if self.shared.is_stopping() {
             self.more = true;
             self.dismiss_silent();
@@ -194,7 +198,12 @@ impl<
 }
 
 // Ends a guest when the loop ends: its pass is posted, and its seat is returned.
-fn part_with<R: Wait, N: DeskName + Ledger>(rt: &R, shared: &Shared<'_, N>, resident: Resident<N>) {
+fn part_with<R: Wait, N: DeskName + Ledger>(
+    rt: &R,
+    shared: &Shared<'_, N>,
+    resident: Resident<N>,
+    over: Over,
+) {
     match resident {
         Resident::Lingering(_lingering) => {}
         Resident::Unused(_unused) => {}
@@ -203,7 +212,7 @@ fn part_with<R: Wait, N: DeskName + Ledger>(rt: &R, shared: &Shared<'_, N>, resi
             let (presence, _client) = visit.into_client();
             match linked.abandon() {
                 None => {}
-                Some(posting) => shared.return_seat(rt, posting.post(shared.proxy.desk.board())),
+                Some(posting) => shared.post_last(rt, posting, over),
             }
             shared.note_end(rt, presence);
         }

@@ -110,7 +110,7 @@ impl<
         note_ticket(&mut presence, at);
         let mut client = client;
         client.rest();
-        self.shared.park(
+        let look = self.shared.park(
             self.rt,
             Parked {
                 presence,
@@ -123,7 +123,7 @@ impl<
                 late: false,
             },
         );
-        match self.granted_at(at.place) {
+        match self.granted_at(look) {
             Some(granted) => self.welcome(granted, hole, watch),
             None => {
                 self.guests.close(hole);
@@ -145,15 +145,15 @@ impl<
         self.close_cell(hole, visit.timer);
         let (at, tried, came) = (visit.at, visit.tried, visit.came);
         let (presence, client) = visit.into_client();
-        let place = posting.place();
-        match at {
+        let look = match at {
             None => {
                 let mut presence = presence;
                 self.tell_end(&mut presence, &client, EndedBy::Client, None);
                 self.shared.note_end(self.rt, presence);
+                None
             }
             Some(at) => {
-                self.shared.park(
+                let look = self.shared.park(
                     self.rt,
                     Parked {
                         presence,
@@ -167,11 +167,14 @@ impl<
                     },
                 );
                 self.shared.note_wait();
+                Some(look)
             }
-        }
+        };
         self.post(posting);
         // Another thread that collected the failure before may have found no request here yet.
-        self.look_later_at(place);
+        if let Some(look) = look {
+            look.put_off(&mut self.gate);
+        }
         MoreToDo::Rests
     }
 

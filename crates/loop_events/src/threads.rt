@@ -149,7 +149,9 @@ fn run_loop<
 >(rt: &'a R, shared: &'a Shared<'a, N>, unbegun: UnstartedLoop) {
     let UnstartedLoop { poll, home } = unbegun;
     match looper(rt, shared, &poll, home) {
-        Err(_) => shared.give_up(rt),
+        Err(_) => {
+            shared.give_up(rt);
+        }
         Ok(looper) => {
             looper.run(poll);
             shared.close(rt);
@@ -209,7 +211,7 @@ fn looper<
         more: true,
         short: false,
         tried: Moment::zero(),
-        freed: false,
+        freed: None,
         lingering: 0,
         most_lingering: most_lingering as usize,
         teller: teller_of(rt, shared),

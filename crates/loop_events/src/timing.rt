@@ -209,14 +209,7 @@ impl<
 
     // Gives up requests that wait at their places.
     fn give_up(&mut self, hopeless: &GivenUpSet) {
-        let mut from = 0;
-        for _ in self.rt.forever() {
-            let Some((place, ticket)) = self.shared.find_hopeless(self.rt, from, hopeless) else {
-                break;
-            };
-            let _ = self.shared.proxy.give_up(self.rt, &mut self.gate, ticket);
-            from = place.saturating_add(1);
-        }
+        self.shared.give_up_all(self.rt, &mut self.gate, hopeless);
         self.go_on();
     }
 

@@ -1,5 +1,5 @@
 -- Which requests at places are given up.
-use Rattle.std.specs.Prelude.{◌≡◌, ◌≤◌, ◌-◌, false, MatchOption}
+use Rattle.std.specs.Prelude.{◌≡◌, ◌≤◌, ◌-◌, ℕ, ¬_, true, false, Option, None, Some, MatchOption}
 use Rattle.loop_shared.specs.declared.parked.GivenUpSet.{GivenUpSet}
 use Rattle.loop_shared.specs.declared.parked.GivenUpSet.TheVariants.{All, Late}
 use Rattle.loop_shared.specs.declared.parked.Parked.{Parked}
@@ -9,3 +9,11 @@ use Rattle.loop_shared.specs.declared.parked.Parked.{Parked}
 abbrev pub IsHopeless : Parked → GivenUpSet → Type 0
 IsHopeless it All = it.late ≡ false
 IsHopeless it (Late now millis) = (it.late ≡ false) × MatchOption it.came ⊥ (λ came. millis ≤ now - came)
+
+-- The request of a cell is given up and noted as such, and this is its ticket; or there is none, or
+-- it isn't one of them, and stays as it was.
+abbrev pub NotesHopeless : GivenUpSet → Option Parked → Option Parked → Option ℕ → Type 0
+NotesHopeless hopeless None now ticket = (now ≡ None) × (ticket ≡ None)
+NotesHopeless hopeless (Some before) now None = (now ≡ Some before) × ¬ (IsHopeless before hopeless)
+NotesHopeless hopeless (Some before) now (Some ticket) =
+    (now ≡ Some (record before { late = true })) × (ticket ≡ before.at.ticket) × IsHopeless before hopeless

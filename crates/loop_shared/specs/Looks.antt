@@ -1,10 +1,16 @@
--- The result of looking at a place.
-use Rattle.std.specs.Prelude.{◌≡◌, ℕ, true, List, Option, Some, None}
+-- The result of looking at a place, and of giving a pass back there.
+use Rattle.std.specs.Prelude.{◌≡◌, ◌<◌, ◌≤◌, ℕ, true, List, Option, Some, None}
+use Rattle.grant_board.specs.Views.{Terms}
 use Rattle.grant_board.specs.declared.board.BoardName.{Ghosts}
+use Rattle.log_entries.specs.declared.setup.Setup.{Setup}
 use Rattle.base_places.specs.Sets.{Has}
 use Rattle.loop_shared.specs.declared.looking.Looked.{Looked}
 use Rattle.loop_shared.specs.declared.looking.Looked.TheVariants.{Granted, Waits, Unwatched, NoSeat, Nobody}
+use Rattle.loop_shared.specs.declared.owed.OwedLook.{OwedLook}
 use Rattle.loop_shared.specs.declared.parked.Parked.{Parked}
+use Rattle.relay_workers.specs.Gates.{Notice}
+use Rattle.relay_workers.specs.Turning.{AsksDesk, GivesUp}
+use Rattle.shared_desk.specs.Answers.{AnswersCollect}
 
 -- no place is among those that are owed a look
 abbrev pub OwesNoLook : List ℕ → Type 0
@@ -24,11 +30,33 @@ WaitsOn P None now = ⊥
 WaitsOn P (Some before) None = ⊥
 WaitsOn P (Some before) (Some now) = IsSameRequest before now × P now
 
+-- The request still lies at the place without its pass: it is watched, or it is given up.
+abbrev pub LeavesWatched : {N : Type 0} {G : Ghosts N} → Parked → Option Parked → Looked N G → Type 0
+LeavesWatched before now (Granted it) = ⊥
+LeavesWatched before now Waits = WaitsOn (λ it. it.watched ≡ true) (Some before) now
+LeavesWatched before now (Unwatched ticket) = WaitsOn (λ it. (it.late ≡ true) × (it.at.ticket ≡ ticket)) (Some before) now
+LeavesWatched before now (NoSeat owed) = ⊥
+LeavesWatched before now Nobody = ⊥
+
 -- The request at the place was taken out with its pass; or it still lies there and is watched or
--- given up, or no seat was left; or no request lay there.
-abbrev pub EndsLook : {N : Type 0} {G : Ghosts N} → Option Parked → Option Parked → Looked N G → Type 0
-EndsLook before now (Granted it) = (before ≡ Some it.parked) × (now ≡ None)
-EndsLook before now Waits = WaitsOn (λ it. it.watched ≡ true) before now
-EndsLook before now (Unwatched ticket) = WaitsOn (λ it. (it.late ≡ true) × (it.at.ticket ≡ ticket)) before now
-EndsLook before now NoSeat = WaitsOn (λ it. before ≡ Some it) before now
-EndsLook before now Nobody = (before ≡ None) × (now ≡ None)
+-- given up, or no seat was left, and then the look is still owed; or no request lay there.
+abbrev pub EndsLook : {N : Type 0} {G : Ghosts N} → OwedLook → Option Parked → Option Parked → Looked N G → Type 0
+EndsLook owed before now (Granted it) = (before ≡ Some it.parked) × (now ≡ None)
+EndsLook owed before now Waits = WaitsOn (λ it. it.watched ≡ true) before now
+EndsLook owed before now (Unwatched ticket) = WaitsOn (λ it. (it.late ≡ true) × (it.at.ticket ≡ ticket)) before now
+EndsLook owed before now (NoSeat left) = WaitsOn (λ it. before ≡ Some it) before now × (left ≡ owed)
+EndsLook owed before now Nobody = (before ≡ None) × (now ≡ None)
+
+module _ {C S : Type 0} where
+  -- a request whose client can't be watched was given up at the dispatcher; else a gate was told of nothing
+  abbrev pub GivesUpUnwatched : {N : Type 0} {G : Ghosts N} → Terms → Setup → Looked N G → Option (List (Notice C S)) → Option (List (Notice C S)) → Type 0
+  GivesUpUnwatched terms setup (Granted it) before after = after ≡ before
+  GivesUpUnwatched terms setup Waits before after = after ≡ before
+  GivesUpUnwatched terms setup (Unwatched ticket) before after = GivesUp terms setup ticket before after
+  GivesUpUnwatched terms setup (NoSeat left) before after = after ≡ before
+  GivesUpUnwatched terms setup Nobody before after = after ≡ before
+
+  -- what was posted at a place of the board was collected there
+  pub record Collects (terms : Terms) (setup : Setup) (place : ℕ) (before after : Option (List (Notice C S))) : Type 0 where
+    pub within : place < terms.places → AsksDesk terms setup (AnswersCollect terms setup place) before after
+    pub beyond : terms.places ≤ place → after ≡ before

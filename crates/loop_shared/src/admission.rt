@@ -4,7 +4,11 @@
 //! afterwards, so one of the two should find the other. No clause says that; it is argued here
 //! only.
 
+ghost use Rattle.std.specs.Prelude.{◌≡◌, IfSome, IfNone, IfErr};
+ghost use Rattle.loop_shared.specs.Admissions.{Admits, TakesFirst, FindsNoPlace};
+
 use crate::outside::{Outside, Outsider};
+use crate::owed_admission::OwedAdmission;
 use crate::shared::Shared;
 use crate::watching::watch_anew;
 use dispatch_state::Ticketed;
@@ -14,19 +18,20 @@ use log_entries::Refusal;
 use loop_table::{Subject, Token};
 use mio::{Interest, Registry};
 use prio_rules::Wish;
-use relay_workers::{Gate, arrive_late};
+use relay_workers::{Gate, Proxy, arrive_late};
 use run_gate::has_left;
 use std::os::fd::AsRawFd;
 use std::sync::Wait;
 use std::sync::atomic::Ordering;
 use std::sync::ledger::Ledger;
 
-/// What happened to the first request outside.
+/// What happened to the first request outside. Where it went, the next one may go too, so an
+/// admission is still owed.
 pub enum Admission {
     /// It has a place now.
-    Admitted(Outsider, Ticketed),
+    Admitted(Outsider, Ticketed, OwedAdmission),
     /// The dispatcher refuses it for another cause than want of places.
-    Refused(Outsider),
+    Refused(Outsider, OwedAdmission),
     /// It waits on, or no request does.
     Rests,
 }
@@ -58,21 +63,27 @@ impl<N: DeskName + Ledger> Shared<'_, N> {
 
     /// Gives the first request outside a place, where there is one. Taking it out and its arrival
     /// are one step for all threads, so no two loops reverse the order of two requests.
-    pub fn admit_first<R: Wait, G: Gate>(&self, rt: &R, gate: &mut G) -> Admission {
-        let mut outside = self.outside.lock(rt);
-        let Some((deferred, token)) = outside.next() else {
-            return Admission::Rests;
-        };
-        let arrived = arrive_late(rt, self.proxy, gate, deferred);
-        if matches!(arrived, Err(Refusal::PlacesFull)) {
+    pub fn admit_first<R: Wait, G: Gate>(
+        &self,
+        rt: &R,
+        gate: &mut G,
+        owed: OwedAdmission,
+    ) -> Admission
+        ensures { Admits N.terms N.setup result (G.notes gate.old) (G.notes gate.new) }
+    {
+        if !self.has_outside() {
+            owed.end();
             return Admission::Rests;
         }
-        let taken = outside.take(token);
+        let mut outside = self.outside.lock(rt);
+        let Some((outsider, arrived)) = admit_one(rt, self.proxy, gate, &mut *outside) else {
+            owed.end();
+            return Admission::Rests;
+        };
         self.note_outside(&outside);
-        match (taken, arrived) {
-            (Some(outsider), Ok(at)) => Admission::Admitted(outsider, at),
-            (Some(outsider), Err(_)) => Admission::Refused(outsider),
-            (None, _) => Admission::Rests,
+        match arrived {
+            Ok(at) => Admission::Admitted(outsider, at, owed),
+            Err(_) => Admission::Refused(outsider, owed),
         }
     }
 
@@ -84,7 +95,9 @@ impl<N: DeskName + Ledger> Shared<'_, N> {
         registry: &Registry,
         wish: &Wish,
         outsider: Outsider,
-    ) -> Result<(), Outsider> {
+    ) -> Result<OwedAdmission, Outsider>
+        ensures { IfErr result (λ back. back ≡ outsider) }
+    {
         let mut outside = self.outside.lock(rt);
         match outside.come(self.proxy.alloc, wish, outsider) {
             Err(outsider) => Err(outsider),
@@ -95,7 +108,7 @@ impl<N: DeskName + Ledger> Shared<'_, N> {
                     let subject = Subject::Outside(token);
                     watch_anew(registry, connection, subject, Interest::READABLE);
                 }
-                Ok(())
+                Ok(OwedAdmission::new())
             }
         }
     }
@@ -129,5 +142,26 @@ impl<N: DeskName + Ledger> Shared<'_, N> {
         let late = outside.take_late(*now);
         self.note_outside(&outside);
         late
+    }
+}
+
+// Lets the first request outside arrive, with its class, its due date and its pin, and takes it out
+// unless all places are taken. `None`: it waits on, or nobody is first.
+fn admit_one<R: Wait, N: DeskName, G: Gate>(
+    rt: &R,
+    proxy: &Proxy<N>,
+    gate: &mut G,
+    outside: &mut Outside,
+) -> Option<(Outsider, Result<Ticketed, Refusal>)>
+    ensures some { IfSome result (λ it. TakesFirst N.terms N.setup outside.old outside.new it.0 it.1 (G.notes gate.old) (G.notes gate.new)) }
+    ensures none { IfNone result (FindsNoPlace N.terms N.setup outside.old (G.notes gate.old) (G.notes gate.new) × (outside.new ≡ outside.old)) }
+{
+    let (deferred, token) = outside.next()?;
+    match arrive_late(rt, proxy, gate, deferred) {
+        Err(Refusal::PlacesFull) => None,
+        arrived => match outside.take(token) {
+            None => unreachable!(),
+            Some(outsider) => Some((outsider, arrived)),
+        },
     }
 }

@@ -1,9 +1,10 @@
 //! Looks at places: the request that waits there, and its pass.
 
-ghost use Rattle.std.specs.Prelude.{◌≡◌, ◌<◌, IfSome};
-ghost use Rattle.loop_shared.specs.Looks.{EndsLook};
+ghost use Rattle.std.specs.Prelude.{◌≡◌, ◌<◌, IfSome, None, Some};
+ghost use Rattle.loop_shared.specs.Looks.{EndsLook, GivesUpUnwatched, LeavesWatched};
 
 use crate::granted::GrantedRequest;
+use crate::owed::OwedLook;
 use crate::parked::Parked;
 use crate::shared::Shared;
 use crate::watching::watch;
@@ -13,6 +14,7 @@ use grant_board::BoardName;
 use locked_book::DeskName;
 use loop_table::Subject;
 use mio::{Interest, Registry};
+use relay_workers::Gate;
 use std::os::fd::AsRawFd;
 use std::sync::Wait;
 use std::sync::ledger::Ledger;
@@ -23,53 +25,76 @@ pub enum Looked<N: BoardName + Ledger> {
     Granted(GrantedRequest<N>),
     /// It waits on, and some loop's poll watches its client.
     Waits,
-    /// It waits on, and the system refuses to watch its client. It has to be given up: this is its ticket.
+    /// It waited on with this ticket, and the system refuses to watch its client. So it was given
+    /// up, and its client is told so once its verdict is there.
     Unwatched(u64),
-    /// It waits on, and no seat was free to ask for its pass: the place has to be looked at again.
-    NoSeat,
+    /// It waits on, and no seat was idle to ask for its pass: a look is still owed.
+    NoSeat(OwedLook),
     /// No request waits there.
     Nobody,
 }
 
 impl<N: DeskName + Ledger> Shared<'_, N> {
     /// Looks at a place. A request that waits on has its client watched by one loop, for its leaving only.
-    pub fn look_at<R: Wait>(&self, rt: &R, registry: &Registry, place: usize) -> Looked<N> {
-        let Some(cell) = self.cells.as_slice().get(place) else {
-            return Looked::Nobody;
-        };
-        let mut cell = cell.lock(rt);
-        self.look_in(rt, registry, &mut *cell)
+    pub fn look_at<R: Wait, G: Gate>(
+        &self,
+        rt: &R,
+        registry: &Registry,
+        gate: &mut G,
+        owed: OwedLook,
+    ) -> Looked<N>
+        ensures { GivesUpUnwatched N.terms N.setup result (G.notes gate.old) (G.notes gate.new) }
+    {
+        let place = owed.place();
+        let looked = self.look_in_cell(rt, registry, owed);
+        if let Looked::Unwatched(ticket) = &looked {
+            self.give_up_at(rt, gate, place, *ticket);
+        }
+        looked
     }
 
-    // Takes the request of a place out with its pass, or leaves it there.
-    fn look_in<R: Wait>(&self, rt: &R, registry: &Registry, cell: &mut Option<Parked>) -> Looked<N>
-        ensures { EndsLook cell.old cell.new result }
-    {
-        let Some(parked) = cell.take() else {
-            return Looked::Nobody;
-        };
-        let mut parked = parked;
-        let lent = self.seats.lock(rt).lend();
-        let looked = match lent {
-            None => Looked::NoSeat,
-            Some(lent) => match self.ask(rt, lent, parked.at) {
-                Some(taken) => return Looked::Granted(GrantedRequest { taken, parked }),
-                None if parked.watched || watches(registry, &parked) => {
-                    parked.watched = true;
-                    Looked::Waits
-                }
-                None => {
-                    parked.late = true;
-                    Looked::Unwatched(parked.at.ticket)
-                }
-            },
-        };
-        match cell.replace(parked) {
-            None => looked,
-            Some(_) => unreachable!(),
+    fn look_in_cell<R: Wait>(&self, rt: &R, registry: &Registry, owed: OwedLook) -> Looked<N> {
+        match self.cells.as_slice().get(owed.place()) {
+            None => {
+                owed.end();
+                Looked::Nobody
+            }
+            Some(cell) => {
+                let mut cell = cell.lock(rt);
+                self.look_in(rt, registry, &mut *cell, owed)
+            }
         }
     }
 
+    // Takes the request of a place out with its pass, or leaves it there.
+    fn look_in<R: Wait>(
+        &self,
+        rt: &R,
+        registry: &Registry,
+        cell: &mut Option<Parked>,
+        owed: OwedLook,
+    ) -> Looked<N>
+        ensures { EndsLook owed cell.old cell.new result }
+    {
+        let Some(parked) = cell.take() else {
+            owed.end();
+            return Looked::Nobody;
+        };
+        let lent = self.seats.lock(rt).lend();
+        match lent {
+            None => {
+                put_back(cell, parked);
+                Looked::NoSeat(owed)
+            }
+            Some(lent) => {
+                owed.end();
+                match self.ask(rt, lent, parked.at) {
+                    Some(taken) => Looked::Granted(GrantedRequest { taken, parked }),
+                    None => keep_watched(registry, cell, parked),
+                }
+            }
+        }
+    }
     // Takes the pass of a place and a ticket, where it is offered. Otherwise the seat comes back.
     fn ask<R: Wait>(&self, rt: &R, lent: Lent<N>, at: Ticketed) -> Option<Taken<N>>
         ensures { IfSome result (λ taken. (taken.held.pass.place ≡ at.place) × (taken.held.pass.ticket ≡ at.ticket)) }
@@ -85,6 +110,38 @@ impl<N: DeskName + Ledger> Shared<'_, N> {
                 None
             }
         }
+    }
+}
+
+// Leaves a request at its place without its pass, with its client watched, or noted as given up.
+fn keep_watched<N: BoardName + Ledger>(
+    registry: &Registry,
+    cell: &mut Option<Parked>,
+    parked: Parked,
+) -> Looked<N>
+    requires { cell.old ≡ None }
+    ensures { LeavesWatched parked cell.new result }
+{
+    let mut parked = parked;
+    let ticket = parked.at.ticket;
+    if parked.watched || watches(registry, &parked) {
+        parked.watched = true;
+        put_back(cell, parked);
+        Looked::Waits
+    } else {
+        parked.late = true;
+        put_back(cell, parked);
+        Looked::Unwatched(ticket)
+    }
+}
+
+fn put_back(cell: &mut Option<Parked>, parked: Parked)
+    requires { cell.old ≡ None }
+    ensures { cell.new ≡ Some parked }
+{
+    match cell.replace(parked) {
+        None => {}
+        Some(_) => unreachable!(),
     }
 }
 

@@ -1,3 +1,4 @@
+use crate::owed::{OwedLook, OwedLooks};
 use base_places::{MOST_PLACES, PlaceSet};
 use mio::Waker;
 use std::mem;
@@ -12,7 +13,9 @@ pub struct Mailbox {
 
 impl Mailbox {
     /// Asks the loop to look at one more place.
-    pub(crate) fn send<R: Wait>(&self, rt: &R, place: usize) {
+    pub(crate) fn send<R: Wait>(&self, rt: &R, look: OwedLook) {
+        let place = look.place();
+        look.end();
         if place < MOST_PLACES {
             self.places.lock(rt).insert(place);
         }
@@ -26,7 +29,7 @@ impl Mailbox {
     }
 
     /// Takes all places since the last call.
-    pub(crate) fn take_all<R: Wait>(&self, rt: &R) -> PlaceSet {
-        mem::replace(&mut *self.places.lock(rt), PlaceSet::new())
+    pub(crate) fn take_all<R: Wait>(&self, rt: &R) -> OwedLooks {
+        OwedLooks::of(mem::replace(&mut *self.places.lock(rt), PlaceSet::new()))
     }
 }

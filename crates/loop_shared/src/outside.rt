@@ -1,6 +1,14 @@
 //! Requests beyond the places. They wait by class and due date, those of all loops in one order,
 //! and the next free place goes to the first.
 
+ghost use Rattle.std.specs.Prelude.{◌≡◌, ◌⊎◌, ℕ, length, Option, IfOk, IfErr, IfSome, IfNone, MatchOption, None};
+ghost use Rattle.due_key.specs.declared.key.Key.{Key};
+ghost use Rattle.loop_table.specs.Runs.{begun_once};
+ghost use Rattle.loop_table.specs.Timers.{later_at, Changes, MayRun, AreQuiet, IsOverdueAt};
+ghost use Rattle.loop_table.specs.declared.token.Token.{Token};
+ghost use Rattle.locked_book.specs.declared.book.Deferred.{Deferred};
+ghost use Rattle.loop_shared.specs.Outsides.{HasCome, HasGone, IsFirstOutside, IsGoneOutside, NobodyIsFirst};
+
 use crate::presence::Presence;
 use due_key::{Key, Moment};
 use exchange_driver::{Line, Live};
@@ -64,7 +72,9 @@ impl Outside {
     }
 
     /// Returns the number of requests that wait.
-    pub(crate) fn len(&self) -> usize {
+    pub(crate) fn len(&self) -> usize
+        ensures { result ≡ length self.now.order.pairs }
+    {
         self.order.len()
     }
 
@@ -75,7 +85,10 @@ impl Outside {
         alloc: Global,
         wish: &Wish,
         outsider: Outsider,
-    ) -> Result<Token, Outsider> {
+    ) -> Result<Token, Outsider>
+        ensures ok { IfOk result (λ token. HasCome self.old self.new wish.now outsider token) }
+        ensures err { IfErr result (λ back. back ≡ outsider) }
+    {
         let Some(hole) = self.standing.open() else {
             return Err(outsider);
         };
@@ -110,7 +123,12 @@ impl Outside {
     }
 
     // Begins its timeout. The clock may not have been read for long.
-    fn begin_time(&mut self, number: usize, now: Moment) {
+    fn begin_time(&mut self, number: usize, now: Moment)
+        ensures same { self.new ≡ record self.old { timers = self.new.timers } }
+        ensures limitless { self.old.patience ≡ None → self.new.timers ≡ later_at self.old.timers now }
+        ensures begun { IfSome self.old.patience (λ keyword. MayRun (later_at self.old.timers now) keyword number
+            → Changes (later_at self.old.timers now) self.new.timers keyword (λ runs. begun_once runs number (later_at self.old.timers now).clock)) }
+    {
         self.timers.look_at_clock(now);
         if let Some(patience) = self.patience {
             self.timers.begin(patience, number);
@@ -118,7 +136,11 @@ impl Outside {
     }
 
     /// Returns the wish of the first request, for the next free place.
-    pub(crate) fn next(&mut self) -> Option<(Deferred, Token)> {
+    pub(crate) fn next(&mut self) -> Option<(Deferred, Token)>
+        ensures some { IfSome result (λ it. IsFirstOutside self.old it.0 it.1) }
+        ensures none { IfNone result ((first : Option (Key × ℕ)) × NobodyIsFirst self.old first) }
+        ensures same { self.new ≡ self.old }
+    {
         let (key, number) = self.order.first()?;
         let token = self.standing.token_of(number)?;
         let standing = self.standing.get(token)?;
@@ -131,7 +153,10 @@ impl Outside {
     }
 
     /// Takes a request out. `None`: it is gone already.
-    pub(crate) fn take(&mut self, token: Token) -> Option<Outsider> {
+    pub(crate) fn take(&mut self, token: Token) -> Option<Outsider>
+        ensures some { IfSome result (λ outsider. HasGone self.old self.new token outsider) }
+        ensures none { IfNone result (IsGoneOutside self.old token × (self.new ≡ self.old)) }
+    {
         let (standing, hole) = self.standing.lend(token)?;
         self.standing.close(hole);
         if let Some(patience) = self.patience {
@@ -143,9 +168,11 @@ impl Outside {
     }
 
     /// Takes out the request that gets the next free place.
-    pub(crate) fn take_first(&mut self) -> Option<Outsider> {
-        let (_, number) = self.order.first()?;
-        let token = self.standing.token_of(number)?;
+    pub(crate) fn take_first(&mut self) -> Option<Outsider>
+        ensures some { IfSome result (λ outsider. (deferred : Deferred) × (token : Token) × IsFirstOutside self.old deferred token × HasGone self.old self.new token outsider) }
+        ensures none { IfNone result (((first : Option (Key × ℕ)) × NobodyIsFirst self.old first) ⊎ ((deferred : Deferred) × (token : Token) × IsFirstOutside self.old deferred token × IsGoneOutside self.old token)) }
+    {
+        let (_, token) = self.next()?;
         self.take(token)
     }
 
@@ -156,7 +183,11 @@ impl Outside {
     }
 
     /// Takes out a request that has waited too long at this moment.
-    pub(crate) fn take_late(&mut self, now: Moment) -> Option<Outsider> {
+    pub(crate) fn take_late(&mut self, now: Moment) -> Option<Outsider>
+        ensures some { IfSome result (λ outsider. (keyword : ℕ) × (token : Token) × IsOverdueAt (later_at self.old.timers now) keyword token.index × HasGone self.old self.new token outsider) }
+        ensures none { IfNone result (AreQuiet (later_at self.old.timers now).clock self.old.timers.timed
+            ⊎ ((keyword cell : ℕ) × IsOverdueAt (later_at self.old.timers now) keyword cell × ((token : Token) → token.index ≡ cell → IsGoneOutside self.old token))) }
+    {
         self.timers.look_at_clock(now);
         let Some(overdue) = self.timers.take_overdue() else {
             return None;

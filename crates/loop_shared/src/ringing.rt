@@ -1,5 +1,6 @@
 //! The thread that checks the servers, and how threads that aren't loops report places.
 
+use crate::owed::OwedLooks;
 use crate::shared::Shared;
 use dispatch_reports::EndedWindow;
 use due_key::Moment;
@@ -75,7 +76,7 @@ impl<
 
     fn wake<M: DeskName>(&mut self, changed: Changed<M>) {
         let places = changed.take(self.shared.front.wakes);
-        self.shared.send_places(self.rt, &places);
+        self.shared.send_places(self.rt, OwedLooks::of(places));
     }
 }
 
@@ -86,7 +87,8 @@ pub fn run_checks<
     N: DeskName + Ledger,
 >(rt: &'a R, shared: &'a Shared<'a, N>, stop: &AtomicBool) {
     let Ok(gate) = SocketGate::new(shared.proxy.alloc, rt, shared.front) else {
-        return shared.give_up(rt);
+        shared.give_up(rt);
+        return;
     };
     let mut gate = Ringing { rt, shared, gate };
     let mut pauses = Pauses::new(rt, CHECK_PAUSE, CHECK_PAUSES);

@@ -3,11 +3,12 @@ ghost use Rattle.std.specs.Prelude.{◌≡◌, ◌<◌, ◌≤◌, ◌↔◌, Is
 use crate::descriptors::ConnectionBounds;
 use crate::mail::Mailbox;
 use crate::outside::Outside;
+use crate::owed::{OwedLook, OwedLooks};
 use crate::parked::Parked;
 use crate::parked_cells::leave_all;
 use crate::presence::Presence;
 use crate::unused::UnusedCounts;
-use base_places::{MOST_PLACES, PlaceSet};
+use base_places::PlaceSet;
 use board_seats::{Idle, Lent, Seats};
 use exchange_machine::Terms;
 use locked_book::DeskName;
@@ -15,7 +16,7 @@ use relay_http::{Additions, Persistence};
 use relay_workers::Proxy;
 use run_gate::GateShared;
 use std::alloc::AllocError;
-use std::net::{IpAddr, SocketAddr};
+use std::net::IpAddr;
 use std::sync::atomic::{AtomicBool, AtomicU64, Ordering};
 use std::sync::ledger::{Blank, Ledger};
 use std::sync::{Condvar, Mutex, Wait};
@@ -172,8 +173,8 @@ impl<N: DeskName + Ledger> Shared<'_, N> {
         self.mail.len()
     }
 
-    /// Takes a lent seat back. There is room for each.
-    pub fn return_seat<R: Wait>(&self, rt: &R, lent: Lent<N>) {
+    // Takes a lent seat back. There is room for each.
+    pub(crate) fn return_seat<R: Wait>(&self, rt: &R, lent: Lent<N>) {
         self.seats.lock(rt).give_back(lent);
     }
 
@@ -181,11 +182,6 @@ impl<N: DeskName + Ledger> Shared<'_, N> {
     pub fn has_checks(&self) -> bool {
         let servers = self.front.config.servers.as_slice();
         servers.iter().any(|server| server.check.is_some())
-    }
-
-    /// Returns a server's address, where it is known. It doesn't wait for a look-up.
-    pub fn address_of<R: Wait>(&self, rt: &R, server: usize) -> Option<SocketAddr> {
-        self.front.addresses.of(rt, self.front.config, server)
     }
 
     /// Says whether the proxy is steered while it serves.
@@ -215,31 +211,31 @@ impl<N: DeskName + Ledger> Shared<'_, N> {
     }
 
     /// Has each place looked at by some loop.
-    pub fn send_places<R: Wait>(&self, rt: &R, places: &PlaceSet) {
-        let mut from = 0;
-        for _ in 0..MOST_PLACES {
-            let Some(place) = places.next(from) else {
-                return;
+    pub fn send_places<R: Wait>(&self, rt: &R, owed: OwedLooks) {
+        let mut owed = owed;
+        for _ in rt.forever() {
+            let Some(look) = owed.next() else {
+                return owed.end();
             };
-            if let Some(mail) = self.mail.as_slice().get(place % self.mail.len().max(1)) {
-                mail.send(rt, place);
-            }
-            from = place.saturating_add(1);
+            let home = look.place() % self.mail.len().max(1);
+            self.look_again(rt, home, look);
         }
+        unreachable!()
     }
 
-    /// Takes the places that a loop was told of since the last call.
-    pub fn take_mail<R: Wait>(&self, rt: &R, home: usize) -> PlaceSet {
+    /// Takes the looks that a loop was asked for since the last call.
+    pub fn take_mail<R: Wait>(&self, rt: &R, home: usize) -> OwedLooks {
         match self.mail.as_slice().get(home) {
             Some(mail) => mail.take_all(rt),
-            None => PlaceSet::new(),
+            None => OwedLooks::of(PlaceSet::new()),
         }
     }
 
-    /// Has a loop look at a place in its next round.
-    pub fn look_again<R: Wait>(&self, rt: &R, home: usize, place: usize) {
-        if let Some(mail) = self.mail.as_slice().get(home) {
-            mail.send(rt, place);
+    /// Has a loop look at a place in its next round. Without such a loop nobody looks.
+    pub fn look_again<R: Wait>(&self, rt: &R, home: usize, look: OwedLook) {
+        match self.mail.as_slice().get(home) {
+            Some(mail) => mail.send(rt, look),
+            None => look.end(),
         }
     }
 }

@@ -2,6 +2,7 @@
 
 use crate::ringing::Ringing;
 use crate::shared::Shared;
+use config_setup::configured_limits_of;
 use due_key::Moment;
 use late_cert::Reports;
 use locked_book::DeskName;
@@ -97,7 +98,7 @@ impl<
     }
 
     fn is_over(&self) -> bool {
-        self.shared.is_over()
+        self.shared.seen_over().is_some()
     }
 }
 
@@ -121,10 +122,7 @@ fn attend_to<
         return Ok(());
     };
     let alloc = shared.proxy.alloc;
-    let mut limits = Vec::with_capacity(alloc, shared.proxy.config.servers.len())?;
-    for server in shared.proxy.config.servers.as_slice() {
-        limits.push(server.maxconn)?;
-    }
+    let limits = configured_limits_of(alloc, &shared.proxy.config)?;
     let gate = SocketGate::new(alloc, rt, shared.front)?;
     let gate = Ringing { rt, shared, gate };
     let mut helm = CommandExecutor::new(alloc, Steering { rt, shared, gate }, limits.as_slice())?;

@@ -9,6 +9,13 @@ use std::sync::Wait;
 use std::sync::atomic::Ordering;
 use std::sync::ledger::Ledger;
 
+/// The proxy has ended.
+#[derive(Clone, Copy)]
+pub struct Over {
+    // It is private, so no other module makes one.
+    seen: (),
+}
+
 impl<N: DeskName + Ledger> Shared<'_, N> {
     /// Accepts no more clients except those that wait at the listener by now.
     pub fn stop(&self) {
@@ -51,7 +58,7 @@ impl<N: DeskName + Ledger> Shared<'_, N> {
     }
 
     /// Ends the proxy: each thread is told.
-    pub fn close<R: Wait>(&self, rt: &R) {
+    pub fn close<R: Wait>(&self, rt: &R) -> Over {
         self.over.store(true, Ordering::SeqCst);
         *self.ended_all.lock(rt) = true;
         self.bell.notify_all();
@@ -61,15 +68,21 @@ impl<N: DeskName + Ledger> Shared<'_, N> {
         if let Some(controls) = self.front.controls {
             controls.ring();
         }
+        Over { seen: () }
     }
 
     /// The same, because memory or a thread was refused.
-    pub fn give_up<R: Wait>(&self, rt: &R) {
+    pub fn give_up<R: Wait>(&self, rt: &R) -> Over {
         self.failed.store(true, Ordering::SeqCst);
-        self.close(rt);
+        self.close(rt)
     }
 
-    pub fn is_over(&self) -> bool {
-        self.over.load(Ordering::SeqCst)
+    /// Says whether the proxy has ended.
+    pub fn seen_over(&self) -> Option<Over> {
+        if self.over.load(Ordering::SeqCst) {
+            Some(Over { seen: () })
+        } else {
+            None
+        }
     }
 }

@@ -1,8 +1,15 @@
 //! Requests that wait at their places.
 
+ghost use Rattle.std.specs.Prelude.{◌≡◌};
+ghost use Rattle.loop_shared.specs.Hopeless.{NotesHopeless};
+ghost use Rattle.relay_workers.specs.Turning.{GivesUp};
+
+use crate::owed::OwedLook;
 use crate::parked::{GivenUpSet, Parked};
 use crate::shared::Shared;
 use locked_book::DeskName;
+use log_entries::Refusal;
+use relay_workers::Gate;
 use run_gate::has_left;
 use std::os::fd::AsRawFd;
 use std::sync::Wait;
@@ -10,17 +17,21 @@ use std::sync::atomic::Ordering;
 use std::sync::ledger::Ledger;
 
 impl<N: DeskName + Ledger> Shared<'_, N> {
-    /// Puts a request into the cell of its place. The caller looks at the place afterwards.
-    pub fn park<R: Wait>(&self, rt: &R, parked: Parked) {
-        let Some(cell) = self.cells.as_slice().get(parked.at.place) else {
-            return self.note_end(rt, parked.leave());
+    /// Puts a request into the cell of its place. A look at the place is owed then.
+    pub fn park<R: Wait>(&self, rt: &R, parked: Parked) -> OwedLook
+        ensures { result.place ≡ parked.at.place }
+    {
+        let owed = OwedLook::at(parked.at.place);
+        let before = match self.cells.as_slice().get(parked.at.place) {
+            None => Some(parked),
+            Some(cell) => cell.lock(rt).replace(parked),
         };
-        let before = cell.lock(rt).replace(parked);
         match before {
             None => {}
-            // An earlier request had the place, and is over.
+            // An earlier request had the place, and is over. Or it isn't a place.
             Some(parked) => self.note_end(rt, parked.leave()),
         }
+        owed
     }
 
     /// Says whether a ticket's request still lies at a place although its client has left.
@@ -68,27 +79,46 @@ impl<N: DeskName + Ledger> Shared<'_, N> {
         }
     }
 
-    /// Returns the first place from this one on whose request is to be given up for this reason,
-    /// and its ticket. Its client is told that it isn't served.
-    pub fn find_hopeless<R: Wait>(
-        &self,
-        rt: &R,
-        from: usize,
-        hopeless: &GivenUpSet,
-    ) -> Option<(usize, u64)> {
-        for place in from..self.cells.len() {
-            let Some(cell) = self.cells.as_slice().get(place) else {
-                return None;
-            };
-            let mut cell = cell.lock(rt);
-            if let Some(parked) = &mut *cell {
-                if parked.is_hopeless(hopeless) {
-                    parked.late = true;
-                    return Some((place, parked.at.ticket));
-                }
+    /// Gives up the requests at their places that this set has. Their clients are told that they
+    /// aren't served.
+    pub fn give_up_all<R: Wait, G: Gate>(&self, rt: &R, gate: &mut G, hopeless: &GivenUpSet) {
+        for place in 0..self.cells.len() {
+            if let Some(ticket) = self.found_hopeless(rt, place, hopeless) {
+                self.give_up_at(rt, gate, place, ticket);
             }
         }
-        None
+    }
+
+    // Returns the ticket of the request at a place, where this set has it.
+    fn found_hopeless<R: Wait>(&self, rt: &R, place: usize, hopeless: &GivenUpSet) -> Option<u64> {
+        let cell = self.cells.as_slice().get(place)?;
+        note_hopeless(&mut *cell.lock(rt), hopeless)
+    }
+
+    // Gives up a request at its place. Where the dispatcher's log has no room for that, it waits on.
+    pub(crate) fn give_up_at<R: Wait, G: Gate>(
+        &self,
+        rt: &R,
+        gate: &mut G,
+        place: usize,
+        ticket: u64,
+    )
+        ensures { GivesUp N.terms N.setup ticket (G.notes gate.old) (G.notes gate.new) }
+    {
+        if let Err(Refusal::LogFull) = self.proxy.give_up(rt, gate, ticket) {
+            self.wait_on(rt, place, ticket);
+        }
+    }
+
+    // Notes that a request isn't given up after all, so that a later look at the queues finds it.
+    fn wait_on<R: Wait>(&self, rt: &R, place: usize, ticket: u64) {
+        let Some(cell) = self.cells.as_slice().get(place) else {
+            return;
+        };
+        match &mut *cell.lock(rt) {
+            Some(parked) if parked.at.ticket == ticket => parked.late = false,
+            _ => {}
+        }
     }
 
     /// Returns once the proxy has ended.
@@ -96,5 +126,18 @@ impl<N: DeskName + Ledger> Shared<'_, N> {
         let _over = self
             .bell
             .wait_while(rt, self.ended_all.lock(rt), |over| !*over);
+    }
+}
+
+// Notes the request of a cell as given up, where this set has it, and returns its ticket.
+fn note_hopeless(cell: &mut Option<Parked>, hopeless: &GivenUpSet) -> Option<u64>
+    ensures { NotesHopeless hopeless.now cell.old cell.new result }
+{
+    match cell {
+        Some(parked) if parked.is_hopeless(hopeless) => {
+            parked.late = true;
+            Some(parked.at.ticket)
+        }
+        _ => None,
     }
 }

@@ -28,7 +28,8 @@ pub fn run_windows<
     N: DeskName + Ledger,
 >(rt: &'a R, shared: &'a Shared<'a, N>, millis: u64) {
     let Ok(gate) = SocketGate::new(shared.proxy.alloc, rt, shared.front) else {
-        return shared.give_up(rt);
+        shared.give_up(rt);
+        return;
     };
     let mut gate = Ringing { rt, shared, gate };
     for _ in rt.forever() {

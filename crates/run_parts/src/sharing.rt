@@ -6,6 +6,7 @@ use crate::fault::ServeFault;
 use crate::limits::LoopSizes;
 use crate::opening::RunOptions;
 use crate::preparing::{LOG, names_of};
+use config_setup::configured_limits_of;
 use log_lines::{Proportions, ProxyNumbers};
 use log_requests::{Extent, Logs, RequestLog, base_of};
 use log_sink::Sink;
@@ -95,10 +96,7 @@ pub fn service_parts_of<R: Clock + AllocGlobal>(
 
 // Makes the counters of a fresh proxy.
 fn numbers_of(alloc: Global, config: &Config, places: usize) -> Result<ProxyNumbers, AllocError> {
-    let mut limits = Vec::with_capacity(alloc, config.servers.len())?;
-    for server in config.servers.as_slice() {
-        limits.push(server.maxconn)?;
-    }
+    let limits = configured_limits_of(alloc, config)?;
     let proportions = Proportions {
         places,
         entries: LOG,

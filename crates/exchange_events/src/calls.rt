@@ -12,16 +12,15 @@ ghost use Rattle.exchange_events.specs.Steps as steps;
 ghost use Rattle.http_texts.specs.declared.additions.Additions as additions;
 ghost use Rattle.http_texts.specs.declared.refusals.Code as codes;
 
-use crate::event::TimeoutKind;
 use crate::exchange::{Exchange, Outcome, Step};
-use crate::relaying::{Turned, go_on, not_redialed, refused_late};
+use crate::relaying::{Turned, go_on, not_redialed};
 use base_verdict::Ending;
 use exchange_machine::{Asking, Dialing, Forwarding, Sign, Telling, Terms, Turn, Way};
 use grant_board::Pass;
 use http_texts::{Code, Fault};
 use std::alloc::Global;
 
-fn quiet(next: Exchange, used: usize) -> Step
+pub(crate) fn quiet(next: Exchange, used: usize) -> Step
     ensures used { result.used ≡ used }
     ensures same { result.next ≡ next }
     ensures at { (h : ExchangeHistory) → steps.IsAtItsStage next h → steps.IsAtItsStage result.next (steps.ended result.outcome h) }
@@ -36,7 +35,7 @@ fn quiet(next: Exchange, used: usize) -> Step
 }
 
 // The event changes nothing.
-fn unmoved(exchange: Exchange) -> Step
+pub(crate) fn unmoved(exchange: Exchange) -> Step
     ensures same { result.next ≡ exchange }
     ensures none { result.used ≡ 0 }
     ensures signs { (h : ExchangeHistory) (sign : Sign) → steps.IsAtItsStage exchange h → steps.IsAtItsStage result.next (steps.ended result.outcome (signed h sign)) }
@@ -548,67 +547,6 @@ pub(crate) fn server_deaf(exchange: Exchange, alloc: Global) -> Step
         Exchange::Forwarding(mut forwarding) => {
             forwarding.cut_off();
             let Turned { next, outcome } = go_on(forwarding, alloc);
-            Step {
-                next,
-                used: 0,
-                outcome,
-            }
-        }
-        other => unmoved(other),
-    }
-}
-
-pub(crate) fn time_over(exchange: Exchange, clock: TimeoutKind) -> Step
-    ensures at { (h : ExchangeHistory) → steps.IsAtItsStage exchange h → steps.IsAtItsStage result.next (steps.ended result.outcome (signed h (steps.over clock))) }
-    ensures does { answers.IsOverdue clock exchange result.used result.outcome result.next }
-    ensures unused { result.used ≡ 0 }
-    ensures fails { steps.FailsInTurn result.outcome result.next }
-{
-    match clock {
-        TimeoutKind::Client => client_over(exchange),
-        TimeoutKind::Queue => unserved(exchange, Sign::QueueOver),
-        TimeoutKind::Connect => unreachable(exchange, Sign::ConnectOver),
-        TimeoutKind::Server => server_over(exchange),
-    }
-}
-
-fn client_over(exchange: Exchange) -> Step
-    ensures at { (h : ExchangeHistory) → steps.IsAtItsStage exchange h → steps.IsAtItsStage result.next (steps.ended result.outcome (signed h Sign.ClientOver)) }
-    ensures does { answers.IsSilent exchange result.used result.outcome result.next }
-    ensures unused { result.used ≡ 0 }
-    ensures fails { steps.FailsInTurn result.outcome result.next }
-{
-    match exchange {
-        Exchange::Asking(asking) => asked_late(asking),
-        Exchange::Waiting(waiting) => unmoved(Exchange::Waiting(waiting)),
-        Exchange::Dialing(dialing) => unmoved(Exchange::Dialing(dialing)),
-        other => gone(other, Sign::ClientOver),
-    }
-}
-
-// A client that sent nothing at all is told nothing.
-fn asked_late(asking: Asking) -> Step
-    ensures at { (h : ExchangeHistory) → IsAsking asking h → steps.IsAtItsStage result.next (steps.ended result.outcome (signed h Sign.ClientOver)) }
-    ensures does { answers.IsSilent (Exchange.Asking asking) result.used result.outcome result.next }
-    ensures unused { result.used ≡ 0 }
-    ensures fails { steps.FailsInTurn result.outcome result.next }
-{
-    if asking.is_silent() {
-        quiet(Exchange::Over, 0)
-    } else {
-        quiet(Exchange::Telling(asking.late()), 0)
-    }
-}
-
-fn server_over(exchange: Exchange) -> Step
-    ensures at { (h : ExchangeHistory) → steps.IsAtItsStage exchange h → steps.IsAtItsStage result.next (steps.ended result.outcome (signed h Sign.ServerOver)) }
-    ensures does { answers.IsMute exchange result.used result.outcome result.next }
-    ensures unused { result.used ≡ 0 }
-    ensures fails { steps.FailsInTurn result.outcome result.next }
-{
-    match exchange {
-        Exchange::Forwarding(forwarding) => {
-            let Turned { next, outcome } = refused_late(forwarding);
             Step {
                 next,
                 used: 0,

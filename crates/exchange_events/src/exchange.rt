@@ -8,9 +8,10 @@ ghost use Rattle.exchange_events.specs.Steps as steps;
 
 use crate::calls::{
     client_bytes, client_ended, client_took, connected, gone, granted, server_bytes, server_deaf,
-    server_ended, server_took, time_over, unreachable, unserved,
+    server_ended, server_took, unreachable, unserved,
 };
 use crate::event::{Event, Rules, TimeoutKind};
+use crate::timeouts::time_over;
 use base_verdict::Ending;
 use exchange_machine::{Asking, Dialing, Forwarding, Leaving, Settling, Sign, Telling, Waiting};
 use grant_board::Pass;

@@ -1,5 +1,8 @@
 //! Guests in their cells: they are kept until there is more to do, and closed.
 
+ghost use Rattle.std.specs.Prelude.{◌≡◌, ◌<◌, true, Contains};
+ghost use Rattle.loop_events.specs.Rests.{goes_on};
+
 use crate::guest::{Guest, Keyword, Resident, Visit, Watch, break_off};
 use crate::looping::Looper;
 use crate::serving::MoreToDo;
@@ -51,23 +54,37 @@ impl<
     }
 
     /// Puts a guest into its cell until there is more to do.
-    pub(crate) fn keep(&mut self, guest: Box<Guest<N>>, hole: Hole, soon: NextLook) -> MoreToDo<N> {
+    pub(crate) fn keep(&mut self, guest: Box<Guest<N>>, hole: Hole, soon: NextLook) -> MoreToDo<N>
+        ensures next { soon ≡ NextLook.Next → hole.token.index < self.new.agenda.room → Contains self.new.agenda.soon hole.token.index }
+        ensures later { soon ≡ NextLook.Later → hole.token.index < self.new.agenda.room → Contains self.new.agenda.later hole.token.index }
+        ensures once { soon ≡ NextLook.AtOnce → goes_on result ≡ true }
+    {
         let mut guest = guest;
         let token = hole.token();
         let Guest { linked, visit } = &mut *guest;
         self.time(linked.seated(), visit, token.index());
         match soon {
             NextLook::AtOnce => return MoreToDo::Goes(guest, hole),
-            NextLook::Next => self.agenda.note(token.index()),
-            NextLook::Later => self.agenda.put_off(token.index()),
-            NextLook::Rests => {
-                if !self.is_watched(&mut guest, token) {
-                    return self.close(guest, hole);
-                }
+            NextLook::Rests if !self.is_watched(&mut guest, token) => {
+                return self.close(guest, hole);
             }
+            NextLook::Next | NextLook::Later | NextLook::Rests => {}
         }
         self.lay(Resident::Guest(guest), hole);
+        self.note_look(token.index(), soon);
         MoreToDo::Rests
+    }
+
+    // Notes a cell for its next look, where no poll or timeout brings that.
+    fn note_look(&mut self, cell: usize, soon: NextLook)
+        ensures next { soon ≡ NextLook.Next → cell < self.new.agenda.room → Contains self.new.agenda.soon cell }
+        ensures later { soon ≡ NextLook.Later → cell < self.new.agenda.room → Contains self.new.agenda.later cell }
+    {
+        match soon {
+            NextLook::Next => self.agenda.note(cell),
+            NextLook::Later => self.agenda.put_off(cell),
+            NextLook::AtOnce | NextLook::Rests => {}
+        }
     }
 
     // Registers its sockets with the poll. Says whether that succeeded.

@@ -95,6 +95,7 @@ impl<N: DeskName + Ledger> Shared<'_, N> {
             }
         }
     }
+
     // Takes the pass of a place and a ticket, where it is offered. Otherwise the seat comes back.
     fn ask<R: Wait>(&self, rt: &R, lent: Lent<N>, at: Ticketed) -> Option<Taken<N>>
         ensures { IfSome result (λ taken. (taken.held.pass.place ≡ at.place) × (taken.held.pass.ticket ≡ at.ticket)) }

@@ -43,6 +43,7 @@ impl Agenda {
     pub fn note(&mut self, number: usize)
         ensures noted { number < self.old.room → ¬ (Contains self.old.soon number) → self.new ≡ with_soon self.old (self.old.soon ++ number ∷ []) }
         ensures there { Contains self.old.soon number → self.new ≡ self.old }
+        ensures listed { number < self.old.room → Contains self.new.soon number }
         ensures beyond { self.old.room ≤ number → self.new ≡ self.old }
     {
         if number < self.room && !self.soon.contains(number) {
@@ -54,6 +55,7 @@ impl Agenda {
     pub fn put_off(&mut self, number: usize)
         ensures noted { number < self.old.room → ¬ (Contains self.old.later number) → self.new ≡ with_later self.old (self.old.later ++ number ∷ []) }
         ensures there { Contains self.old.later number → self.new ≡ self.old }
+        ensures listed { number < self.old.room → Contains self.new.later number }
         ensures beyond { self.old.room ≤ number → self.new ≡ self.old }
     {
         if number < self.room && !self.later.contains(number) {

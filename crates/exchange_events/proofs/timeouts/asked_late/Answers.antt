@@ -1,7 +1,7 @@
 use Rattle.exchange_machine.specs.Histories.{signed}
 use Rattle.exchange_machine.specs.declared.signs.Sign.TheVariants.{ClientOver}
 use Rattle.exchange_machine.proofs.EventLemmas.{asking_signed, asking_over, shows_last}
-use Rattle.exchange_events.proofs.calls.asked_late.Goals as goal
+use Rattle.exchange_events.proofs.timeouts.asked_late.Goals as goal
 
 pub returns-then-is_silent-clause-at : goal.returns-then-is_silent-clause-at
 returns-then-is_silent-clause-at c h is = c.quiet.ensures.at (signed h ClientOver) (asking_over c.args.asking (signed h ClientOver)

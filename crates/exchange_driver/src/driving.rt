@@ -1,10 +1,13 @@
-ghost use Rattle.std.specs.Prelude.{◌≡◌, ◌≢◌, ◌<◌, ◌≤◌, ◌||◌, ◌++◌, ◌⊎◌, ℕ, length, true, false, is_some};
+ghost use Rattle.std.specs.Prelude.{◌≡◌, ◌≢◌, ◌<◌, ◌≤◌, ◌||◌, ◌∷◌, ◌++◌, ◌⊎◌, ℕ, [], length, drop, true, false, is_some};
+ghost use Rattle.exchange_driver.specs.Answers.{Said, with_answers};
+ghost use Rattle.exchange_driver.specs.declared.socket.WriteResult.{WriteResult};
+ghost use Rattle.exchange_events.specs.Answers.{HearsClient, HearsServer};
 ghost use Rattle.exchange_driver.specs.Drives.{Drives, IsSame, IsDownAtRest, IsUpAtRest, at_client, at_server};
 ghost use Rattle.exchange_driver.specs.Moves.{IsDriven, KeepsTurns};
 ghost use Rattle.exchange_driver.specs.Wires.{IsAsAnswered};
 ghost use Rattle.exchange_machine.specs.Histories.{ExchangeHistory};
 ghost use Rattle.exchange_events.specs.Passes.{held_by, gone_with};
-ghost use Rattle.exchange_events.specs.Steps.{IsAtItsStage, IsOwn, HasHistory};
+ghost use Rattle.exchange_events.specs.Steps.{IsAtItsStage, IsOwn, HasHistory, reads_client, reads_server, to_client, writes_server};
 
 use crate::line::Line;
 use crate::moved::Moved;
@@ -209,6 +212,9 @@ fn move_down<C: Socket, S: Socket>(
         × (count ≤ 1) × (result.did ≢ Did.Rests → count ≡ 1) }
     ensures client { IsAsAnswered client.old client.new }
     ensures server { IsAsAnswered server.old server.new }
+    ensures writes { to_client exchange ≢ [] → client.old.full ≡ false → (said : WriteResult) × (client.new.answers ≡ with_answers (Said said ∷ []) client.old.answers) }
+    ensures looks { (to_client exchange ≢ [] → client.old.full ≡ true) → reads_server exchange ≡ true → server.old.waits ≢ []
+        → (used : ℕ) × HearsServer server.old.waits exchange used result.outcome result.exchange × (server.new.waits ≡ drop used server.old.waits) }
     ensures own { IsOwn result.outcome }
     ensures rests { result.did ≡ Did.Rests → IsSame exchange result.exchange client.old client.new server.old server.new }
     ensures quiet { result.did ≡ Did.Rests → IsDownAtRest exchange client.old server.old }
@@ -245,6 +251,9 @@ fn move_up<C: Socket, S: Socket>(
         × (count ≤ 1) × (result.did ≢ Did.Rests → count ≡ 1) }
     ensures client { IsAsAnswered client.old client.new }
     ensures server { IsAsAnswered server.old server.new }
+    ensures writes { writes_server exchange ≡ true → server.old.full ≡ false → (said : WriteResult) × (server.new.answers ≡ with_answers (Said said ∷ []) server.old.answers) }
+    ensures looks { (writes_server exchange ≡ true → server.old.full ≡ true) → reads_client exchange ≡ true → client.old.waits ≢ []
+        → (used : ℕ) × HearsClient client.old.waits exchange used result.outcome result.exchange × (client.new.waits ≡ drop used client.old.waits) }
     ensures own { IsOwn result.outcome }
     ensures rests { result.did ≡ Did.Rests → IsSame exchange result.exchange client.old client.new server.old server.new }
     ensures quiet { result.did ≡ Did.Rests → IsUpAtRest exchange client.old server.old }

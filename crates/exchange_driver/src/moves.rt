@@ -1,6 +1,8 @@
 //! A single call of a socket, or a single look at its waiting bytes, and what the exchange makes of it.
 
-ghost use Rattle.std.specs.Prelude.{◌≡◌, ◌≢◌, ◌<◌, true, [], length};
+ghost use Rattle.std.specs.Prelude.{◌≡◌, ◌≢◌, ◌<◌, ◌∷◌, ℕ, true, [], length, drop};
+ghost use Rattle.exchange_driver.specs.Answers.{Said, with_answers};
+ghost use Rattle.exchange_events.specs.Answers.{HearsClient, HearsServer};
 ghost use Rattle.exchange_driver.specs.Drives.{Drives, at_client, at_server};
 ghost use Rattle.exchange_driver.specs.Moves.{IsDriven};
 ghost use Rattle.exchange_driver.specs.Wires.{IsAsAnswered};
@@ -72,6 +74,7 @@ pub(crate) fn write_client<C: Socket, S: Socket>(
     ensures at { (h : ExchangeHistory) → IsAtItsStage exchange h → Drives client.old client.new server.now server.now (at_client result.did) (at_server result.did) h result.exchange result.outcome }
     ensures driven { IsDriven 1 settings.rules.aborts client.old.answers client.new.answers server.now.answers server.now.answers exchange result.outcome result.exchange }
     ensures answered { IsAsAnswered client.old client.new }
+    ensures said { (said : WriteResult) × (client.new.answers ≡ with_answers (Said said ∷ []) client.old.answers) }
     ensures own { IsOwn result.outcome }
     ensures moves { result.did ≢ Did.Rests }
 {
@@ -101,6 +104,7 @@ pub(crate) fn write_server<C: Socket, S: Socket>(
     ensures at { (h : ExchangeHistory) → IsAtItsStage exchange h → Drives client.now client.now server.old server.new (at_client result.did) (at_server result.did) h result.exchange result.outcome }
     ensures driven { IsDriven 1 settings.rules.aborts client.now.answers client.now.answers server.old.answers server.new.answers exchange result.outcome result.exchange }
     ensures answered { IsAsAnswered server.old server.new }
+    ensures said { (said : WriteResult) × (server.new.answers ≡ with_answers (Said said ∷ []) server.old.answers) }
     ensures own { IsOwn result.outcome }
     ensures moves { result.did ≢ Did.Rests }
 {
@@ -130,6 +134,7 @@ pub(crate) fn use_client<C: Socket, S: Socket>(
     ensures at { (h : ExchangeHistory) → IsAtItsStage exchange h → Drives client.old client.new server.now server.now (at_client result.did) (at_server result.did) h result.exchange result.outcome }
     ensures driven { IsDriven 1 settings.rules.aborts client.old.answers client.new.answers server.now.answers server.now.answers exchange result.outcome result.exchange }
     ensures answered { IsAsAnswered client.old client.new }
+    ensures looks { (used : ℕ) × HearsClient client.old.waits exchange used result.outcome result.exchange × (client.new.waits ≡ drop used client.old.waits) }
     ensures own { IsOwn result.outcome }
     ensures moves { result.did ≢ Did.Rests }
 {
@@ -154,6 +159,7 @@ pub(crate) fn use_server<C: Socket, S: Socket>(
     ensures at { (h : ExchangeHistory) → IsAtItsStage exchange h → Drives client.now client.now server.old server.new (at_client result.did) (at_server result.did) h result.exchange result.outcome }
     ensures driven { IsDriven 1 settings.rules.aborts client.now.answers client.now.answers server.old.answers server.new.answers exchange result.outcome result.exchange }
     ensures answered { IsAsAnswered server.old server.new }
+    ensures looks { (used : ℕ) × HearsServer server.old.waits exchange used result.outcome result.exchange × (server.new.waits ≡ drop used server.old.waits) }
     ensures own { IsOwn result.outcome }
     ensures moves { result.did ≢ Did.Rests }
 {

@@ -1,5 +1,5 @@
 -- Bodies in chunks at worked examples, and the texts of parts: what must hold, and what must not.
-use Rattle.std.proofs.Common.{◌≡◌, ℕ, ◌<◌, [], ◌∷◌, ◌++◌, Some, None, true, false, codes, length, refl, sym, ap, arith, append_assoc, length-append}
+use Rattle.std.proofs.Common.{◌≡◌, ℕ, ◌<◌, [], ◌∷◌, ◌++◌, Some, None, true, false, codes, length, refl, sym, ap, arith, append_assoc, length-append, inl, inr}
 use Rattle.std.specs.Char.{is_ascii_hexdigit}
 use Rattle.std.specs.List.{flat_map}
 use Rattle.std.proofs.lemmas.List.Sums.{AllPass-from_list_all}
@@ -12,7 +12,7 @@ use Rattle.http_bodies.specs.Bodies.PartOfChunked.{some_chunks}
 use Rattle.http_bodies.specs.Chunks.{Chunk, IsChunk, IsSizeLine, print_chunk, chunk_text, PartOfData, LacksData}
 use Rattle.http_bodies.specs.Chunks.PartOfChunk.{line_and_data}
 use Rattle.http_bodies.specs.Chunks.PartOfData.{some_data}
-use Rattle.http_bodies.specs.Framings.{IsBody, PartOfBody, LacksBody}
+use Rattle.http_bodies.specs.Framings.{IsBody, PartOfBody, LacksBody, IsUnfinished}
 use Rattle.base_lists.specs.Fronts.{IsFront}
 use Rattle.http_bodies.specs.Trailers.{IsTrailer, print_trailers}
 use Rattle.http_bodies.specs.declared.framing.Framing.TheVariants.{Chunked}
@@ -162,3 +162,10 @@ front = record { rest = codes "c"; is = refl }
 
 ab_in_ac : ¬ (IsFront (codes "ab") (codes "ac"))
 ab_in_ac f = let same : ◌≡◌ {A = ℕ} 99 98 = cc in omega (arith, same)
+
+-- behind the beginning of a size line more is wanted, and behind a byte that is refused nothing is
+more_to_come : IsUnfinished Chunked (codes "3")
+more_to_come = inr (cut, refl)
+
+nothing_to_come : ¬ (IsUnfinished Chunked (codes "x"))
+nothing_to_come is = elim is [ inl to_end ↦ cc | inr more ↦ let wrong : true ≡ false = more.1 in cc ]

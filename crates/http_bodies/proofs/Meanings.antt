@@ -10,7 +10,7 @@ use Rattle.http_bodies.specs.Bodies.PartOfChunked.{some_chunks, all_of_it}
 use Rattle.http_bodies.specs.Chunks.{PartOfChunk}
 use Rattle.http_bodies.specs.Chunks.PartOfData.{some_data, whole_data}
 use Rattle.http_bodies.specs.Chunks.PartOfChunk.{nothing, line_and_data}
-use Rattle.http_bodies.specs.Framings.{IsBody, LacksBody}
+use Rattle.http_bodies.specs.Framings.{IsBody, LacksBody, IsSound}
 use Rattle.http_bodies.specs.declared.framing.Framing.{Framing}
 use Rattle.http_bodies.specs.declared.framing.Framing.TheVariants as Framed
 use Rattle.http_bodies.specs.Parts.{next, told, is_over}
@@ -195,6 +195,27 @@ early_chunked framed input early b rest is whole =
     ap (λ l. (read (Chunked framed (Digits 0 0)) l).coding) whole ∙ ap (λ (q : Reading). q.coding) (whole_chunked framed b rest is) in
     let same : false ≡ is_done (Chunked framed Done) = sym early ∙ ap is_done other in
     cc
+
+-- the two texts of a chunked body are of the same reading
+alike : (framed other : Bool) (part : Part) (input : List ℕ)
+    → is_bad (read_parts framed part input).coding ≡ is_bad (read_parts other part input).coding
+alike framed other part [] = refl
+alike framed other (Digits count size) (b ∷ input) = alike framed other (next (Digits count size) b) input
+alike framed other (Blank read size) (b ∷ input) = alike framed other (next (Blank read size) b) input
+alike framed other (Extension read size) (b ∷ input) = alike framed other (next (Extension read size) b) input
+alike framed other (Return size) (b ∷ input) = alike framed other (next (Return size) b) input
+alike framed other (Data left) (b ∷ input) = alike framed other (next (Data left) b) input
+alike framed other DataReturn (b ∷ input) = alike framed other (next DataReturn b) input
+alike framed other (Trailers left line) (b ∷ input) = alike framed other (next (Trailers left line) b) input
+alike framed other Done (b ∷ input) = refl
+alike framed other Bad (b ∷ input) = refl
+
+-- no byte is refused, whichever text is written
+pub sound : (framing : Framing) (framed : Bool) (input : List ℕ) → is_bad (read (start_of framing framed) input).coding ≡ false → IsSound framing input
+sound Framed.Empty framed input is = refl
+sound (Framed.Length count) framed input is = refl
+sound Framed.Chunked framed input is = alike true framed (Digits 0 0) input ∙ is
+sound Framed.ToEnd framed input is = refl
 
 -- bodies of a length
 sent_length : (framed : Bool) (count : ℕ) (input : List ℕ) → IsSent (Framed.Length count) framed input (take count input)

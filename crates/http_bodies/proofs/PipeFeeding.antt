@@ -6,7 +6,7 @@ use Rattle.std.proofs.KnownBytes.{Consumes-nil}
 use Rattle.std.proofs.lemmas.Bool.{false≢true}
 use Rattle.std.proofs.lemmas.List.{take-append-drop, nil_from_length}
 use Rattle.base_streams.specs.Streams.{Stream}
-use Rattle.http_bodies.specs.Framings.{IsBody, LacksBody, IsUnfinished}
+use Rattle.http_bodies.specs.Framings.{IsBody, LacksBody, IsSound, IsUnfinished}
 use Rattle.http_bodies.specs.declared.fault.Fault.{Fault}
 use Rattle.http_bodies.specs.declared.fault.Fault.TheVariants as Faulty
 use Rattle.http_bodies.specs.declared.framing.Framing.{Framing}
@@ -18,7 +18,7 @@ use Rattle.http_bodies.specs.Stops.{is_done, is_bad}
 use Rattle.http_bodies.specs.declared.coding.Coding.{Coding}
 use Rattle.http_bodies.specs.declared.coding.Coding.TheVariants.{ToEnd}
 use Rattle.http_bodies.proofs.Derivatives.{feeds_nil, feeds_trans}
-use Rattle.http_bodies.proofs.Running.{read_nothing, run_text, run_done, run_bad, run_early}
+use Rattle.http_bodies.proofs.Running.{read_nothing, run_text, run_done, run_bad, run_early, run_sound}
 use Rattle.http_bodies.specs.Steps.{Ends, ends, Reads, Moves, Breaks, HoldsBack, LacksNothing, IsAll}
 use Rattle.http_bodies.specs.declared.outbox.TheConstants.{OUTBOX_BYTES}
 use Rattle.http_bodies.specs.declared.pipe.Pipe.{Pipe}
@@ -137,9 +137,9 @@ none_taken : {a b : Ends} {taken : List ℕ} → b.source ≡ a.source → Reads
 none_taken same reads = nil_from_length _ (omega (arith, reads.few, ap (λ (s : Stream). s.calls) same))
 
 -- the source isn't asked where bytes are held, and where none are, what was held is used up and unfinished
-pub unread_on : {framing : Framing} {framed : Bool} {c : Coding} {a b : Ends} (s : Stream) → is_done c ≡ false → Forwarding framing framed c a b
+pub unread_on : {framing : Framing} {framed : Bool} {c : Coding} {a b : Ends} (s : Stream) → is_done c ≡ false → is_bad c ≡ false → Forwarding framing framed c a b
     → (b.pipe.inbox ≢ [] → s ≡ b.source) → IsUnread framing a s
-unread_on {framing} {framed} {c} {a} {b} s going p asks = λ whole. elim (is_nil b.pipe.inbox) [
+unread_on {framing} {framed} {c} {a} {b} s going sound p asks = λ whole. elim (is_nil b.pipe.inbox) [
   | inr some ↦ asks some ∙ p.unread whole
   | inl none ↦
       let all : p.used ≡ a.pipe.inbox =
@@ -148,22 +148,26 @@ unread_on {framing} {framed} {c} {a} {b} s going p asks = λ whole. elim (is_nil
       elim (is_to_end framing) [
         | inl to_end ↦ absurd (whole (inl to_end))
         | inr other ↦
-            absurd (whole (inr (subst (LacksBody framing) (append-nil p.used ∙ all)
-            (run_early framing framed ((p.used, p.text) ∷ []) c (c, p.feeds, refl) other going))))
+            let steps = (p.used, p.text) ∷ [] in
+            let same = append-nil p.used ∙ all in
+            absurd (whole (inr (
+              subst (LacksBody framing) same (run_early framing framed steps c (c, p.feeds, refl) other going),
+              subst (IsSound framing) same (run_sound framing framed steps c (c, p.feeds, refl) sound),
+            )))
       ]
 ]
 
-pub forwarding_on : {framing : Framing} {framed : Bool} {c : Coding} {a b e : Ends} → is_done c ≡ false
+pub forwarding_on : {framing : Framing} {framed : Bool} {c : Coding} {a b e : Ends} → is_done c ≡ false → is_bad c ≡ false
     → (b.pipe.inbox ≡ []) ⊎ (OUTBOX_BYTES < length b.pipe.outbox + 18)
     → (b.pipe.inbox ≡ [] → b.source.calls < e.source.calls) → (b.pipe.inbox ≢ [] → e.source ≡ b.source) → Forwarding framing framed c a b → Moves b e [] []
     → Forwarding framing framed c a e
-forwarding_on {a = a} {b = b} {e = e} unfinished going read asks p moves = record {
+forwarding_on {a = a} {b = b} {e = e} unfinished sound going read asks p moves = record {
   used = p.used;
   text = p.text;
   feeds = p.feeds;
   moves = moves_as (append-nil p.used) (append-nil p.text) (moves_trans p.moves moves);
   late = waits_on a b e p.used p.text going read p.moves p.late moves;
-  unread = unread_on e.source unfinished p asks;
+  unread = unread_on e.source unfinished sound p asks;
 }
 
 -- what goes on to the end is given as it came, and is never done
@@ -225,19 +229,24 @@ module _ {framing : Framing} {framed : Bool} {c : Coding} {a b : Ends} (p : Forw
       (p.used, p.text, record { sent = used; coding = c; feeds = p.feeds }, breaks, late)
 
   -- what was used is no whole body yet
-  unfinished : is_done c ≡ false → (l : List ℕ) → IsAll [] l → IsUnfinished framing (p.used ++ l)
-  unfinished is l none = elim (is_to_end framing) [
+  unfinished : is_done c ≡ false → is_bad c ≡ false → (l : List ℕ) → IsAll [] l → IsUnfinished framing (p.used ++ l)
+  unfinished is sound l none = elim (is_to_end framing) [
     | inl to_end ↦ inl to_end
     | inr other ↦
-        inr (subst (λ (k : List ℕ). LacksBody framing (p.used ++ k)) (sym none) (run_early framing framed ((p.used, p.text) ∷ []) c (c, p.feeds, refl) other is))
+        let steps = (p.used, p.text) ∷ [] in
+        inr (
+          subst (λ (k : List ℕ). LacksBody framing (p.used ++ k)) (sym none) (run_early framing framed steps c (c, p.feeds, refl) other is),
+          subst (λ (k : List ℕ). IsSound framing (p.used ++ k)) (sym none) (run_sound framing framed steps c (c, p.feeds, refl) sound),
+        )
   ]
 
   -- of a call that failed
-  pub part_before : {d : Ends} {fault : Fault} → is_done c ≡ false → Breaks b d [] [] LacksNothing (IsAll []) fault → StopsAmid framing framed a d fault
-  part_before is breaks =
+  pub part_before : {d : Ends} {fault : Fault} → is_done c ≡ false → is_bad c ≡ false → Breaks b d [] [] LacksNothing (IsAll []) fault
+      → StopsAmid framing framed a d fault
+  part_before is sound breaks =
       part_of (λ framed. absurd (breaks_plainly (IsAll []) framed breaks))
       (breaks_as (LacksBody framing) (IsUnfinished framing) (append-nil p.used) (append-nil p.text)
-      (moves_breaks LacksNothing (LacksBody framing) (IsAll []) (IsUnfinished framing) (λ l none. absurd none) (unfinished is) p.moves breaks))
+      (moves_breaks LacksNothing (LacksBody framing) (IsAll []) (IsUnfinished framing) (λ l none. absurd none) (unfinished is sound) p.moves breaks))
 
   -- of bytes that will never be a body
   pub part_of_none : is_bad c ≡ true → StopsAmid framing framed a b Faulty.Framing
@@ -249,9 +258,9 @@ module _ {framing : Framing} {framed : Bool} {c : Coding} {a b : Ends} (p : Forw
       (never (b.pipe.inbox ++ more))))
 
   -- of an input that ended too early
-  pub part_at_end : is_done c ≡ false → framing ≢ Framed.ToEnd → IsAtEnd b.source.bytes → b.pipe.inbox ≡ []
+  pub part_at_end : is_done c ≡ false → is_bad c ≡ false → framing ≢ Framed.ToEnd → IsAtEnd b.source.bytes → b.pipe.inbox ≡ []
       → StopsAmid framing framed a b Faulty.Read
-  part_at_end is other end none =
+  part_at_end is sound other end none =
       let early = run_early framing framed ((p.used, p.text) ∷ []) c (c, p.feeds, refl) other is in
-      part_of (λ is. absurd (read_is_not_framing is)) (breaks_end (LacksBody framing) (IsUnfinished framing) (λ l lacks. inr lacks) p.moves end
-      (subst (LacksBody framing) (ap (λ l. p.used ++ l) (sym none)) early))
+      part_of (λ is. absurd (read_is_not_framing is)) (breaks_end (LacksBody framing) (IsUnfinished framing) p.moves end
+      (subst (LacksBody framing) (ap (λ l. p.used ++ l) (sym none)) early) (unfinished is sound b.pipe.inbox none))

@@ -2,7 +2,7 @@
 use Rattle.std.proofs.Common.{◌≡◌, ◌≢◌, ◌∙◌, ℕ, ◌-◌, Bool, true, false, List, [], ◌∷◌, ◌++◌, take, drop, refl, sym, ap, arith, append_assoc, append-nil, subst}
 use Rattle.std.proofs.lemmas.List.{take_all, drop_all}
 use Rattle.base_lists.specs.Fronts.{IsFront}
-use Rattle.http_bodies.specs.Framings.{IsBody, LacksBody}
+use Rattle.http_bodies.specs.Framings.{IsBody, LacksBody, IsSound}
 use Rattle.http_bodies.specs.declared.framing.Framing.{Framing}
 use Rattle.http_bodies.specs.declared.framing.Framing.TheVariants as Framed
 use Rattle.http_bodies.specs.Readings.{Reading, reading, behind, read, Feeds, start_of}
@@ -11,7 +11,7 @@ use Rattle.http_bodies.specs.Stops.{is_done, is_bad}
 use Rattle.http_bodies.specs.declared.coding.Coding.{Coding}
 use Rattle.http_bodies.specs.declared.coding.Coding.TheVariants.{Length, ToEnd, Chunked}
 use Rattle.http_bodies.proofs.Derivatives.{feeds_nil, feeds_trans}
-use Rattle.http_bodies.proofs.Meanings.{sent, done, bad, early}
+use Rattle.http_bodies.proofs.Meanings.{sent, done, bad, early, sound}
 
 pub runs_feed : (old : Coding) (steps : List Step) (new : Coding) → Runs old steps new → Feeds old new (all_taken steps) (all_given steps)
 runs_feed old [] new is = subst (λ (c : Coding). Feeds old c [] []) (sym is) (feeds_nil old)
@@ -56,6 +56,9 @@ module _ (framing : Framing) (framed : Bool) (steps : List Step) (c : Coding) (r
 
   pub run_early : framing ≢ Framed.ToEnd → is_done c ≡ false → LacksBody framing (all_taken steps)
   run_early other is = early framing framed (all_taken steps) other (ap (λ (q : Reading). is_done q.coding) whole ∙ is)
+
+  pub run_sound : is_bad c ≡ false → IsSound framing (all_taken steps)
+  run_sound is = sound framing framed (all_taken steps) (ap (λ (q : Reading). is_bad q.coding) whole ∙ is)
 
 pub run_cuts : (old : Coding) (steps others : List Step) (c d : Coding) → Runs old steps c → Runs old others d → all_taken steps ≡ all_taken others
     → (all_given steps ≡ all_given others) × (c ≡ d)

@@ -177,7 +177,7 @@ stopped_by w0 w turns Read by = absurd by
 stopped_by w0 w turns Framing by = absurd by
 
 -- and no read
-stopped_by_no_read : (w0 w : Stream) (turns : ℕ) (fault : Fault) → StopsBy w0 w turns fault → fault ≡ Read → ⊥
+pub stopped_by_no_read : (w0 w : Stream) (turns : ℕ) (fault : Fault) → StopsBy w0 w turns fault → fault ≡ Read → ⊥
 stopped_by_no_read w0 w turns Write by is = cc
 stopped_by_no_read w0 w turns Turns by is = cc
 stopped_by_no_read w0 w turns Read by is = absurd by
@@ -230,10 +230,10 @@ turns_is_not_read : Turns ≡ Read → ⊥
 turns_is_not_read is = cc
 
 -- steps after which the input ended too early
-pub breaks_end : {a b : Ends} {used text : List ℕ} (Lacks Wants : List ℕ → Type 0) → ((l : List ℕ) → Lacks l → Wants l)
-    → Moves a b used text → IsAtEnd b.source.bytes → Lacks (used ++ b.pipe.inbox)
+pub breaks_end : {a b : Ends} {used text : List ℕ} (Lacks Wants : List ℕ → Type 0) → Moves a b used text → IsAtEnd b.source.bytes
+    → Lacks (used ++ b.pipe.inbox) → Wants (used ++ b.pipe.inbox)
     → Breaks a b used text Lacks Wants Read
-breaks_end {a} {b} {used} Lacks Wants want p end lacks = record {
+breaks_end {a} {b} {used} Lacks Wants p end lacks wants = record {
   taken = p.taken;
   reads = p.reads;
   held = p.held;
@@ -241,7 +241,7 @@ breaks_end {a} {b} {used} Lacks Wants want p end lacks = record {
   waiting = lingers_rest p.front b.pipe.outbox Read;
   blames = (p.good_writes, inr (p.good_reads, end, subst Lacks (sym p.held) lacks));
   undone = λ spent. absurd (read_is_not_turns spent);
-  wanted = λ is. want (a.pipe.inbox ++ p.taken) (subst Lacks (sym p.held) lacks);
+  wanted = λ is. subst Wants (sym p.held) wants;
 }
 
 -- no continuation of the input has what is wanted

@@ -156,7 +156,7 @@ failed_amid_a_body end w = record {
   waiting = record { sent = []; again = []; front_is = refl; waiting_is = refl; stopped = inl refl };
   blames = (refl, inl refl);
   undone = λ is. cc;
-  wanted = λ is. inr (omega arith);
+  wanted = λ is. inr (omega arith, refl);
 }
 
 not_behind_a_body : (end : GName) (w : Stream) → ¬ (Breaks (ends (holding (codes "a") 9) (stream end (codes "b") 0) w)
@@ -164,5 +164,5 @@ not_behind_a_body : (end : GName) (w : Stream) → ¬ (Breaks (ends (holding (co
 unfolding holding stream failing
 not_behind_a_body end w x = elim (x.wanted refl) [
   | inl is ↦ cc
-  | inr lacks ↦ absurd (omega (arith, lacks, ap (length {A = ℕ}) x.held))
+  | inr lacks ↦ absurd (omega (arith, lacks.0, ap (length {A = ℕ}) x.held))
 ]

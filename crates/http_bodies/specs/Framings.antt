@@ -1,9 +1,11 @@
 -- Bodies by their framing (RFC 9112, section 6): which input is one, and its text.
-use Rattle.std.specs.Prelude.{◌≡◌, ◌⊎◌, ℕ, ◌≤◌, Bool, List, [], length}
+use Rattle.std.specs.Prelude.{◌≡◌, ◌⊎◌, ℕ, ◌≤◌, Bool, true, false, List, [], length}
 use Rattle.http_bodies.specs.declared.framing.Framing.{Framing}
 use Rattle.http_bodies.specs.declared.framing.Framing.TheVariants.{Empty, Length, Chunked, ToEnd}
 use Rattle.http_bodies.specs.Bodies.{ChunkedBody, IsChunked, print_chunked, chunked_text, PartOfChunked, LacksChunked}
 use Rattle.http_bodies.specs.Lengths.{LacksLength}
+use Rattle.http_bodies.specs.Readings.{read, start_of}
+use Rattle.http_bodies.specs.Stops.{is_bad}
 
 -- `used` is a whole body, and `text` is its text
 abbrev pub IsBody : Framing → Bool → List ℕ → List ℕ → Type 0
@@ -26,7 +28,11 @@ LacksBody (Length count) input = LacksLength count input
 LacksBody Chunked input = LacksChunked input
 LacksBody ToEnd input = ⊥
 
--- the input doesn't begin with a whole body, or the body goes on to the end of the input, which
--- hasn't been met
+-- no byte of the input is refused as one of a body
+abbrev pub IsSound : Framing → List ℕ → Type 0
+IsSound framing input = is_bad (read (start_of framing true) input).coding ≡ false
+
+-- The input doesn't begin with a whole body, and no byte of it is refused; or the body goes on to the
+-- end of the input, which hasn't been met.
 abbrev pub IsUnfinished : Framing → List ℕ → Type 0
-IsUnfinished framing input = (framing ≡ ToEnd) ⊎ LacksBody framing input
+IsUnfinished framing input = (framing ≡ ToEnd) ⊎ (LacksBody framing input × IsSound framing input)

@@ -29,6 +29,9 @@ impl Pipe {
         ensures err { IfErr result (λ fault. (used : List ℕ) × (text : List ℕ) × IsTaken framing framed used text
             × Breaks (ends self.old (S.stream source.old) (K.stream sink.old)) (ends self.new (S.stream source.new) (K.stream sink.new)) used text (LacksBody framing) (IsUnfinished framing) fault
             × (fault ≡ Fault.Framing → HoldsBack (ends self.old (S.stream source.old) (K.stream sink.old)) (ends self.new (S.stream source.new) (K.stream sink.new)) text)) }
+
+        // A read that fails, or meets the end too early, comes after all held bytes were used and all their text was written.
+        ensures told { IfErr result (λ fault. fault ≡ Fault.Read → (self.new.inbox ≡ []) × (self.new.outbox ≡ [])) }
     {
         let mut coding = Coding::new(framing, framed);
         'forwarding: loop {
@@ -54,6 +57,8 @@ impl Pipe {
         ensures end { IfOk result (λ more. more ≡ false → IsAtEnd (S.stream source.new).bytes) }
         ensures none { IfOk result (λ more. more ≡ false → self.new.inbox ≡ []) }
         ensures err { IfErr result (Breaks (ends self.old (S.stream source.old) (K.stream sink.old)) (ends self.new (S.stream source.new) (K.stream sink.new)) [] [] LacksNothing (IsAll [])) }
+        ensures empty { OnOk result (self.new.outbox ≡ []) }
+        ensures told { IfErr result (λ fault. fault ≡ Fault.Read → (self.new.inbox ≡ []) × (self.new.outbox ≡ [])) }
     {
         let is_hungry = self.held().is_empty();
         self.flush(sink)?;

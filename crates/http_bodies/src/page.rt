@@ -1,4 +1,5 @@
-ghost use Rattle.std.specs.Prelude.{◌≡◌, ◌+◌, ◌^◌, ◌<◌, ◌++◌, OnOk, IfErr};
+ghost use Rattle.std.specs.Prelude.{◌≡◌, ◌+◌, ◌^◌, ◌<◌, ◌++◌, [], length, OnOk, IfErr};
+ghost use Rattle.http_bodies.specs.declared.outbox.TheConstants.{OUTBOX_BYTES};
 ghost use Rattle.http_bodies.specs.declared.pipe.Pipe as pipes;
 ghost use Rattle.http_bodies.specs.Texts.{Emits, Remains, Stops, WaitsBehind};
 
@@ -17,6 +18,9 @@ pub trait Page {
         requires { (K.stream sink.old).calls + (pipe self.old).turns < 2 ^ 64 }
         ensures ok { OnOk result (Emits (K.stream sink.old) (K.stream sink.new) (pipe self.old).turns (pipe self.new).turns (pipe self.old).outbox (pipe self.new).outbox bytes.now) }
         ensures late { OnOk result (WaitsBehind (K.stream sink.old) (K.stream sink.new) (pipe self.old).outbox (pipe self.new).outbox bytes.now) }
+
+        // What has no room isn't kept, unless the page has no turns, and so never writes.
+        ensures beyond { OnOk result (OUTBOX_BYTES < length ((pipe self.old).outbox ++ bytes.now) → 0 < (pipe self.old).turns → (pipe self.new).outbox ≡ []) }
         ensures err { IfErr result (λ fault. (stop : Stops (K.stream sink.old) (K.stream sink.new) (pipe self.old).turns (pipe self.new).turns ((pipe self.old).outbox ++ bytes.now) fault)
             × Remains stop.front.front (pipe self.old).outbox (pipe self.new).outbox) }
         ensures inbox { (pipe self.new).inbox ≡ (pipe self.old).inbox };

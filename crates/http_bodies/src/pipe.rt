@@ -126,7 +126,7 @@ impl Pipe {
         ensures moves { (s w : Stream) → (used : List ℕ) × (text : List ℕ) × Feeds coding.old coding.new used text
             × Moves (ends self.old s w) (ends self.new s w) used text }
         ensures whole { IfOk result (λ whole. whole ≡ true → is_done coding.new ≡ true) }
-        ensures part { IfOk result (λ whole. whole ≡ false → (is_done coding.new ≡ false) × ((self.new.inbox ≡ []) ⊎ (OUTBOX_BYTES < length self.new.outbox + 18))) }
+        ensures part { IfOk result (λ whole. whole ≡ false → (is_done coding.new ≡ false) × (is_bad coding.new ≡ false) × ((self.new.inbox ≡ []) ⊎ (OUTBOX_BYTES < length self.new.outbox + 18))) }
         ensures never { IfErr result (λ fault. (fault ≡ Fault.Framing) × (is_bad coding.new ≡ true)) }
     {
         let fed = coding.feed(self.inbox.as_slice(), &mut self.outbox);

@@ -38,20 +38,20 @@ advance-requires-clause-countable g c =
 pub returns-in_err-more-clause-err : goal.returns-in_err-more-clause-err
 returns-in_err-more-clause-err g c =
     let fed = forwarding_feed refl refl c.forwarding.invariant (c.feed.ensures.moves (g.S.Source.stream c.forwarding.source) (g.K.Sink.stream c.forwarding.sink)) in
-    at_exit c.from_residual-in_err-more.result _ _ c.from_residual-in_err-more.ensures.1 (part_before fed (c.in_ok-whole.ensures.part c.if-whole.false).0 c.in_err-more.ensures.err)
+    at_exit c.from_residual-in_err-more.result _ _ c.from_residual-in_err-more.ensures.1 (part_before fed (c.in_ok-whole.ensures.part c.if-whole.false).0 (c.in_ok-whole.ensures.part c.if-whole.false).1 c.in_err-more.ensures.err)
 
 pub returns-then-not-more-clause-ok : goal.returns-then-not-more-clause-ok
 returns-then-not-more-clause-ok g c =
     let fed = forwarding_feed refl refl c.forwarding.invariant (c.feed.ensures.moves (g.S.Source.stream c.forwarding.source) (g.K.Sink.stream c.forwarding.sink)) in
-    on_ok_weaker c.ended.result (λ e. body_to_end (forwarding_on (c.in_ok-whole.ensures.part c.if-whole.false).0 (c.in_ok-whole.ensures.part c.if-whole.false).1 c.in_ok-more.ensures.read c.in_ok-more.ensures.unread fed c.in_ok-more.ensures.ok) e) c.ended.ensures.ok
+    on_ok_weaker c.ended.result (λ e. body_to_end (forwarding_on (c.in_ok-whole.ensures.part c.if-whole.false).0 (c.in_ok-whole.ensures.part c.if-whole.false).1 (c.in_ok-whole.ensures.part c.if-whole.false).2 c.in_ok-more.ensures.read c.in_ok-more.ensures.unread fed c.in_ok-more.ensures.ok) e) c.ended.ensures.ok
 
 pub returns-then-not-more-clause-err : goal.returns-then-not-more-clause-err
 returns-then-not-more-clause-err g c =
     let fed = forwarding_feed refl refl c.forwarding.invariant (c.feed.ensures.moves (g.S.Source.stream c.forwarding.source) (g.K.Sink.stream c.forwarding.sink)) in
     let going = c.in_ok-whole.ensures.part c.if-whole.false in
-    let on = forwarding_on (c.in_ok-whole.ensures.part c.if-whole.false).0 (c.in_ok-whole.ensures.part c.if-whole.false).1 c.in_ok-more.ensures.read c.in_ok-more.ensures.unread fed c.in_ok-more.ensures.ok in
+    let on = forwarding_on (c.in_ok-whole.ensures.part c.if-whole.false).0 (c.in_ok-whole.ensures.part c.if-whole.false).1 (c.in_ok-whole.ensures.part c.if-whole.false).2 c.in_ok-more.ensures.read c.in_ok-more.ensures.unread fed c.in_ok-more.ensures.ok in
     if_err_weaker c.ended.result
-    (λ fault is. rw is.0 (part_at_end on going.0 is.1 (c.in_ok-more.ensures.end c.if-not-more.true) (c.in_ok-more.ensures.none c.if-not-more.true)))
+    (λ fault is. rw is.0 (part_at_end on going.0 going.1 is.1 (c.in_ok-more.ensures.end c.if-not-more.true) (c.in_ok-more.ensures.none c.if-not-more.true)))
     c.ended.ensures.err
 
 pub forwarding-smaller : goal.forwarding-smaller
@@ -62,7 +62,7 @@ forwarding-smaller g c =
 pub forwarding-preserved : goal.forwarding-preserved
 forwarding-preserved g c =
     let fed = forwarding_feed refl refl c.forwarding.invariant (c.feed.ensures.moves (g.S.Source.stream c.forwarding.source) (g.K.Sink.stream c.forwarding.sink)) in
-    forwarding_on (c.in_ok-whole.ensures.part c.if-whole.false).0 (c.in_ok-whole.ensures.part c.if-whole.false).1 c.in_ok-more.ensures.read c.in_ok-more.ensures.unread fed c.in_ok-more.ensures.ok
+    forwarding_on (c.in_ok-whole.ensures.part c.if-whole.false).0 (c.in_ok-whole.ensures.part c.if-whole.false).1 (c.in_ok-whole.ensures.part c.if-whole.false).2 c.in_ok-more.ensures.read c.in_ok-more.ensures.unread fed c.in_ok-more.ensures.ok
 
 pub returns-in_err-whole-clause-unread : goal.returns-in_err-whole-clause-unread
 returns-in_err-whole-clause-unread g c = c.forwarding.invariant.unread
@@ -73,9 +73,9 @@ returns-then-whole-clause-unread g c = c.forwarding.invariant.unread
 pub returns-in_err-more-clause-unread : goal.returns-in_err-more-clause-unread
 returns-in_err-more-clause-unread g c =
     let fed = forwarding_feed refl refl c.forwarding.invariant (c.feed.ensures.moves (g.S.Source.stream c.forwarding.source) (g.K.Sink.stream c.forwarding.sink)) in
-    unread_on (g.S.Source.stream c.advance.new.source) (c.in_ok-whole.ensures.part c.if-whole.false).0 fed c.in_err-more.ensures.unread
+    unread_on (g.S.Source.stream c.advance.new.source) (c.in_ok-whole.ensures.part c.if-whole.false).0 (c.in_ok-whole.ensures.part c.if-whole.false).1 fed c.in_err-more.ensures.unread
 
 pub returns-then-not-more-clause-unread : goal.returns-then-not-more-clause-unread
 returns-then-not-more-clause-unread g c =
     let fed = forwarding_feed refl refl c.forwarding.invariant (c.feed.ensures.moves (g.S.Source.stream c.forwarding.source) (g.K.Sink.stream c.forwarding.sink)) in
-    unread_on (g.S.Source.stream c.advance.new.source) (c.in_ok-whole.ensures.part c.if-whole.false).0 fed c.in_ok-more.ensures.unread
+    unread_on (g.S.Source.stream c.advance.new.source) (c.in_ok-whole.ensures.part c.if-whole.false).0 (c.in_ok-whole.ensures.part c.if-whole.false).1 fed c.in_ok-more.ensures.unread

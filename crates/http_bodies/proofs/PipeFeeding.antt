@@ -1,8 +1,8 @@
 -- A coding that is fed from a pipe: what it used is a body, a part of one, or will never be one.
-use Rattle.std.proofs.Common.{◌≡◌, ◌≢◌, ◌∙◌, ◌⊎◌, ◌+◌, ◌<◌, ℕ, Bool, true, false, List, [], ◌∷◌, ◌++◌, length, take, drop}
+use Rattle.std.proofs.Common.{◌≡◌, ◌≢◌, ◌∙◌, ◌⊎◌, ◌+◌, ◌<◌, ◌≤◌, ℕ, Bool, true, false, List, [], ◌∷◌, ◌++◌, length, take, drop}
 use Rattle.std.proofs.Common.{refl, sym, ap, arith, append_assoc, append-nil, length-append, subst, inl, inr}
-use Rattle.std.specs.Io.KnownBytes.{IsAtEnd}
-use Rattle.std.proofs.KnownBytes.{Consumes-nil}
+use Rattle.std.specs.Io.KnownBytes.{Consumes, IsAtEnd}
+use Rattle.std.proofs.KnownBytes.{Consumes-nil, Consumes-trans}
 use Rattle.std.proofs.lemmas.Bool.{false≢true}
 use Rattle.std.proofs.lemmas.List.{take-append-drop, nil_from_length}
 use Rattle.base_streams.specs.Streams.{Stream}
@@ -19,7 +19,7 @@ use Rattle.http_bodies.specs.declared.coding.Coding.{Coding}
 use Rattle.http_bodies.specs.declared.coding.Coding.TheVariants.{ToEnd}
 use Rattle.http_bodies.proofs.Derivatives.{feeds_nil, feeds_trans}
 use Rattle.http_bodies.proofs.Running.{read_nothing, run_text, run_done, run_bad, run_early, run_sound}
-use Rattle.http_bodies.specs.Steps.{Ends, ends, Reads, Moves, Breaks, HoldsBack, LacksNothing, IsAll}
+use Rattle.http_bodies.specs.Steps.{Ends, ends, Reads, Moves, Breaks, HoldsBack, LacksNothing, IsAll, AsksAtNeed}
 use Rattle.http_bodies.specs.declared.outbox.TheConstants.{OUTBOX_BYTES}
 use Rattle.http_bodies.specs.declared.pipe.Pipe.{Pipe}
 use Rattle.http_bodies.proofs.Stepping.{moves_none, moves_trans, moves_as, moves_breaks, breaks_as, breaks_end, breaks_framing}
@@ -63,16 +63,19 @@ StillWaits a b text = b.source.calls ≡ a.source.calls
 abbrev IsUnread : Framing → Ends → Stream → Type 0
 IsUnread framing a s = ¬ (IsUnfinished framing a.pipe.inbox) → s ≡ a.source
 
--- what a coding used of a body, from its first byte on, and the text that it gave for it
-pub record Forwarding (framing : Framing) (framed : Bool) (c : Coding) (a b : Ends) : Type 0 where
+-- what a coding used of a body, from its first byte on, and the text that it gave for it; each read
+-- brought a byte at least, but this number of them
+pub record Forwarding (framing : Framing) (framed : Bool) (c : Coding) (a b : Ends) (idle : ℕ) : Type 0 where
   pub used : List ℕ
   pub text : List ℕ
   pub feeds : Feeds (start_of framing framed) c used text
   pub moves : Moves a b used text
   pub late : StillWaits a b text
   pub unread : IsUnread framing a b.source
+  pub each : b.source.calls ≤ a.source.calls + length moves.taken + idle
+  pub asked : AsksAtNeed a.source b.source a.pipe.inbox (IsUnfinished framing)
 
-pub forwarding_start : (framing : Framing) (framed : Bool) (c : Coding) (e : Ends) → c ≡ start_of framing framed → Forwarding framing framed c e e
+pub forwarding_start : (framing : Framing) (framed : Bool) (c : Coding) (e : Ends) → c ≡ start_of framing framed → Forwarding framing framed c e e 0
 forwarding_start framing framed c e is = record {
   used = [];
   text = [];
@@ -80,6 +83,8 @@ forwarding_start framing framed c e is = record {
   moves = moves_none e;
   late = λ same. inl (refl, sym (append-nil e.pipe.outbox));
   unread = λ whole. refl;
+  each = omega arith;
+  asked = inl refl;
 }
 
 -- where no call was made of a sink, what was given waits
@@ -110,16 +115,19 @@ waits_on a b e used text going read before late p = λ same. elim going [
       ]
 ]
 
-pub forwarding_feed : {framing : Framing} {framed : Bool} {c d : Coding} {a b e : Ends} → e.source ≡ b.source → e.sink ≡ b.sink
-    → Forwarding framing framed c a b
-    → (used : List ℕ) × (text : List ℕ) × Feeds c d used text × Moves b e used text → Forwarding framing framed d a e
-forwarding_feed {a = a} source sink p fed = record {
+pub forwarding_feed : {framing : Framing} {framed : Bool} {c d : Coding} {a b e : Ends} {idle : ℕ} → e.source ≡ b.source → e.sink ≡ b.sink
+    → Forwarding framing framed c a b idle
+    → (used : List ℕ) × (text : List ℕ) × Feeds c d used text × Moves b e used text → Forwarding framing framed d a e idle
+unfolding moves_trans
+forwarding_feed {framing} {a = a} source sink p fed = record {
   used = p.used ++ fed.0;
   text = p.text ++ fed.1;
   feeds = feeds_trans p.feeds fed.2;
   moves = moves_trans p.moves fed.3;
   late = waits_feed a p.text (ap (λ (s : Stream). s.calls) source) sink p.late fed.3;
   unread = λ whole. source ∙ p.unread whole;
+  each = omega (arith, p.each, ap (λ (s : Stream). s.calls) source, length-append p.moves.taken fed.3.taken);
+  asked = subst (λ (s : Stream). AsksAtNeed a.source s a.pipe.inbox (IsUnfinished framing)) (sym source) p.asked;
 }
 
 is_to_end : (framing : Framing) → (framing ≡ Framed.ToEnd) ⊎ (framing ≢ Framed.ToEnd)
@@ -136,8 +144,22 @@ is_nil (x ∷ l) = inr (λ is. cc)
 none_taken : {a b : Ends} {taken : List ℕ} → b.source ≡ a.source → Reads a b taken → taken ≡ []
 none_taken same reads = nil_from_length _ (omega (arith, reads.few, ap (λ (s : Stream). s.calls) same))
 
+-- what was used is no whole body yet, and no byte of it is refused
+still_unfinished : {framing : Framing} (framed : Bool) {c : Coding} {used text : List ℕ} → is_done c ≡ false → is_bad c ≡ false
+    → Feeds (start_of framing framed) c used text → IsUnfinished framing used
+still_unfinished {framing} framed {c} {used} {text} going sound feeds = elim (is_to_end framing) [
+  | inl to_end ↦ inl to_end
+  | inr other ↦
+      let steps = (used, text) ∷ [] in
+      inr (
+        subst (LacksBody framing) (append-nil used) (run_early framing framed steps c (c, feeds, refl) other going),
+        subst (IsSound framing) (append-nil used) (run_sound framing framed steps c (c, feeds, refl) sound),
+      )
+]
+
 -- the source isn't asked where bytes are held, and where none are, what was held is used up and unfinished
-pub unread_on : {framing : Framing} {framed : Bool} {c : Coding} {a b : Ends} (s : Stream) → is_done c ≡ false → is_bad c ≡ false → Forwarding framing framed c a b
+pub unread_on : {framing : Framing} {framed : Bool} {c : Coding} {a b : Ends} {idle : ℕ} (s : Stream) → is_done c ≡ false → is_bad c ≡ false
+    → Forwarding framing framed c a b idle
     → (b.pipe.inbox ≢ [] → s ≡ b.source) → IsUnread framing a s
 unread_on {framing} {framed} {c} {a} {b} s going sound p asks = λ whole. elim (is_nil b.pipe.inbox) [
   | inr some ↦ asks some ∙ p.unread whole
@@ -145,29 +167,55 @@ unread_on {framing} {framed} {c} {a} {b} s going sound p asks = λ whole. elim (
       let all : p.used ≡ a.pipe.inbox =
       sym (append-nil p.used) ∙ ap (λ l. p.used ++ l) (sym none) ∙ sym p.moves.held
       ∙ ap (λ l. a.pipe.inbox ++ l) (none_taken (p.unread whole) p.moves.reads) ∙ append-nil a.pipe.inbox in
-      elim (is_to_end framing) [
-        | inl to_end ↦ absurd (whole (inl to_end))
-        | inr other ↦
-            let steps = (p.used, p.text) ∷ [] in
-            let same = append-nil p.used ∙ all in
-            absurd (whole (inr (
-              subst (LacksBody framing) same (run_early framing framed steps c (c, p.feeds, refl) other going),
-              subst (IsSound framing) same (run_sound framing framed steps c (c, p.feeds, refl) sound),
-            )))
-      ]
+      absurd (whole (subst (IsUnfinished framing) all (still_unfinished framed going sound p.feeds)))
 ]
 
-pub forwarding_on : {framing : Framing} {framed : Bool} {c : Coding} {a b e : Ends} → is_done c ≡ false → is_bad c ≡ false
+-- the source is asked once more, where nothing is held and so more is wanted
+pub asked_on : {framing : Framing} {framed : Bool} {c : Coding} {a b : Ends} (e : Ends) (more : List ℕ) → is_done c ≡ false → is_bad c ≡ false
+    → Forwarding framing framed c a b 0 → (b.pipe.inbox ≢ [] → e.source ≡ b.source) → Consumes b.source.bytes e.source.bytes more
+    → e.source.calls ≤ b.source.calls + 1
+    → AsksAtNeed a.source e.source a.pipe.inbox (IsUnfinished framing)
+asked_on {framing} {framed} {c} {a} {b} e more going sound p asks bytes once = elim (is_nil b.pipe.inbox) [
+  | inr some ↦ subst (λ (s : Stream). AsksAtNeed a.source s a.pipe.inbox (IsUnfinished framing)) (sym (asks some)) p.asked
+  | inl none ↦
+      let all : p.used ≡ a.pipe.inbox ++ p.moves.taken = sym (p.moves.held ∙ ap (λ l. p.used ++ l) none ∙ append-nil p.used) in
+      inr (record {
+        before = p.moves.taken;
+        last = more;
+        bytes = Consumes-trans a.source.bytes b.source.bytes e.source.bytes p.moves.taken more p.moves.reads.bytes bytes;
+        few = omega (arith, p.each, once);
+        wanted = subst (IsUnfinished framing) all (still_unfinished framed going sound p.feeds);
+      })
+]
+
+-- each read brought a byte, but this number of them
+each_on : {framing : Framing} {framed : Bool} {c : Coding} {a b e : Ends} (idle : ℕ) (p : Forwarding framing framed c a b 0)
+    → (b.pipe.inbox ≢ [] → e.source ≡ b.source)
+    → (q : Moves b e [] []) → (b.pipe.inbox ≡ [] → e.source.calls ≤ b.source.calls + length e.pipe.inbox + idle)
+    → e.source.calls ≤ a.source.calls + length (p.moves.taken ++ q.taken) + idle
+each_on {b = b} {e = e} idle p asks q brought = elim (is_nil b.pipe.inbox) [
+  | inr some ↦ omega (arith, p.each, ap (λ (s : Stream). s.calls) (asks some), length-append p.moves.taken q.taken)
+  | inl none ↦
+      let came : q.taken ≡ e.pipe.inbox = ap (λ l. l ++ q.taken) (sym none) ∙ q.held in
+      omega (arith, p.each, brought none, ap (length {A = ℕ}) came, length-append p.moves.taken q.taken)
+]
+
+pub forwarding_on : {framing : Framing} {framed : Bool} {c : Coding} {a b e : Ends} (idle : ℕ) → is_done c ≡ false → is_bad c ≡ false
     → (b.pipe.inbox ≡ []) ⊎ (OUTBOX_BYTES < length b.pipe.outbox + 18)
-    → (b.pipe.inbox ≡ [] → b.source.calls < e.source.calls) → (b.pipe.inbox ≢ [] → e.source ≡ b.source) → Forwarding framing framed c a b → Moves b e [] []
-    → Forwarding framing framed c a e
-forwarding_on {a = a} {b = b} {e = e} unfinished sound going read asks p moves = record {
+    → (b.pipe.inbox ≡ [] → b.source.calls < e.source.calls) → (b.pipe.inbox ≢ [] → e.source ≡ b.source)
+    → (b.pipe.inbox ≡ [] → e.source.calls ≤ b.source.calls + length e.pipe.inbox + idle) → e.source.calls ≤ b.source.calls + 1
+    → Forwarding framing framed c a b 0 → Moves b e [] []
+    → Forwarding framing framed c a e idle
+unfolding moves_trans moves_as
+forwarding_on {a = a} {b = b} {e = e} idle unfinished sound going read asks brought once p moves = record {
   used = p.used;
   text = p.text;
   feeds = p.feeds;
   moves = moves_as (append-nil p.used) (append-nil p.text) (moves_trans p.moves moves);
   late = waits_on a b e p.used p.text going read p.moves p.late moves;
   unread = unread_on e.source unfinished sound p asks;
+  each = each_on idle p asks moves brought;
+  asked = asked_on e moves.taken unfinished sound p asks moves.reads.bytes once;
 }
 
 -- what goes on to the end is given as it came, and is never done
@@ -202,7 +250,7 @@ StopsAmid framing framed a b fault = (used : List ℕ) × (text : List ℕ) × I
 still_holds : (a b : Ends) (text : List ℕ) → StillWaits a b text → HoldsBack a b text
 still_holds a b text late = λ same. elim (late same) [ inl kept ↦ inl kept.0 | inr full ↦ inr full ]
 
-module _ {framing : Framing} {framed : Bool} {c : Coding} {a b : Ends} (p : Forwarding framing framed c a b) where
+module _ {framing : Framing} {framed : Bool} {c : Coding} {a b : Ends} {idle : ℕ} (p : Forwarding framing framed c a b idle) where
   pub never_whole : framing ≡ Framed.ToEnd → is_done c ≡ true → ⊥
   never_whole e is =
       let none = subst (λ (f : Framing). Feeds (start_of f framed) c p.used p.text → is_done c ≡ false) (sym e) (never_done c p.used p.text) p.feeds in
@@ -230,15 +278,9 @@ module _ {framing : Framing} {framed : Bool} {c : Coding} {a b : Ends} (p : Forw
 
   -- what was used is no whole body yet
   unfinished : is_done c ≡ false → is_bad c ≡ false → (l : List ℕ) → IsAll [] l → IsUnfinished framing (p.used ++ l)
-  unfinished is sound l none = elim (is_to_end framing) [
-    | inl to_end ↦ inl to_end
-    | inr other ↦
-        let steps = (p.used, p.text) ∷ [] in
-        inr (
-          subst (λ (k : List ℕ). LacksBody framing (p.used ++ k)) (sym none) (run_early framing framed steps c (c, p.feeds, refl) other is),
-          subst (λ (k : List ℕ). IsSound framing (p.used ++ k)) (sym none) (run_sound framing framed steps c (c, p.feeds, refl) sound),
-        )
-  ]
+  unfinished is sound l none =
+      subst (λ (k : List ℕ). IsUnfinished framing (p.used ++ k)) (sym none)
+      (subst (IsUnfinished framing) (sym (append-nil p.used)) (still_unfinished framed is sound p.feeds))
 
   -- of a call that failed
   pub part_before : {d : Ends} {fault : Fault} → is_done c ≡ false → is_bad c ≡ false → Breaks b d [] [] LacksNothing (IsAll []) fault

@@ -57,7 +57,7 @@ moves_none e = record {
   good_writes = refl;
 }
 
-pub moves_trans : {a b c : Ends} {used text more_used more_text : List ℕ} → Moves a b used text → Moves b c more_used more_text
+unfoldable pub moves_trans : {a b c : Ends} {used text more_used more_text : List ℕ} → Moves a b used text → Moves b c more_used more_text
     → Moves a c (used ++ more_used) (text ++ more_text)
 moves_trans {a} {b} {c} {used} {text} {more_used} {more_text} p q = record {
   taken = p.taken ++ q.taken;
@@ -132,8 +132,17 @@ moves_breaks {a} {b} {c} {used} {text} {more_used} {more_text} {fault} Lacks Who
       wanted = λ is. subst All (sym front) (want (b.pipe.inbox ++ q.taken) (q.wanted is));
     }
 
-pub moves_as : {a b : Ends} {used text same_used same_text : List ℕ} → used ≡ same_used → text ≡ same_text → Moves a b used text → Moves a b same_used same_text
-moves_as {a} {b} {used} {text} {same_used} e f p = subst (λ (l : List ℕ). Moves a b same_used l) f (subst (λ (l : List ℕ). Moves a b l text) e p)
+unfoldable pub moves_as : {a b : Ends} {used text same_used same_text : List ℕ} → used ≡ same_used → text ≡ same_text → Moves a b used text → Moves a b same_used same_text
+moves_as {a} {b} e f p = record {
+  taken = p.taken;
+  reads = p.reads;
+  held = p.held ∙ ap (λ l. l ++ b.pipe.inbox) e;
+  front = p.front;
+  writes = p.writes;
+  waiting = ap (λ l. a.pipe.outbox ++ l) (sym f) ∙ p.waiting;
+  good_reads = p.good_reads;
+  good_writes = p.good_writes;
+}
 
 pub breaks_as : {a b : Ends} {used text same_used same_text : List ℕ} {fault : Fault} (Lacks Wants : List ℕ → Type 0) → used ≡ same_used → text ≡ same_text
     → Breaks a b used text Lacks Wants fault → Breaks a b same_used same_text Lacks Wants fault

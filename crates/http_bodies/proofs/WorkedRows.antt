@@ -5,7 +5,7 @@ use Rattle.base_streams.specs.Streams.{Stream}
 use Rattle.httparse.specs.Grammar.LineEnd.{lf}
 use Rattle.std.proofs.KnownBytes.{Consumes-nil}
 use Rattle.http_bodies.specs.Framings.{IsBody, LacksBody, IsUnfinished}
-use Rattle.http_bodies.specs.Steps.{Ends, ends, Breaks, HoldsBack, Lingers}
+use Rattle.http_bodies.specs.Steps.{Ends, ends, Breaks, HoldsBack, Asks, Lingers}
 use Rattle.http_bodies.specs.Stops.{LacksRoom}
 use Rattle.http_bodies.specs.Texts.{Remains, WaitsBehind, Wrote}
 use Rattle.http_bodies.specs.declared.coding.Coding.TheVariants as Coded
@@ -166,3 +166,12 @@ not_behind_a_body end w x = elim (x.wanted refl) [
   | inl is ↦ cc
   | inr lacks ↦ absurd (omega (arith, lacks.0, ap (length {A = ℕ}) x.held))
 ]
+
+-- of a body of two bytes, of which each read brings one, two reads are made, and not a third
+two_reads : (end : GName) → Asks (stream end (codes "abc") 0) (stream end (codes "c") 2) [] (IsUnfinished (Length 2))
+unfolding stream
+two_reads end = record { before = codes "a"; last = codes "b"; bytes = refl; few = omega arith; wanted = inr (omega arith, refl) }
+
+not_a_third : (end : GName) → ¬ (Asks (stream end (codes "abc") 0) (stream end [] 3) [] (IsUnfinished (Length 2)))
+unfolding stream
+not_a_third end asks = elim asks.wanted [ inl is ↦ cc | inr lacks ↦ absurd (omega (arith, lacks.0, asks.few)) ]

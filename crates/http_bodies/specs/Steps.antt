@@ -77,6 +77,19 @@ pub record Breaks (old new : Ends) (used text : List ℕ) (Lacks Wants : List �
   pub undone : fault ≡ Turns → (0 < length writes.rest) ⊎ Wants (old.pipe.inbox ++ taken)
   pub wanted : fault ≡ Read → Wants (old.pipe.inbox ++ taken)
 
+-- Each read but the last one brings a byte at least, and the last one is made where Wants says of what
+-- was held and read before it that more is wanted.
+pub record Asks (old new : Stream) (held : List ℕ) (Wants : List ℕ → Type 0) : Type 0 where
+  pub before : List ℕ
+  pub last : List ℕ
+  pub bytes : Consumes old.bytes new.bytes (before ++ last)
+  pub few : new.calls ≤ old.calls + length before + 1
+  pub wanted : Wants (held ++ before)
+
+-- nothing was asked of the source, or only while more was wanted
+abbrev pub AsksAtNeed : Stream → Stream → List ℕ → (List ℕ → Type 0) → Type 0
+AsksAtNeed old new held Wants = (new ≡ old) ⊎ Asks old new held Wants
+
 -- Where nothing was read, nothing was written either, unless there was no room for what waited, for
 -- the text, and for the longest text of one more byte of the input.
 abbrev pub HoldsBack : Ends → Ends → List ℕ → Type 0

@@ -1,6 +1,6 @@
-ghost use Rattle.std.specs.Prelude.{◌≡◌, ◌≢◌, ◌⊎◌, ◌+◌, ◌<◌, ℕ, List, [], length, false, IfOk, OnOk, IfErr};
+ghost use Rattle.std.specs.Prelude.{◌≡◌, ◌≢◌, ◌⊎◌, ◌+◌, ◌<◌, ℕ, List, [], length, ◌≤◌, true, false, IfOk, OnOk, IfErr};
 ghost use Rattle.std.specs.Io.KnownBytes.{IsAtEnd};
-ghost use Rattle.http_bodies.specs.Steps.{ends, Countable, Moves, Breaks, HoldsBack, LacksNothing, IsAll};
+ghost use Rattle.http_bodies.specs.Steps.{ends, Countable, Moves, Breaks, HoldsBack, LacksNothing, IsAll, AsksAtNeed};
 ghost use Rattle.http_bodies.specs.Framings.{IsBody, LacksBody, IsUnfinished};
 ghost use Rattle.http_bodies.specs.Runs.{IsTaken};
 
@@ -26,6 +26,7 @@ impl Pipe {
         ensures end { framing ≡ Framing.ToEnd → OnOk result (IsAtEnd (S.stream source.new).bytes) }
         ensures all { framing ≡ Framing.ToEnd → OnOk result (self.new.inbox ≡ []) }
         ensures unread { ¬ (IsUnfinished framing self.old.inbox) → S.stream source.new ≡ S.stream source.old }
+        ensures asked { AsksAtNeed (S.stream source.old) (S.stream source.new) self.old.inbox (IsUnfinished framing) }
         ensures err { IfErr result (λ fault. (used : List ℕ) × (text : List ℕ) × IsTaken framing framed used text
             × Breaks (ends self.old (S.stream source.old) (K.stream sink.old)) (ends self.new (S.stream source.new) (K.stream sink.new)) used text (LacksBody framing) (IsUnfinished framing) fault
             × (fault ≡ Fault.Framing → HoldsBack (ends self.old (S.stream source.old) (K.stream sink.old)) (ends self.new (S.stream source.new) (K.stream sink.new)) text)) }
@@ -54,6 +55,8 @@ impl Pipe {
         ensures spent { OnOk result (self.new.turns < self.old.turns) }
         ensures read { self.old.inbox ≡ [] → OnOk result ((S.stream source.old).calls < (S.stream source.new).calls) }
         ensures unread { self.old.inbox ≢ [] → S.stream source.new ≡ S.stream source.old }
+        ensures once { (S.stream source.new).calls ≤ (S.stream source.old).calls + 1 }
+        ensures brought { self.old.inbox ≡ [] → IfOk result (λ more. more ≡ true → 0 < length self.new.inbox) }
         ensures end { IfOk result (λ more. more ≡ false → IsAtEnd (S.stream source.new).bytes) }
         ensures none { IfOk result (λ more. more ≡ false → self.new.inbox ≡ []) }
         ensures err { IfErr result (Breaks (ends self.old (S.stream source.old) (K.stream sink.old)) (ends self.new (S.stream source.new) (K.stream sink.new)) [] [] LacksNothing (IsAll [])) }

@@ -151,6 +151,7 @@ impl Pipe {
         ensures waiting { self.new.outbox ≡ self.old.outbox }
         ensures kept { OnErr result ((self.new.inbox ≡ self.old.inbox) × Keeps (S.stream source.old).bytes (S.stream source.new).bytes) }
         ensures err { (w : Stream) → IfErr result (Breaks (ends self.old (S.stream source.old) w) (ends self.new (S.stream source.new) w) [] [] LacksNothing (IsAll self.old.inbox)) }
+        ensures once { (S.stream source.new).calls ≤ (S.stream source.old).calls + 1 }
         ensures unasked { result ≡ Err Fault.Turns → S.stream source.new ≡ S.stream source.old }
     {
         if self.turns == 0 {

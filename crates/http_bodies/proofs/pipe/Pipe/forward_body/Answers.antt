@@ -2,8 +2,9 @@
 use Rattle.std.proofs.Common.{refl, arith}
 use Rattle.std.proofs.lemmas.Result.{on_ok_weaker}
 use Rattle.http_bodies.proofs.Exits.{at_exit, if_err_weaker}
-use Rattle.http_bodies.proofs.PipeFeeding.{forwarding_start, forwarding_feed, forwarding_on, never_whole, whole_body, body_to_end, part_before, part_of_none, part_at_end, unread_on}
+use Rattle.http_bodies.proofs.PipeFeeding.{forwarding_start, forwarding_feed, asked_on, forwarding_on, never_whole, whole_body, body_to_end, part_before, part_of_none, part_at_end, unread_on}
 use Rattle.http_bodies.proofs.Stepping.{Countable-later}
+use Rattle.http_bodies.specs.Steps.{ends}
 use Rattle.http_bodies.proofs.pipe.Pipe.forward_body.Goals as goal
 
 pub forwarding-init : goal.forwarding-init
@@ -43,13 +44,13 @@ returns-in_err-more-clause-err g c =
 pub returns-then-not-more-clause-ok : goal.returns-then-not-more-clause-ok
 returns-then-not-more-clause-ok g c =
     let fed = forwarding_feed refl refl c.forwarding.invariant (c.feed.ensures.moves (g.S.Source.stream c.forwarding.source) (g.K.Sink.stream c.forwarding.sink)) in
-    on_ok_weaker c.ended.result (λ e. body_to_end (forwarding_on (c.in_ok-whole.ensures.part c.if-whole.false).0 (c.in_ok-whole.ensures.part c.if-whole.false).1 (c.in_ok-whole.ensures.part c.if-whole.false).2 c.in_ok-more.ensures.read c.in_ok-more.ensures.unread fed c.in_ok-more.ensures.ok) e) c.ended.ensures.ok
+    on_ok_weaker c.ended.result (λ e. body_to_end (forwarding_on 1 (c.in_ok-whole.ensures.part c.if-whole.false).0 (c.in_ok-whole.ensures.part c.if-whole.false).1 (c.in_ok-whole.ensures.part c.if-whole.false).2 c.in_ok-more.ensures.read c.in_ok-more.ensures.unread (λ none. omega (arith, c.in_ok-more.ensures.once)) c.in_ok-more.ensures.once fed c.in_ok-more.ensures.ok) e) c.ended.ensures.ok
 
 pub returns-then-not-more-clause-err : goal.returns-then-not-more-clause-err
 returns-then-not-more-clause-err g c =
     let fed = forwarding_feed refl refl c.forwarding.invariant (c.feed.ensures.moves (g.S.Source.stream c.forwarding.source) (g.K.Sink.stream c.forwarding.sink)) in
     let going = c.in_ok-whole.ensures.part c.if-whole.false in
-    let on = forwarding_on (c.in_ok-whole.ensures.part c.if-whole.false).0 (c.in_ok-whole.ensures.part c.if-whole.false).1 (c.in_ok-whole.ensures.part c.if-whole.false).2 c.in_ok-more.ensures.read c.in_ok-more.ensures.unread fed c.in_ok-more.ensures.ok in
+    let on = forwarding_on 1 (c.in_ok-whole.ensures.part c.if-whole.false).0 (c.in_ok-whole.ensures.part c.if-whole.false).1 (c.in_ok-whole.ensures.part c.if-whole.false).2 c.in_ok-more.ensures.read c.in_ok-more.ensures.unread (λ none. omega (arith, c.in_ok-more.ensures.once)) c.in_ok-more.ensures.once fed c.in_ok-more.ensures.ok in
     if_err_weaker c.ended.result
     (λ fault is. rw is.0 (part_at_end on going.0 going.1 is.1 (c.in_ok-more.ensures.end c.if-not-more.true) (c.in_ok-more.ensures.none c.if-not-more.true)))
     c.ended.ensures.err
@@ -62,7 +63,7 @@ forwarding-smaller g c =
 pub forwarding-preserved : goal.forwarding-preserved
 forwarding-preserved g c =
     let fed = forwarding_feed refl refl c.forwarding.invariant (c.feed.ensures.moves (g.S.Source.stream c.forwarding.source) (g.K.Sink.stream c.forwarding.sink)) in
-    forwarding_on (c.in_ok-whole.ensures.part c.if-whole.false).0 (c.in_ok-whole.ensures.part c.if-whole.false).1 (c.in_ok-whole.ensures.part c.if-whole.false).2 c.in_ok-more.ensures.read c.in_ok-more.ensures.unread fed c.in_ok-more.ensures.ok
+    forwarding_on 0 (c.in_ok-whole.ensures.part c.if-whole.false).0 (c.in_ok-whole.ensures.part c.if-whole.false).1 (c.in_ok-whole.ensures.part c.if-whole.false).2 c.in_ok-more.ensures.read c.in_ok-more.ensures.unread (λ none. omega (arith, c.in_ok-more.ensures.once, c.in_ok-more.ensures.brought none c.if-not-more.false)) c.in_ok-more.ensures.once fed c.in_ok-more.ensures.ok
 
 pub returns-in_err-whole-clause-unread : goal.returns-in_err-whole-clause-unread
 returns-in_err-whole-clause-unread g c = c.forwarding.invariant.unread
@@ -79,3 +80,23 @@ pub returns-then-not-more-clause-unread : goal.returns-then-not-more-clause-unre
 returns-then-not-more-clause-unread g c =
     let fed = forwarding_feed refl refl c.forwarding.invariant (c.feed.ensures.moves (g.S.Source.stream c.forwarding.source) (g.K.Sink.stream c.forwarding.sink)) in
     unread_on (g.S.Source.stream c.advance.new.source) (c.in_ok-whole.ensures.part c.if-whole.false).0 (c.in_ok-whole.ensures.part c.if-whole.false).1 fed c.in_ok-more.ensures.unread
+
+pub returns-in_err-whole-clause-asked : goal.returns-in_err-whole-clause-asked
+returns-in_err-whole-clause-asked g c = c.forwarding.invariant.asked
+
+pub returns-then-whole-clause-asked : goal.returns-then-whole-clause-asked
+returns-then-whole-clause-asked g c = c.forwarding.invariant.asked
+
+pub returns-in_err-more-clause-asked : goal.returns-in_err-more-clause-asked
+returns-in_err-more-clause-asked g c =
+    let fed = forwarding_feed refl refl c.forwarding.invariant (c.feed.ensures.moves (g.S.Source.stream c.forwarding.source) (g.K.Sink.stream c.forwarding.sink)) in
+    let going = c.in_ok-whole.ensures.part c.if-whole.false in
+    asked_on (ends c.advance.new.self (g.S.Source.stream c.advance.new.source) (g.K.Sink.stream c.advance.new.sink)) c.in_err-more.ensures.err.taken
+    going.0 going.1 fed c.in_err-more.ensures.unread c.in_err-more.ensures.err.reads.bytes c.in_err-more.ensures.once
+
+pub returns-then-not-more-clause-asked : goal.returns-then-not-more-clause-asked
+returns-then-not-more-clause-asked g c =
+    let fed = forwarding_feed refl refl c.forwarding.invariant (c.feed.ensures.moves (g.S.Source.stream c.forwarding.source) (g.K.Sink.stream c.forwarding.sink)) in
+    let going = c.in_ok-whole.ensures.part c.if-whole.false in
+    asked_on (ends c.advance.new.self (g.S.Source.stream c.advance.new.source) (g.K.Sink.stream c.advance.new.sink)) c.in_ok-more.ensures.ok.taken
+    going.0 going.1 fed c.in_ok-more.ensures.unread c.in_ok-more.ensures.ok.reads.bytes c.in_ok-more.ensures.once

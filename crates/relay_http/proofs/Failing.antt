@@ -2,9 +2,10 @@
 use Rattle.std.proofs.Common.{◌≡◌, ◌∙◌, ◌<◌, ℕ, Bool, ◌+◌, List, [], ◌++◌, length, refl, sym, ap, arith, append_assoc, append-nil, length-append, subst, inl, inr}
 use Rattle.std.specs.Io.KnownBytes.{IsAtEnd}
 use Rattle.std.proofs.KnownBytes.{Consumes-nil}
+use Rattle.std.proofs.lemmas.List.{nil_from_length}
 use Rattle.base_streams.specs.Streams.{Stream}
 use Rattle.http_bodies.specs.Framings.{LacksBody, IsUnfinished}
-use Rattle.http_bodies.specs.Runs.{IsTaken}
+use Rattle.http_bodies.specs.Runs.{IsSent, IsTaken}
 use Rattle.http_bodies.specs.declared.fault.Fault as Body
 use Rattle.http_bodies.specs.declared.fault.Fault.TheVariants as OfBody
 use Rattle.http_bodies.specs.declared.framing.Framing as Framed
@@ -23,7 +24,7 @@ use Rattle.http_texts.specs.declared.fault.Fault.{Fault}
 use Rattle.http_texts.specs.declared.fault.Fault.TheVariants.{NoMemory, Head, Framing, Read, Write, Turns, Closed}
 
 -- whose the fault is doesn't depend on where one begins to look, as long as no call failed before
-blames_earlier : (fault : Fault) (a b c : Ends) (Why Whole : Fault → List ℕ → Type 0) (used input whole : List ℕ)
+pub blames_earlier : (fault : Fault) (a b c : Ends) (Why Whole : Fault → List ℕ → Type 0) (used input whole : List ℕ)
     → b.source.failures ≡ a.source.failures → b.sink.failures ≡ a.sink.failures
     → ((l : List ℕ) → Why fault l → Whole fault (used ++ l)) → whole ≡ used ++ input
     → Blames b c Why input fault → Blames a c Whole whole fault
@@ -46,12 +47,12 @@ blames_earlier Turns a b c Why Whole used input whole r w step e blame =
 blames_earlier Closed a b c Why Whole used input whole r w step e blame = blame
 
 -- a step, and then a fault
-pub moves_fails : {a b c : Ends} {used text more_used more_text : List ℕ} {fault : Fault} (Why Whole : Fault → List ℕ → Type 0)
+unfoldable pub moves_fails : {a b c : Ends} {used text more_used more_text : List ℕ} {fault : Fault} (Why Whole : Fault → List ℕ → Type 0)
     (Wants All : List ℕ → Type 0)
     → ((l : List ℕ) → Why fault l → Whole fault (used ++ l)) → ((l : List ℕ) → Wants l → All (used ++ l)) → Moves a b used text
-    → Fails b c more_used more_text Why Wants fault
+    → (q : Fails b c more_used more_text Why Wants fault) → (fault ≡ Read → a.pipe.outbox ≡ [] → q.writes.rest ≡ [])
     → Fails a c (used ++ more_used) (text ++ more_text) Whole All fault
-moves_fails {a} {b} {c} {used} {text} {more_used} {more_text} {fault} Why Whole Wants All step want p q =
+moves_fails {a} {b} {c} {used} {text} {more_used} {more_text} {fault} Why Whole Wants All step want p q told =
     let front : a.pipe.inbox ++ (p.taken ++ q.taken) ≡ used ++ (b.pipe.inbox ++ q.taken) =
     sym (append_assoc a.pipe.inbox p.taken q.taken) ∙ ap (λ l. l ++ q.taken) p.held ∙ append_assoc used b.pipe.inbox q.taken in record {
       taken = p.taken ++ q.taken;
@@ -71,16 +72,17 @@ moves_fails {a} {b} {c} {used} {text} {more_used} {more_text} {fault} Why Whole 
         | inr wants ↦ inr (subst All (sym front) (want (b.pipe.inbox ++ q.taken) wants))
       ];
       wanted = λ is. subst All (sym front) (want (b.pipe.inbox ++ q.taken) (q.wanted is));
+      told = told;
     }
 
 -- a fault of the relay's is one of a body of the same name
-relayed_turns : (fault : Body.Fault) → relayed fault ≡ Turns → fault ≡ OfBody.Turns
+pub relayed_turns : (fault : Body.Fault) → relayed fault ≡ Turns → fault ≡ OfBody.Turns
 relayed_turns OfBody.Turns is = refl
 relayed_turns OfBody.Read is = cc
 relayed_turns OfBody.Write is = cc
 relayed_turns OfBody.Framing is = cc
 
-relayed_read : (fault : Body.Fault) → relayed fault ≡ Read → fault ≡ OfBody.Read
+pub relayed_read : (fault : Body.Fault) → relayed fault ≡ Read → fault ≡ OfBody.Read
 relayed_read OfBody.Read is = refl
 relayed_read OfBody.Turns is = cc
 relayed_read OfBody.Write is = cc
@@ -95,7 +97,7 @@ framing_is_not_turns is = cc
 memory_is_not_turns : NoMemory ≡ Turns → ⊥
 memory_is_not_turns is = cc
 
-read_is_not_turns : Read ≡ Turns → ⊥
+pub read_is_not_turns : Read ≡ Turns → ⊥
 read_is_not_turns is = cc
 
 head_is_not_read : Head ≡ Read → ⊥
@@ -107,7 +109,7 @@ framing_is_not_read is = cc
 memory_is_not_read : NoMemory ≡ Read → ⊥
 memory_is_not_read is = cc
 
-blames_of : (fault : Body.Fault) (a b : Ends) (Lacks : List ℕ → Type 0) (Why : Fault → List ℕ → Type 0) (input : List ℕ)
+pub blames_of : (fault : Body.Fault) (a b : Ends) (Lacks : List ℕ → Type 0) (Why : Fault → List ℕ → Type 0) (input : List ℕ)
     → ((l : List ℕ) → Lacks l → Why Read l) → ((l : List ℕ) → ((more : List ℕ) → Lacks (l ++ more)) → Why Framing l)
     → Body_steps.Blames a b Lacks input fault → Blames a b Why input (relayed fault)
 blames_of OfBody.Read a b Lacks Why input early bad blame =
@@ -116,11 +118,19 @@ blames_of OfBody.Write a b Lacks Why input early bad blame = blame
 blames_of OfBody.Turns a b Lacks Why input early bad blame = (record { reads = blame.0; writes = blame.1 }, blame.2)
 blames_of OfBody.Framing a b Lacks Why input early bad blame = (record { reads = blame.0; writes = blame.1 }, bad input blame.2)
 
+-- where nothing waits, the whole text was written
+pub told_all : {a b : Ends} {used text : List ℕ} {Lacks Wants : List ℕ → Type 0} {fault : Body.Fault} → (p : Breaks a b used text Lacks Wants fault)
+    → b.pipe.outbox ≡ []
+    → p.writes.rest ≡ []
+told_all p none =
+    nil_from_length _ (omega (arith, length-append p.waiting.again p.writes.rest, ap (length {A = ℕ}) p.waiting.waiting_is, ap (length {A = ℕ}) none))
+
 -- a fault of a body
-pub fails_of : {a b : Ends} {used text : List ℕ} {fault : Body.Fault} (Lacks : List ℕ → Type 0) (Why : Fault → List ℕ → Type 0) (Wants : List ℕ → Type 0)
+unfoldable pub fails_of : {a b : Ends} {used text : List ℕ} {fault : Body.Fault} (Lacks : List ℕ → Type 0) (Why : Fault → List ℕ → Type 0) (Wants : List ℕ → Type 0)
     → ((l : List ℕ) → Lacks l → Why Read l) → ((l : List ℕ) → ((more : List ℕ) → Lacks (l ++ more)) → Why Framing l)
-    → Breaks a b used text Lacks Wants fault → Fails a b used text Why Wants (relayed fault)
-fails_of {a} {b} {fault = fault} Lacks Why Wants early bad p = record {
+    → (p : Breaks a b used text Lacks Wants fault) → (fault ≡ OfBody.Read → a.pipe.outbox ≡ [] → p.writes.rest ≡ [])
+    → Fails a b used text Why Wants (relayed fault)
+fails_of {a} {b} {fault = fault} Lacks Why Wants early bad p told = record {
   taken = p.taken;
   reads = p.reads;
   rest = b.pipe.inbox;
@@ -129,16 +139,31 @@ fails_of {a} {b} {fault = fault} Lacks Why Wants early bad p = record {
   blames = blames_of fault a b Lacks Why (a.pipe.inbox ++ p.taken) early bad p.blames;
   undone = λ spent. p.undone (relayed_turns fault spent);
   wanted = λ is. p.wanted (relayed_read fault is);
+  told = λ is. told (relayed_read fault is);
 }
 
-pub fails_as : {a b : Ends} {used text same_used same_text : List ℕ} {fault : Fault} (Why : Fault → List ℕ → Type 0) (Wants : List ℕ → Type 0)
+unfoldable pub fails_as : {a b : Ends} {used text same_used same_text : List ℕ} {fault : Fault} (Why : Fault → List ℕ → Type 0) (Wants : List ℕ → Type 0)
     → used ≡ same_used → text ≡ same_text
     → Fails a b used text Why Wants fault → Fails a b same_used same_text Why Wants fault
-fails_as {a} {b} {used} {text} {same_used} {fault = fault} Why Wants e f p =
-    subst (λ (l : List ℕ). Fails a b same_used l Why Wants fault) f (subst (λ (l : List ℕ). Fails a b l text Why Wants fault) e p)
+fails_as {a} Why Wants e f p = record {
+  taken = p.taken;
+  reads = p.reads;
+  rest = p.rest;
+  held = p.held ∙ ap (λ l. l ++ p.rest) e;
+  writes = record {
+    front = p.writes.front;
+    rest = p.writes.rest;
+    wrote = p.writes.wrote;
+    all = ap (λ l. a.pipe.outbox ++ l) (sym f) ∙ p.writes.all;
+  };
+  blames = p.blames;
+  undone = p.undone;
+  wanted = p.wanted;
+  told = p.told;
+}
 
 -- less is claimed to be used
-pub fails_less : {a b : Ends} {text : List ℕ} {fault : Fault} (Why : Fault → List ℕ → Type 0) (Wants : List ℕ → Type 0) (used tail : List ℕ)
+unfoldable pub fails_less : {a b : Ends} {text : List ℕ} {fault : Fault} (Why : Fault → List ℕ → Type 0) (Wants : List ℕ → Type 0) (used tail : List ℕ)
     → Fails a b (used ++ tail) text Why Wants fault
     → Fails a b used text Why Wants fault
 fails_less Why Wants used tail p = record {
@@ -150,22 +175,25 @@ fails_less Why Wants used tail p = record {
   blames = p.blames;
   undone = p.undone;
   wanted = p.wanted;
+  told = p.told;
 }
 
 -- one amid a body: a part of it stands at the front of what was taken
-pub fails_body : {a b : Ends} {used text : List ℕ} {fault : Body.Fault} (framing : Framed.Framing) (framed : Bool) → (is : IsTaken framing framed used text)
-    → Breaks a b used text (LacksBody framing) (IsUnfinished framing) fault
+unfoldable pub fails_body : {a b : Ends} {used text : List ℕ} {fault : Body.Fault} (framing : Framed.Framing) (framed : Bool) → (is : IsTaken framing framed used text)
+    → (p : Breaks a b used text (LacksBody framing) (IsUnfinished framing) fault)
+    → (fault ≡ OfBody.Read → (b.pipe.inbox ≡ []) × (b.pipe.outbox ≡ []))
     → Fails a b is.sent.used text (NoBody framing) (IsUnfinished framing) (relayed fault)
-fails_body framing framed is p =
+fails_body framing framed is p told =
     fails_less (NoBody framing) (IsUnfinished framing) is.sent.used is.sent.rest
     (fails_as (NoBody framing) (IsUnfinished framing) is.sent.input_is refl
-    (fails_of (LacksBody framing) (NoBody framing) (IsUnfinished framing) (λ l lacks. lacks) (λ l lacks. lacks) p))
+    (fails_of (LacksBody framing) (NoBody framing) (IsUnfinished framing) (λ l lacks. lacks) (λ l lacks. lacks) p (λ at none. told_all p (told at).1)))
 
 -- one after which nothing lacks
-pub fails_plainly : {a b : Ends} {used text : List ℕ} {fault : Body.Fault} (Why : Fault → List ℕ → Type 0) (Wants : List ℕ → Type 0)
-    → Breaks a b used text LacksNothing Wants fault
+unfoldable pub fails_plainly : {a b : Ends} {used text : List ℕ} {fault : Body.Fault} (Why : Fault → List ℕ → Type 0) (Wants : List ℕ → Type 0)
+    → Breaks a b used text LacksNothing Wants fault → b.pipe.outbox ≡ a.pipe.outbox
     → Fails a b used text Why Wants (relayed fault)
-fails_plainly Why Wants p = fails_of LacksNothing Why Wants (λ l none. absurd none) (λ l none. absurd (none [])) p
+fails_plainly Why Wants p waits =
+    fails_of LacksNothing Why Wants (λ l none. absurd none) (λ l none. absurd (none [])) p (λ at none. told_all p (waits ∙ none))
 
 -- steps, and what they read is bad
 pub fails_head : {a b : Ends} {used text : List ℕ} (Why : Fault → List ℕ → Type 0) (Wants : List ℕ → Type 0) → Moves a b used text
@@ -180,6 +208,7 @@ fails_head {a} {b} Why Wants p why = record {
   blames = (record { reads = p.good_reads; writes = p.good_writes }, subst (Why Head) (sym p.held) why);
   undone = λ spent. absurd (head_is_not_turns spent);
   wanted = λ is. absurd (head_is_not_read is);
+  told = λ is. absurd (head_is_not_read is);
 }
 
 pub fails_framing : {a b : Ends} {used text : List ℕ} (Why : Fault → List ℕ → Type 0) (Wants : List ℕ → Type 0) → Moves a b used text
@@ -194,6 +223,7 @@ fails_framing {a} {b} Why Wants p why = record {
   blames = (record { reads = p.good_reads; writes = p.good_writes }, subst (Why Framing) (sym p.held) why);
   undone = λ spent. absurd (framing_is_not_turns spent);
   wanted = λ is. absurd (framing_is_not_read is);
+  told = λ is. absurd (framing_is_not_read is);
 }
 
 -- or memory is wanting
@@ -209,13 +239,14 @@ fails_memory {a} {b} Why Wants p why = record {
   blames = (record { reads = p.good_reads; writes = p.good_writes }, subst (Why NoMemory) (sym p.held) why);
   undone = λ spent. absurd (memory_is_not_turns spent);
   wanted = λ is. absurd (memory_is_not_read is);
+  told = λ is. absurd (memory_is_not_read is);
 }
 
 -- or the input ended where more is wanted
-pub fails_end : {a b : Ends} {used text : List ℕ} (Why : Fault → List ℕ → Type 0) (Wants : List ℕ → Type 0) → Moves a b used text → IsAtEnd b.source.bytes
-    → Why Read (used ++ b.pipe.inbox) → Wants (used ++ b.pipe.inbox)
+unfoldable pub fails_end : {a b : Ends} {used text : List ℕ} (Why : Fault → List ℕ → Type 0) (Wants : List ℕ → Type 0) → Moves a b used text → IsAtEnd b.source.bytes
+    → Why Read (used ++ b.pipe.inbox) → Wants (used ++ b.pipe.inbox) → (a.pipe.outbox ≡ [] → b.pipe.outbox ≡ [])
     → Fails a b used text Why Wants Read
-fails_end {a} {b} Why Wants p end why wants = record {
+fails_end {a} {b} Why Wants p end why wants waits = record {
   taken = p.taken;
   reads = p.reads;
   rest = b.pipe.inbox;
@@ -224,6 +255,7 @@ fails_end {a} {b} Why Wants p end why wants = record {
   blames = (p.good_writes, inr (p.good_reads, end, subst (Why Read) (sym p.held) why));
   undone = λ spent. absurd (read_is_not_turns spent);
   wanted = λ is. subst Wants (sym p.held) wants;
+  told = λ is. waits;
 }
 
 -- what was put, as a step
@@ -239,7 +271,7 @@ stops_blames OfBody.Turns p0 p w0 w s Why input by = (record { reads = refl; wri
 stops_blames OfBody.Framing p0 p w0 w s Why input by = absurd by
 
 -- and no read
-stops_no_read : (fault : Body.Fault) (w0 w : Stream) (turns : ℕ) → StopsBy w0 w turns fault → relayed fault ≡ Read → ⊥
+pub stops_no_read : (fault : Body.Fault) (w0 w : Stream) (turns : ℕ) → StopsBy w0 w turns fault → relayed fault ≡ Read → ⊥
 stops_no_read OfBody.Read w0 w turns by is = absurd by
 stops_no_read OfBody.Write w0 w turns by is = cc
 stops_no_read OfBody.Turns w0 w turns by is = cc
@@ -265,17 +297,19 @@ fails_put {p} {q} {a} {b} {fault = fault} s Why Wants x = record {
   blames = stops_blames fault p q a b s Why (p.inbox ++ []) x.stops.cause;
   undone = λ spent. inl x.stops.left;
   wanted = λ is. absurd (stops_no_read fault a b q.turns x.stops.cause is);
+  told = λ is. absurd (stops_no_read fault a b q.turns x.stops.cause is);
 }
 
 -- a step, and then a text that stopped on its way
 pub moves_halts : {a : Ends} {p q : Pipe} {s w v : Stream} {used text more : List ℕ} {fault : Body.Fault} (Why : Fault → List ℕ → Type 0)
     (Wants : List ℕ → Type 0)
     → Moves a (ends p s w) used text → Halts p q w v more fault → Fails a (ends q s v) used (text ++ more) Why Wants (relayed fault)
-moves_halts {s = s} {used = used} Why Wants so_far x =
+moves_halts {q = q} {s = s} {w} {v} {used} {fault = fault} Why Wants so_far x =
     fails_as Why Wants (append-nil used) refl
-    (moves_fails (λ f l. ⊥) Why LacksNothing Wants (λ l none. absurd none) (λ l none. absurd none) so_far (fails_put s (λ f l. ⊥) LacksNothing x))
+    (moves_fails (λ f l. ⊥) Why LacksNothing Wants (λ l none. absurd none) (λ l none. absurd none) so_far (fails_put s (λ f l. ⊥) LacksNothing x)
+    (λ is none. absurd (stops_no_read fault w v q.turns x.stops.cause is)))
 
-turns_same : (fault : Fault) (a : Ends) (p q : Pipe) (s w : Stream) (Why : Fault → List ℕ → Type 0) (input : List ℕ) → q.turns ≡ p.turns
+pub turns_same : (fault : Fault) (a : Ends) (p q : Pipe) (s w : Stream) (Why : Fault → List ℕ → Type 0) (input : List ℕ) → q.turns ≡ p.turns
     → Blames a (ends p s w) Why input fault → Blames a (ends q s w) Why input fault
 turns_same NoMemory a p q s w Why input e blame = (record { reads = blame.0.reads; writes = blame.0.writes }, blame.1)
 turns_same Head a p q s w Why input e blame = (record { reads = blame.0.reads; writes = blame.0.writes }, blame.1)
@@ -286,7 +320,7 @@ turns_same Turns a p q s w Why input e blame = (record { reads = blame.0.reads; 
 turns_same Closed a p q s w Why input e blame = blame
 
 -- what a pipe does with its bytes after a fault doesn't matter
-pub fails_after : {a : Ends} {p : Pipe} {s w : Stream} {used text : List ℕ} {fault : Fault} (Why : Fault → List ℕ → Type 0) (Wants : List ℕ → Type 0)
+unfoldable pub fails_after : {a : Ends} {p : Pipe} {s w : Stream} {used text : List ℕ} {fault : Fault} (Why : Fault → List ℕ → Type 0) (Wants : List ℕ → Type 0)
     (q : Pipe) → q.turns ≡ p.turns
     → Fails a (ends p s w) used text Why Wants fault → Fails a (ends q s w) used text Why Wants fault
 fails_after {a} {p} {s} {w} {fault = fault} Why Wants q e x = record {
@@ -306,9 +340,25 @@ fails_after {a} {p} {s} {w} {fault = fault} Why Wants q e x = record {
   blames = turns_same fault a p q s w Why (a.pipe.inbox ++ x.taken) e x.blames;
   undone = x.undone;
   wanted = x.wanted;
+  told = x.told;
 }
 
-explains : (fault : Fault) (a b : Ends) (Why : Fault → List ℕ → Type 0) (input : List ℕ) → Blames a b Why input fault → Explains Why fault input
+-- where one pipe is the other, what is said of the rest stays
+pub fails_from : {p q : Pipe} {s w : Stream} {b : Ends} {used text : List ℕ} {fault : Fault} (Why : Fault → List ℕ → Type 0) (Wants Says : List ℕ → Type 0)
+    → p ≡ q → (x : Fails (ends p s w) b used text Why Wants fault) → (fault ≡ Read → Says x.rest)
+    → (y : Fails (ends q s w) b used text Why Wants fault) × (fault ≡ Read → Says y.rest)
+fails_from {s = s} {w} {b} {used} {text} {fault} Why Wants Says same x says =
+    subst (λ (p : Pipe). (y : Fails (ends p s w) b used text Why Wants fault) × (fault ≡ Read → Says y.rest)) same (x, says)
+
+-- the text of all that was used is that of what is a part of a body, and of what is left
+pub sent_all : {framing : Framed.Framing} {framed : Bool} {used text : List ℕ} (inbox : List ℕ) → (is : IsTaken framing framed used text) → inbox ≡ []
+    → IsSent framing framed (is.sent.used ++ (is.sent.rest ++ inbox)) text
+sent_all {framing} {framed} {used} {text} inbox is none =
+    let same : used ≡ is.sent.used ++ (is.sent.rest ++ inbox) =
+    is.sent.input_is ∙ ap (λ l. is.sent.used ++ l) (sym (ap (λ l. is.sent.rest ++ l) none ∙ append-nil is.sent.rest)) in
+    subst (λ (l : List ℕ). IsSent framing framed l text) same is.sent
+
+pub explains : (fault : Fault) (a b : Ends) (Why : Fault → List ℕ → Type 0) (input : List ℕ) → Blames a b Why input fault → Explains Why fault input
 explains NoMemory a b Why input blame = blame.1
 explains Head a b Why input blame = blame.1
 explains Framing a b Why input blame = blame.1
@@ -327,7 +377,7 @@ pub passes_of : {a b : Ends} {used text : List ℕ} → a.pipe.outbox ≡ [] →
     → Conveys a.pipe.inbox b.pipe.inbox a.source.bytes b.source.bytes a.sink.bytes b.sink.bytes used text
 passes_of none left x = record { taken = x.taken; reads = x.reads.bytes; all = x.held; writes = (wrote_of none left x).bytes }
 
-pub misses_of : {a b : Ends} {used text : List ℕ} {fault : Fault} (Why : Fault → List ℕ → Type 0) (Wants : List ℕ → Type 0) → a.pipe.outbox ≡ []
+unfoldable pub misses_of : {a b : Ends} {used text : List ℕ} {fault : Fault} (Why : Fault → List ℕ → Type 0) (Wants : List ℕ → Type 0) → a.pipe.outbox ≡ []
     → Fails a b used text Why Wants fault
     → Misses a.pipe.inbox a.source.bytes b.source.bytes a.sink.bytes b.sink.bytes used text Why Wants fault
 misses_of {a} {b} {used} {text} {fault} Why Wants none x = record {
@@ -342,6 +392,7 @@ misses_of {a} {b} {used} {text} {fault} Why Wants none x = record {
   why = explains fault a b Why (a.pipe.inbox ++ x.taken) x.blames;
   undone = x.undone;
   wanted = x.wanted;
+  told = λ is. x.told is none;
 }
 
 -- a fault of the bytes is one of a body
@@ -355,6 +406,9 @@ relayed_framing OfBody.Turns is = cc
 pub halts_unframed : {p q : Pipe} {a b : Stream} {text : List ℕ} (fault : Body.Fault) → Halts p q a b text fault → relayed fault ≡ Framing → ⊥
 halts_unframed {p} {q} {a} {b} {text} fault x is =
     (subst (λ (f : Body.Fault). Halts p q a b text f) (relayed_framing fault is) x).stops.cause
+
+pub halts_unread : {p q : Pipe} {a b : Stream} {text : List ℕ} (fault : Body.Fault) → Halts p q a b text fault → relayed fault ≡ Read → ⊥
+halts_unread {q = q} {a} {b} fault x is = stops_no_read fault a b q.turns x.stops.cause is
 
 pub breaks_unframed : {a b : Ends} {used text : List ℕ} (Wants : List ℕ → Type 0) (fault : Body.Fault) → Breaks a b used text LacksNothing Wants fault
     → relayed fault ≡ Framing → ⊥

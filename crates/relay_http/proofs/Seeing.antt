@@ -28,6 +28,10 @@ used_front p q held front rest n same is len left =
     let whole = sym same ∙ is in
     whole ∙ ap (λ l. front ++ l) (sym (left ∙ behind p.inbox front rest n whole len))
 
+-- and not one that the reader can't tell
+pub none_unread : (method : List ℕ) (count : ℕ) (held : List ℕ) (why : Fault) → why ≡ Faulty.Read → NoneStands method count held why → ⊥
+none_unread method count held why is none = subst (λ (f : Fault). NoneStands method count held f) is none
+
 -- none is handed on
 pub fails_unseen : {a : Ends} {p : Pipe} {s w : Stream} {text : List ℕ} (method other : List ℕ) (hs : List ResponseHead) (count : ℕ) (held : List ℕ)
     (why : Fault)

@@ -87,11 +87,12 @@ fails_lacking Faulty.Closed so_far why = absurd why
 
 -- at the input's end
 pub fails_ended : {a b : Ends} (fault : Fault) → Moves a b [] [] → IsAtEnd b.source.bytes → LacksRequest fault b.pipe.inbox
+    → b.pipe.outbox ≡ a.pipe.outbox
     → Fails a b [] [] LacksRequest HasNoHead fault
-fails_ended Faulty.Head so_far end why = fails_head LacksRequest HasNoHead so_far why
-fails_ended Faulty.Framing so_far end why = fails_framing LacksRequest HasNoHead so_far why
-fails_ended Faulty.NoMemory so_far end why = fails_memory LacksRequest HasNoHead so_far tt
-fails_ended Faulty.Read so_far end why = fails_end LacksRequest HasNoHead so_far end why why
-fails_ended Faulty.Write so_far end why = absurd why
-fails_ended Faulty.Turns so_far end why = absurd why
-fails_ended Faulty.Closed so_far end why = absurd why
+fails_ended Faulty.Head so_far end why waits = fails_head LacksRequest HasNoHead so_far why
+fails_ended Faulty.Framing so_far end why waits = fails_framing LacksRequest HasNoHead so_far why
+fails_ended Faulty.NoMemory so_far end why waits = fails_memory LacksRequest HasNoHead so_far tt
+fails_ended Faulty.Read so_far end why waits = fails_end LacksRequest HasNoHead so_far end why why (λ none. waits ∙ none)
+fails_ended Faulty.Write so_far end why waits = absurd why
+fails_ended Faulty.Turns so_far end why waits = absurd why
+fails_ended Faulty.Closed so_far end why waits = absurd why

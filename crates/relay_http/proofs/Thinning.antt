@@ -13,7 +13,7 @@ use Rattle.http_texts.specs.Framings.{request_framing}
 use Rattle.http_texts.specs.Heads.{IsRequest}
 use Rattle.http_texts.specs.Messages.{IsAnswered}
 use Rattle.http_texts.specs.declared.fault.Fault.{Fault}
-use Rattle.http_texts.specs.declared.fault.Fault.TheVariants.{Write}
+use Rattle.http_texts.specs.declared.fault.Fault.TheVariants.{Read, Write}
 use Rattle.relay_http.proofs.Failing.{passes_of, misses_of}
 use Rattle.http_texts.specs.declared.persistence.Persistence.TheVariants.{Close}
 use Rattle.req_view.specs.Request.{Request, request_of}
@@ -25,10 +25,10 @@ pub record Same (a b : Ends) (r0 r w0 w : Option (List ℕ)) : Type 0 where
   pub writer0 : a.sink.bytes ≡ w0
   pub writer : b.sink.bytes ≡ w
 
-consumes_as : {r0 r s0 s : Option (List ℕ)} (taken : List ℕ) → r0 ≡ s0 → r ≡ s → Consumes r0 r taken → Consumes s0 s taken
+pub consumes_as : {r0 r s0 s : Option (List ℕ)} (taken : List ℕ) → r0 ≡ s0 → r ≡ s → Consumes r0 r taken → Consumes s0 s taken
 consumes_as {r0} {r} {s0} {s} taken e f x = subst (λ (o : Option (List ℕ)). Consumes s0 o taken) f (subst (λ (o : Option (List ℕ)). Consumes o r taken) e x)
 
-appends_as : {r0 r s0 s : Option (List ℕ)} (front : List ℕ) → r0 ≡ s0 → r ≡ s → Appends r0 r front → Appends s0 s front
+pub appends_as : {r0 r s0 s : Option (List ℕ)} (front : List ℕ) → r0 ≡ s0 → r ≡ s → Appends r0 r front → Appends s0 s front
 appends_as {r0} {r} {s0} {s} front e f x = subst (λ (o : Option (List ℕ)). Appends s0 o front) f (subst (λ (o : Option (List ℕ)). Appends o r front) e x)
 
 pub keeps_as : {r0 r s0 s : Option (List ℕ)} → r0 ≡ s0 → r ≡ s → Keeps r0 r → Keeps s0 s
@@ -45,7 +45,7 @@ thin {text = text} same none left x =
       writes = appends_as text same.writer0 same.writer p.writes;
     }
 
-pub thin_fault : {a b : Ends} {r0 r w0 w : Option (List ℕ)} {used text : List ℕ} {fault : Fault} (Why : Fault → List ℕ → Type 0)
+unfoldable pub thin_fault : {a b : Ends} {r0 r w0 w : Option (List ℕ)} {used text : List ℕ} {fault : Fault} (Why : Fault → List ℕ → Type 0)
     (Wants : List ℕ → Type 0) → Same a b r0 r w0 w
     → a.pipe.outbox ≡ []
     → Fails a b used text Why Wants fault → Misses a.pipe.inbox r0 r w0 w used text Why Wants fault
@@ -62,6 +62,7 @@ thin_fault Why Wants same none x =
       why = p.why;
       undone = p.undone;
       wanted = p.wanted;
+      told = p.told;
     }
 
 -- a stream of which only the bytes matter
@@ -106,17 +107,21 @@ thin_write_fault (Ok v) Why Wants text p q s t w0 w e f none x r = tt
 thin_write_fault (Err fault) Why Wants text p q s t w0 w e f none x r =
     thin_fault Why Wants (record { reader0 = refl; reader = refl; writer0 = e; writer = f }) none (x (silent s r))
 
-pub thin_both_fault : {T : Type 0} (result : Result T Fault) (Part : List ℕ → List ℕ → Type 0) (Why : Fault → List ℕ → Type 0) (Wants : List ℕ → Type 0) (a b : Ends)
+pub thin_both_fault : {T : Type 0} (result : Result T Fault) (Part : List ℕ → List ℕ → Type 0) (Says : (x y : List ℕ) → Part x y → List ℕ → Type 0)
+    (Why : Fault → List ℕ → Type 0) (Wants : List ℕ → Type 0) (a b : Ends)
     (r0 r w0 w : Option (List ℕ))
     → a.source.bytes ≡ r0 → b.source.bytes ≡ r → a.sink.bytes ≡ w0 → b.sink.bytes ≡ w → a.pipe.outbox ≡ []
-    → IfErr result (λ fault. (x : List ℕ) × (y : List ℕ) × Part x y × Fails a b x y Why Wants fault)
-    → IfErr result (λ fault. (x : List ℕ) × (y : List ℕ) × Part x y × Misses a.pipe.inbox r0 r w0 w x y Why Wants fault)
-thin_both_fault (Ok v) Part Why Wants a b r0 r w0 w e0 e f0 f none x = tt
-thin_both_fault (Err fault) Part Why Wants a b r0 r w0 w e0 e f0 f none x = (
+    → IfErr result (λ fault. (x : List ℕ) × (y : List ℕ) × (part : Part x y) × (fails : Fails a b x y Why Wants fault) × (fault ≡ Read → Says x y part fails.rest))
+    → IfErr result (λ fault. (x : List ℕ) × (y : List ℕ) × (part : Part x y) × (misses : Misses a.pipe.inbox r0 r w0 w x y Why Wants fault)
+    × (fault ≡ Read → Says x y part misses.rest))
+unfolding thin_fault misses_of
+thin_both_fault (Ok v) Part Says Why Wants a b r0 r w0 w e0 e f0 f none x = tt
+thin_both_fault (Err fault) Part Says Why Wants a b r0 r w0 w e0 e f0 f none x = (
   x.0,
   x.1,
   x.2,
   thin_fault Why Wants (record { reader0 = e0; reader = e; writer0 = f0; writer = f }) none x.3,
+  x.4,
 )
 
 pub thin_answer : {T : Type 0} (result : Result T Fault) (method : List ℕ) (framed : Bool) (a b : Ends) (r0 r w0 w : Option (List ℕ))

@@ -1,5 +1,5 @@
 -- Worked examples of what an exchange is after its calls.
-use Rattle.std.proofs.Common.{◌≡◌, ℕ, Option, List, [], Some, true, false, codes, length, refl, ap, arith, inl, inr}
+use Rattle.std.proofs.Common.{◌≡◌, ℕ, Option, List, [], Some, true, false, codes, length, length-append, refl, ap, arith, inl, inr}
 use Rattle.std.proofs.KnownBytes.{Consumes-nil, Appends-nil}
 use base.Fml.{GName}
 use Rattle.base_streams.specs.Streams.{Stream}
@@ -7,13 +7,18 @@ use Rattle.http_bodies.specs.Framings.{IsUnfinished}
 use Rattle.http_bodies.specs.Steps.{Ends}
 use Rattle.http_bodies.specs.declared.framing.Framing.TheVariants.{Length}
 use Rattle.http_texts.specs.declared.fault.Fault.TheVariants.{Read, Turns as TurnsSpent}
+use Rattle.http_bodies.proofs.Meanings.{sent}
 use Rattle.http_bodies.proofs.Writing.{Wrote-nil}
 use Rattle.http_texts.specs.Messages.{AreInterims}
+use Rattle.http_texts.specs.Framings.{request_framing}
 use Rattle.http_texts.specs.Messages.PartOfAnswered.{some_heads}
+use Rattle.http_texts.specs.Messages.PartOfForwarded.{head_and_body}
+use Rattle.http_texts.specs.declared.additions.Additions.{Additions}
 use Rattle.http_texts.specs.declared.persistence.Persistence.TheVariants.{Close}
-use Rattle.relay_http.specs.Calls.{HoldsHead}
+use Rattle.relay_http.specs.Calls.{HoldsHead, HandsRequest}
 use Rattle.relay_http.specs.Failures.{Blames, Misses, NoCause}
 use Rattle.relay_http.specs.States.{Serves, Marks}
+use Rattle.req_view.specs.Request.{Request}
 use Rattle.base_verdict.specs.declared.cause.Cause.TheVariants.{Aborted}
 use Rattle.base_verdict.specs.declared.Verdict.TheVariants.{Serve, Told}
 
@@ -70,11 +75,50 @@ failed_amid_a_body w = record {
   text_is = refl;
   why = tt;
   undone = λ is. cc;
-  wanted = λ is. inr (omega arith);
+  wanted = λ is. inr (omega arith, refl);
+  told = λ is. refl;
 }
 
 not_behind_a_body : (w : Option (List ℕ)) → ¬ (Misses (codes "a") (Some (codes "b")) (Some []) w w (codes "ab") [] NoCause (IsUnfinished (Length 2)) Read)
 not_behind_a_body w x = elim (x.wanted refl) [
   | inl is ↦ cc
-  | inr lacks ↦ absurd (omega (arith, lacks, ap (length {A = ℕ}) x.all))
+  | inr lacks ↦ absurd (omega (arith, lacks.0, ap (length {A = ℕ}) x.all))
 ]
+
+-- a read may fail behind a text that was written, and not before it
+written_before : Misses [] (Some []) (Some []) (Some []) (Some (codes "a")) [] (codes "a") NoCause (IsUnfinished (Length 2)) Read
+written_before = record {
+  taken = [];
+  reads = Consumes-nil (Some []);
+  rest = [];
+  all = refl;
+  front = codes "a";
+  left = [];
+  writes = refl;
+  text_is = refl;
+  why = tt;
+  undone = λ is. cc;
+  wanted = λ is. inr (omega arith, refl);
+  told = λ is. refl;
+}
+
+not_written_after : ¬ (Misses [] (Some []) (Some []) (Some []) (Some []) [] (codes "a") NoCause (IsUnfinished (Length 2)) Read)
+not_written_after x =
+    omega (
+      arith,
+      ap (length {A = ℕ}) x.text_is,
+      length-append x.front x.left,
+      ap (length {A = ℕ}) (x.told refl),
+      ap (length {A = ℕ}) x.writes,
+    )
+
+-- of one byte of a body of two, that byte is all, and nothing of it isn't
+all_handed_on : (adds : Additions) (r : Request) → (is : request_framing r ≡ Some (Length 2))
+    → HandsRequest {adds = adds} {r = r} (head_and_body (Length 2) (codes "a") (codes "a") is (omega arith, refl)) []
+all_handed_on adds r is = sent (Length 2) true (codes "a")
+
+not_held_back : (adds : Additions) (r : Request) → (is : request_framing r ≡ Some (Length 2))
+    → ¬ (HandsRequest {adds = adds} {r = r} (head_and_body (Length 2) [] [] is (omega arith, refl)) (codes "a"))
+not_held_back adds r is hands =
+    let front = hands.most (codes "a") (codes "a") [] (omega arith, refl) refl in
+    omega (arith, ap (length {A = ℕ}) front.is)

@@ -1,5 +1,5 @@
 -- Steps of a pipe that end in a fault, and the side where it arose.
-use Rattle.std.specs.Prelude.{◌≡◌, ℕ, ◌+◌, ◌<◌, ◌⊎◌, List, ◌++◌, length, Option}
+use Rattle.std.specs.Prelude.{◌≡◌, ℕ, ◌+◌, ◌<◌, ◌⊎◌, List, [], ◌++◌, length, Option}
 use Rattle.std.specs.Io.KnownBytes.{Appends, Consumes, IsAtEnd}
 use Rattle.http_bodies.specs.Steps.{Ends, Reads}
 use Rattle.http_bodies.specs.Texts.{WritesFront}
@@ -31,7 +31,7 @@ NoCause fault input = ⊥
 -- A fault was met. `used` stands at the front of what was held and read. A front of what waited and
 -- of the text was written. Where the turns were spent, some of these wasn't written, or Wants says of
 -- what was held and read that more is wanted. A read that failed, or that met the end of the input,
--- was made where more is wanted.
+-- was made where more is wanted, and after the whole text was written, unless bytes waited from before.
 pub record Fails (old new : Ends) (used text : List ℕ) (Why : Fault → List ℕ → Type 0) (Wants : List ℕ → Type 0) (fault : Fault) : Type 0 where
   pub taken : List ℕ
   pub reads : Reads old new taken
@@ -41,6 +41,7 @@ pub record Fails (old new : Ends) (used text : List ℕ) (Why : Fault → List �
   pub blames : Blames old new Why (old.pipe.inbox ++ taken) fault
   pub undone : fault ≡ Turns → (0 < length writes.rest) ⊎ Wants (old.pipe.inbox ++ taken)
   pub wanted : fault ≡ Read → Wants (old.pipe.inbox ++ taken)
+  pub told : fault ≡ Read → old.pipe.outbox ≡ [] → writes.rest ≡ []
 
 -- the meaning of the fault for the input, where the fault is one of the bytes, or whether it can be met at all
 abbrev pub Explains : (Fault → List ℕ → Type 0) → Fault → List ℕ → Type 0
@@ -61,8 +62,8 @@ pub record Conveys (held rest : List ℕ) (r0 r w0 w : Option (List ℕ)) (used 
   pub writes : Appends w0 w text
 
 -- A fault was met: `used` stands at the front of what was held and read, and a front of the text was
--- written; where the turns were spent, not all of it, or more is wanted; and more is wanted where a
--- read failed, or met the end of the input.
+-- written; where the turns were spent, not all of it, or more is wanted; and where a read failed, or
+-- met the end of the input, more is wanted and the whole text was written.
 pub record Misses (held : List ℕ) (r0 r w0 w : Option (List ℕ)) (used text : List ℕ) (Why : Fault → List ℕ → Type 0) (Wants : List ℕ → Type 0)
     (fault : Fault) : Type 0 where
   pub taken : List ℕ
@@ -76,6 +77,7 @@ pub record Misses (held : List ℕ) (r0 r w0 w : Option (List ℕ)) (used text :
   pub why : Explains Why fault (held ++ taken)
   pub undone : fault ≡ Turns → (0 < length left) ⊎ Wants (held ++ taken)
   pub wanted : fault ≡ Read → Wants (held ++ taken)
+  pub told : fault ≡ Read → left ≡ []
 
 -- a front of the text was written
 pub record WrotePrefix (w0 w : Option (List ℕ)) (text : List ℕ) : Type 0 where

@@ -2,15 +2,17 @@ ghost use Rattle.std.specs.Prelude.{◌≡◌, ◌<◌, ◌+◌, ◌^◌, ◌++�
 ghost use Rattle.std.specs.Io.KnownBytes.{IsAtEnd};
 ghost use Rattle.httparse.specs.Grammar.{ResponseHead, print_response};
 ghost use Rattle.http_bodies.specs.Framings.{IsBody, PartOfBody, IsUnfinished};
+ghost use Rattle.http_bodies.specs.Runs.{IsSent};
 ghost use Rattle.http_bodies.specs.Steps.{ends, Countable, HoldsBack, Moves};
 ghost use Rattle.http_bodies.specs.Texts.{Wrote};
 ghost use Rattle.http_texts.specs.Emissions.{Sends, Halts};
-ghost use Rattle.relay_http.specs.Calls.{HoldsHead};
+ghost use Rattle.relay_http.specs.Calls.{HoldsHead, HandsRequest, HandsAnswer};
 ghost use Rattle.relay_http.specs.Failures.{Fails};
 ghost use Rattle.relay_http.specs.Wants.{WantsBody, WantsAnswer};
 ghost use Rattle.http_texts.specs.Messages as messages;
 ghost use Rattle.http_texts.specs.Texts.{answer_text, interim_text, framed_for, unnamed};
 ghost use Rattle.req_view.specs.Answer.{answer_of};
+ghost use Rattle.req_view.specs.AnswerHeads.{HasNoAnswer};
 
 use crate::sending::{forward_interim, send};
 use base_streams::{Sink, Source};
@@ -41,11 +43,12 @@ pub(crate) fn forward_request<S: Source, K: Sink>(
         × Moves (ends pipe.old (S.stream source.old) (K.stream sink.old)) (ends pipe.new (S.stream source.new) (K.stream sink.new)) used text) }
     ensures empty { OnOk result (pipe.new.outbox ≡ []) }
     ensures unread { ¬ (WantsBody view.now pipe.old.inbox) → S.stream source.new ≡ S.stream source.old }
-    ensures err { IfErr result (λ fault. (used : List ℕ) × (text : List ℕ) × messages.PartOfForwarded (unnamed Persistence.Close) view.now used text
-        × Fails (ends pipe.old (S.stream source.old) (K.stream sink.old)) (ends pipe.new (S.stream source.new) (K.stream sink.new)) used text
-        (messages.LacksForwarded view.now) (WantsBody view.now) fault
+    ensures err { IfErr result (λ fault. (used : List ℕ) × (text : List ℕ) × (part : messages.PartOfForwarded (unnamed Persistence.Close) view.now used text)
+        × (fails : Fails (ends pipe.old (S.stream source.old) (K.stream sink.old)) (ends pipe.new (S.stream source.new) (K.stream sink.new)) used text
+        (messages.LacksForwarded view.now) (WantsBody view.now) fault)
         × (fault ≡ Fault.Framing → HoldsBack (ends pipe.old (S.stream source.old) (K.stream sink.old)) (ends pipe.new (S.stream source.new) (K.stream sink.new))
-        text)) }
+        text)
+        × (fault ≡ Fault.Read → HandsRequest part fails.rest)) }
 {
     let Some(framing) = request_framing(view) else {
         return Err(Fault::Framing);
@@ -77,10 +80,11 @@ pub(crate) fn forward_answer<S: Source, K: Sink>(
     ensures empty { OnOk result (pipe.new.outbox ≡ []) }
     ensures err { IfErr result (λ fault. (used : List ℕ) × (text : List ℕ)
         × (part : messages.PartOfAnswered Persistence.Close view.now.method (framed_for view.now.version) used text)
-        × Fails (ends pipe.old (S.stream source.old) (K.stream sink.old)) (ends pipe.new (S.stream source.new) (K.stream sink.new)) used text
-        (messages.LacksAnswer view.now.method) (WantsAnswer view.now.method) fault
+        × (fails : Fails (ends pipe.old (S.stream source.old) (K.stream sink.old)) (ends pipe.new (S.stream source.new) (K.stream sink.new)) used text
+        (messages.LacksAnswer view.now.method) (WantsAnswer view.now.method) fault)
         × (fault ≡ Fault.Framing → pipe.old.inbox ≡ [] → pipe.old.outbox ≡ []
-        → HoldsHead (S.stream source.old) (S.stream source.new) (K.stream sink.old) (K.stream sink.new) part)) }
+        → HoldsHead (S.stream source.old) (S.stream source.new) (K.stream sink.old) (K.stream sink.new) part)
+        × (fault ≡ Fault.Read → HandsAnswer part fails.rest)) }
 {
     let planned = read_answer(pipe, alloc, view, source, sink)?;
     forward_planned(pipe, &planned, is_framed(view.version()), source, sink)
@@ -103,11 +107,12 @@ fn forward_planned<S: Source, K: Sink>(
     ensures empty { OnOk result (pipe.new.outbox ≡ []) }
     ensures unread { ¬ (IsUnfinished planned.now.plan.body pipe.old.inbox) → S.stream source.new ≡ S.stream source.old }
     ensures err { IfErr result (λ fault. (body : List ℕ) × (sent_on : List ℕ) × PartOfBody planned.now.plan.body framed body sent_on
-        × Fails (ends pipe.old (S.stream source.old) (K.stream sink.old)) (ends pipe.new (S.stream source.new) (K.stream sink.new)) body
+        × (fails : Fails (ends pipe.old (S.stream source.old) (K.stream sink.old)) (ends pipe.new (S.stream source.new) (K.stream sink.new)) body
         (answer_text Persistence.Close framed planned.now.head planned.now.plan ++ sent_on) (messages.NoBody planned.now.plan.body)
-        (IsUnfinished planned.now.plan.body) fault
+        (IsUnfinished planned.now.plan.body) fault)
         × (fault ≡ Fault.Framing → HoldsBack (ends pipe.old (S.stream source.old) (K.stream sink.old)) (ends pipe.new (S.stream source.new) (K.stream sink.new))
-        (answer_text Persistence.Close framed planned.now.head planned.now.plan ++ sent_on))) }
+        (answer_text Persistence.Close framed planned.now.head planned.now.plan ++ sent_on))
+        × (fault ≡ Fault.Read → IsSent planned.now.plan.body framed (body ++ fails.rest) sent_on)) }
 {
     let plan = planned.plan;
     let wording = Wording {
@@ -137,10 +142,11 @@ fn read_answer<S: Source, K: Sink>(
         (messages.print_heads hs ++ print_response h) (messages.interims_text (framed_for view.now.version) hs)) }
     ensures empty { OnOk result (pipe.old.outbox ≡ [] → pipe.new.outbox ≡ []) }
     ensures err { IfErr result (λ fault. (hs : List ResponseHead) × messages.AreInterims view.now.method hs
-        × Fails (ends pipe.old (S.stream source.old) (K.stream sink.old)) (ends pipe.new (S.stream source.new) (K.stream sink.new))
-        (messages.print_heads hs) (messages.interims_text (framed_for view.now.version) hs) (messages.LacksAnswer view.now.method) (WantsAnswer view.now.method) fault
+        × (fails : Fails (ends pipe.old (S.stream source.old) (K.stream sink.old)) (ends pipe.new (S.stream source.new) (K.stream sink.new))
+        (messages.print_heads hs) (messages.interims_text (framed_for view.now.version) hs) (messages.LacksAnswer view.now.method) (WantsAnswer view.now.method) fault)
         × (fault ≡ Fault.Framing → pipe.old.outbox ≡ []
-        → Wrote (K.stream sink.old) (K.stream sink.new) (messages.interims_text (framed_for view.now.version) hs))) }
+        → Wrote (K.stream sink.old) (K.stream sink.new) (messages.interims_text (framed_for view.now.version) hs))
+        × (fault ≡ Fault.Read → HasNoAnswer fails.rest)) }
 {
     let framed = is_framed(view.version());
     let mut count = 0;

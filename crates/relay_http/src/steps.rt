@@ -4,7 +4,7 @@ ghost use Rattle.exchange_machine.specs.Requests.{MayCome};
 ghost use Rattle.base_streams.specs.Streams.{Stream};
 ghost use Rattle.httparse.specs.Grammar.{RequestHead, print_request};
 ghost use Rattle.http_bodies.specs.Steps.{ends, Countable, HoldsBack, Moves, LacksNothing};
-ghost use Rattle.relay_http.specs.Calls.{HoldsHead};
+ghost use Rattle.relay_http.specs.Calls.{HoldsHead, HandsRequest, HandsAnswer};
 ghost use Rattle.relay_http.specs.Failures.{Conveys, Fails, NoCause};
 ghost use Rattle.relay_http.specs.Wants.{WantsBody, WantsAnswer};
 ghost use Rattle.http_texts.specs.Framings as framings;
@@ -131,11 +131,12 @@ impl Exchange {
         ensures untouched { self.old.stage ≡ Stage.Failed
             → (self.new ≡ self.old) × (S.stream source.new ≡ S.stream source.old) × (K.stream sink.new ≡ K.stream sink.old) }
         ensures err { self.old.stage ≢ Stage.Failed
-            → IfErr result (λ fault. (used : List ℕ) × (text : List ℕ) × messages.PartOfForwarded (unnamed Persistence.Close) view.now used text
-            × Fails (ends self.old.pipe (S.stream source.old) (K.stream sink.old)) (ends self.new.pipe (S.stream source.new) (K.stream sink.new)) used text
-            (messages.LacksForwarded view.now) (WantsBody view.now) fault
+            → IfErr result (λ fault. (used : List ℕ) × (text : List ℕ) × (part : messages.PartOfForwarded (unnamed Persistence.Close) view.now used text)
+            × (fails : Fails (ends self.old.pipe (S.stream source.old) (K.stream sink.old)) (ends self.new.pipe (S.stream source.new) (K.stream sink.new)) used text
+            (messages.LacksForwarded view.now) (WantsBody view.now) fault)
             × (fault ≡ Fault.Framing → HoldsBack (ends self.old.pipe (S.stream source.old) (K.stream sink.old)) (ends self.new.pipe (S.stream source.new)
-            (K.stream sink.new)) text)) }
+            (K.stream sink.new)) text)
+            × (fault ≡ Fault.Read → HandsRequest part fails.rest)) }
         ensures held { self.old.stage ≢ Stage.Failed → OnErr result (self.new.pipe.inbox ≡ []) }
         ensures unread { ¬ (WantsBody view.now self.old.pipe.inbox) → S.stream source.new ≡ S.stream source.old }
         ensures failed { OnErr result (self.new.stage ≡ Stage.Failed) }
@@ -191,9 +192,10 @@ impl Exchange {
             → (self.new ≡ self.old) × (S.stream source.new ≡ S.stream source.old) × (K.stream sink.new ≡ K.stream sink.old) }
         ensures err { self.old.stage ≢ Stage.Failed → IfErr result (λ fault. (used : List ℕ) × (text : List ℕ)
             × (part : messages.PartOfAnswered Persistence.Close view.now.method (framed_for view.now.version) used text)
-            × Fails (ends (emptied self.old.pipe) (S.stream source.old) (K.stream sink.old)) (ends self.new.pipe (S.stream source.new)
-            (K.stream sink.new)) used text (messages.LacksAnswer view.now.method) (WantsAnswer view.now.method) fault
-            × (fault ≡ Fault.Framing → HoldsHead (S.stream source.old) (S.stream source.new) (K.stream sink.old) (K.stream sink.new) part)) }
+            × (fails : Fails (ends (emptied self.old.pipe) (S.stream source.old) (K.stream sink.old)) (ends self.new.pipe (S.stream source.new)
+            (K.stream sink.new)) used text (messages.LacksAnswer view.now.method) (WantsAnswer view.now.method) fault)
+            × (fault ≡ Fault.Framing → HoldsHead (S.stream source.old) (S.stream source.new) (K.stream sink.old) (K.stream sink.new) part)
+            × (fault ≡ Fault.Read → HandsAnswer part fails.rest)) }
         ensures held { self.old.stage ≢ Stage.Failed → OnErr result (self.new.pipe.inbox ≡ []) }
         ensures failed { OnErr result (self.new.stage ≡ Stage.Failed) }
         ensures turns { self.new.pipe.turns ≤ self.old.pipe.turns }

@@ -55,9 +55,10 @@ returns-in_err-count-clause-err g c = λ w.
     let so_far =
     subst (λ (p : Pipe). Moves a (ends p (g.S.Source.stream c.reading.source) w) [] []) (sym c.in-More.ensures.0) (c.reading.invariant.0 w) in
     let none = subst (λ (p : Pipe). HasNoHead p.inbox) (sym c.in-More.ensures.0) c.in-More.ensures.2 in
+    let failed = fails_plainly LacksRequest (IsAll c.ask.new.pipe.inbox) (c.in_err-count.ensures.err w) c.in_err-count.ensures.waiting in
     at_exit _ _ _ c.from_residual.ensures.1
     (moves_fails LacksRequest LacksRequest (IsAll c.ask.new.pipe.inbox) HasNoHead (λ l why. why) (λ l all. subst HasNoHead (sym all) none) so_far
-    (fails_plainly LacksRequest (IsAll c.ask.new.pipe.inbox) (c.in_err-count.ensures.err w)))
+    failed (λ is empty. failed.told is (ap (λ (p : Pipe). p.outbox) c.in-More.ensures.0 ∙ c.reading.invariant.1 ∙ empty)))
 
 pub returns-then-count-eq0-clause-err : goal.returns-then-count-eq0-clause-err
 returns-then-count-eq0-clause-err g c = λ w.
@@ -70,6 +71,7 @@ returns-then-count-eq0-clause-err g c = λ w.
     let same = told.1 ∙ sym (ap (λ (p : Pipe). p.inbox) told.0) ∙ sym (c.in_ok-count.ensures.none c.if-count-eq0.true) in
     fails_ended c.fault.result (moves_trans so_far (c.in_ok-count.ensures.ok w)) (c.in_ok-count.ensures.end c.if-count-eq0.true)
     (subst (λ (l : List ℕ). LacksRequest c.fault.result l) same (c.fault.ensures.lacks (begun more.held.items) (asking_of more none may)))
+    (c.in_ok-count.ensures.waiting ∙ ap (λ (p : Pipe). p.outbox) told.0 ∙ c.reading.invariant.1)
 
 pub reading-preserved : goal.reading-preserved
 reading-preserved g c =

@@ -4,6 +4,7 @@ use Rattle.std.proofs.lemmas.Result.{IfErr-weaker, on_ok_weaker}
 use Rattle.httparse.specs.Grammar.{print_response}
 use Rattle.http_bodies.proofs.Exits.{at_exit}
 use Rattle.http_bodies.specs.Framings.{IsBody, PartOfBody, IsUnfinished}
+use Rattle.http_bodies.specs.Runs.{IsSent}
 use Rattle.http_bodies.specs.Steps.{ends, HoldsBack}
 use Rattle.http_bodies.proofs.Stepping.{moves_trans, moves_as}
 use Rattle.http_texts.specs.Messages.{NoBody, LacksAnswer, print_heads, interims_text}
@@ -21,7 +22,7 @@ use Rattle.relay_http.proofs.messages.forward_answer.Goals as goal
 pub returns-in_err-planned-clause-err : goal.returns-in_err-planned-clause-err
 returns-in_err-planned-clause-err g c =
     let part = c.in_err-planned.ensures.err in
-    at_exit _ _ _ c.from_residual.ensures.1 (_, _, some_heads part.0 part.1, part.2, λ at held waits few. inl (part.3 at waits))
+    at_exit _ _ _ c.from_residual.ensures.1 (_, _, some_heads part.0 part.1, part.2, λ at held waits few. inl (part.3 at waits), part.4)
 
 pub returns-clause-ok : goal.returns-clause-ok
 returns-clause-ok g c =
@@ -57,6 +58,7 @@ returns-clause-ok g c =
     )) c.forward_planned.ensures.ok
 
 pub returns-clause-err : goal.returns-clause-err
+unfolding moves_fails fails_as
 returns-clause-err g c =
     let method = c.args.view.now.method in
     let framed = framed_for c.args.view.now.version in
@@ -77,7 +79,9 @@ returns-clause-err g c =
       fails_as (LacksAnswer method) (WantsAnswer method) (append_assoc (print_heads hs) (print_response h) part.0)
           (ap (λ (l : List ℕ). before ++ (l ++ part.1)) same)
           (moves_fails (NoBody plan.body) (LacksAnswer method) (IsUnfinished plan.body) (WantsAnswer method)
-          (λ l why. body_then method hs h plan _ l read.2 read.3 why) (λ l wants. body_wanted method hs h plan l read.2 read.3 wants) read.5 part.3),
+          (λ l why. body_then method hs h plan _ l read.2 read.3 why) (λ l wants. body_wanted method hs h plan l read.2 read.3 wants) read.5 part.3
+          (λ at waits. part.3.told at (c.in_ok-planned.ensures.empty waits))),
       λ at held waits few. head_held {b = mid} {c = end} (text ++ part.1) (framed_for c.args.view.now.version) hs h held waits (c.in_ok-planned.ensures.empty waits) read.5 part.3.reads few
           (subst (λ (l : List ℕ). HoldsBack mid end (l ++ part.1)) same (part.4 at)),
+      λ at. subst (λ b. IsSent plan.body b (part.0 ++ part.3.rest) part.1) told (part.5 at),
     )) c.forward_planned.ensures.err

@@ -17,8 +17,8 @@ use Rattle.http_texts.proofs.Forwarding.{heads_then, interims_more, interims_tex
 use Rattle.http_bodies.specs.Steps.{IsAll}
 use Rattle.relay_http.specs.Wants.{WantsAnswer}
 use Rattle.relay_http.proofs.Wanting.{head_wanted}
-use Rattle.relay_http.proofs.Failing.{moves_fails, moves_put, moves_halts, fails_as, fails_plainly, fails_end, wrote_of, halts_unframed, breaks_unframed}
-use Rattle.relay_http.proofs.Seeing.{used_front, fails_unseen}
+use Rattle.relay_http.proofs.Failing.{moves_fails, moves_put, moves_halts, fails_as, fails_of, fails_plainly, fails_end, wrote_of, halts_unframed, halts_unread, breaks_unframed}
+use Rattle.relay_http.proofs.Seeing.{used_front, fails_unseen, none_unread}
 use Rattle.req_view.specs.Answer.{Answer, answer_of}
 use Rattle.req_view.specs.AnswerHeads.{HasNoAnswer}
 use Rattle.relay_http.proofs.messages.read_answer.Goals as goal
@@ -66,6 +66,7 @@ returns-in-Refused-clause-err g c =
       fails_unseen method c.method.result.now hs c.heads.count c.held.result.now c.in-Refused.fault are so_far.2 c.method.ensures c.held.ensures.value
           c.in-Refused.ensures so_far.4,
       λ at none. wrote_of none (so_far.5 none) so_far.4,
+      λ at. absurd (none_unread c.method.result.now c.heads.count c.held.result.now c.in-Refused.fault at c.in-Refused.ensures),
     )
 
 pub forward_before-requires : goal.forward_before-requires
@@ -105,6 +106,7 @@ returns-in_err-forward_before-in-Interim-clause-err g c =
       fails_as (LacksAnswer method) (WantsAnswer method) (flat_last print_response hs h) text
           (moves_halts (LacksAnswer method) (WantsAnswer method) read c.in_err-forward_before-in-Interim.ensures.err),
       λ at. absurd (halts_unframed _ c.in_err-forward_before-in-Interim.ensures.err at),
+      λ at. absurd (halts_unread _ c.in_err-forward_before-in-Interim.ensures.err at),
     )
 
 pub heads-preserved-in-Interim : goal.heads-preserved-in-Interim
@@ -143,6 +145,7 @@ heads-preserved-in-Interim g c =
     )
 
 pub returns-in_err-came-in-More-clause-err : goal.returns-in_err-came-in-More-clause-err
+unfolding moves_fails fails_as fails_plainly fails_of
 returns-in_err-came-in-More-clause-err g c =
     let method = c.args.view.now.method in
     let framed = framed_for c.args.view.now.version in
@@ -150,17 +153,21 @@ returns-in_err-came-in-More-clause-err g c =
     let hs = so_far.0 in
     let are : AreInterims method hs = record { each = so_far.1; few = omega (arith, so_far.2, so_far.3) } in
     let none = subst (λ (l : List ℕ). HasNoAnswer l) c.held.ensures.value c.in-More.ensures.none in
+    let failed =
+    fails_plainly NoAnswer (IsAll c.heads.pipe.inbox) (c.in_err-came-in-More.ensures.err (g.K.Sink.stream c.heads.sink)) c.in_err-came-in-More.ensures.waiting in
     at_exit _ _ _ c.from_residual-in_err-came-in-More.ensures.1 (
       hs,
       are,
       fails_as (LacksAnswer method) (WantsAnswer method) (append-nil (print_heads hs)) (append-nil (interims_text framed hs))
           (moves_fails NoAnswer (LacksAnswer method) (IsAll c.heads.pipe.inbox) (WantsAnswer method) (λ l why. heads_then method hs _ l are why)
           (λ l all. head_wanted method hs c.heads.pipe.inbox l are none all) so_far.4
-          (fails_plainly NoAnswer (IsAll c.heads.pipe.inbox) (c.in_err-came-in-More.ensures.err (g.K.Sink.stream c.heads.sink)))),
+          failed (λ at empty. failed.told at (so_far.5 empty))),
       λ at. absurd (breaks_unframed (IsAll c.heads.pipe.inbox) _ (c.in_err-came-in-More.ensures.err (g.K.Sink.stream c.heads.sink)) at),
+      λ at. subst HasNoAnswer (sym c.in_err-came-in-More.ensures.kept.0) none,
     )
 
 pub returns-then-came-eq0-clause-err : goal.returns-then-came-eq0-clause-err
+unfolding fails_end
 returns-then-came-eq0-clause-err g c =
     let method = c.args.view.now.method in
     let framed = framed_for c.args.view.now.version in
@@ -175,8 +182,10 @@ returns-then-came-eq0-clause-err g c =
       hs,
       are,
       fails_end (LacksAnswer method) (WantsAnswer method) read (came.end c.if-came-eq0.true)
-          (heads_then method hs Read c.fill.new.self.inbox are none) (head_wanted method hs c.fill.new.self.inbox c.fill.new.self.inbox are none refl),
+          (heads_then method hs Read c.fill.new.self.inbox are none) (head_wanted method hs c.fill.new.self.inbox c.fill.new.self.inbox are none refl)
+          (λ empty. came.waiting ∙ so_far.5 empty),
       λ at. absurd (read_not_framing at),
+      λ at. none,
     )
 
 pub heads-preserved : goal.heads-preserved

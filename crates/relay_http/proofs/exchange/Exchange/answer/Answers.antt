@@ -3,6 +3,7 @@ use Rattle.std.proofs.lemmas.Result.{IfErr-weaker}
 use Rattle.http_texts.specs.Messages.{PartOfAnswered, LacksAnswer}
 use Rattle.http_texts.specs.Texts.{framed_for}
 use Rattle.std.proofs.lemmas.Grind.{common_steps}
+use Rattle.relay_http.specs.Calls.{HandsAnswer}
 use Rattle.relay_http.specs.Wants.{WantsAnswer}
 use Rattle.relay_http.proofs.Thinning.{thin_answer, thin_both_fault, thin_same}
 use Rattle.http_texts.specs.declared.persistence.Persistence.TheVariants.{Close}
@@ -16,10 +17,10 @@ returns-clause-ok g c =
 
 pub returns-clause-err : goal.returns-clause-err
 returns-clause-err g c = λ open_still.
-    thin_both_fault _ (PartOfAnswered Close c.args.view.now.method (framed_for c.args.view.now.version)) (LacksAnswer c.args.view.now.method)
+    thin_both_fault _ (PartOfAnswered Close c.args.view.now.method (framed_for c.args.view.now.version)) (λ x y part. HandsAnswer part) (LacksAnswer c.args.view.now.method)
     (WantsAnswer c.args.view.now.method) _ _ _ _ _ _
     (search rules) (search rules) (search rules) (search rules)
-    c.args.self.now.drained (IfErr-weaker c.answer_between.result _ _ (λ fault part. (part.0, part.1, part.2, part.3)) (c.answer_between.ensures.err open_still))
+    c.args.self.now.drained (IfErr-weaker c.answer_between.result _ _ (λ fault part. (part.0, part.1, part.2, part.3, part.5)) (c.answer_between.ensures.err open_still))
 
 pub returns-clause-untouched : goal.returns-clause-untouched
 returns-clause-untouched g c = λ failed. (

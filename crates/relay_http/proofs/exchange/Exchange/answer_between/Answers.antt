@@ -2,8 +2,9 @@
 use Rattle.std.proofs.Common.{◌<◌, ◌∙◌, ℕ, length, arith, ap, length-append}
 use Rattle.http_texts.specs.Messages.{LacksAnswer}
 use Rattle.std.proofs.lemmas.Grind.{common_steps}
+use Rattle.relay_http.specs.Calls.{HandsAnswer}
 use Rattle.relay_http.specs.Wants.{WantsAnswer}
-use Rattle.relay_http.proofs.Failing.{fails_after}
+use Rattle.relay_http.proofs.Failing.{fails_after, fails_from}
 use Rattle.relay_http.proofs.Marking.{marks, begun_by, pipe_emptied, answered_some}
 use Rattle.relay_http.proofs.Turning.{moves_turns, fails_turns, fails_spent}
 use Rattle.relay_http.proofs.exchange.Exchange.answer_between.Goals as goal
@@ -42,15 +43,20 @@ returns-in-Ok-clause-begun g c =
     moves.writes c.has_begun-self.ensures some
 
 pub returns-in-Err-clause-err : goal.returns-in-Err-clause-err
+unfolding fails_after
 returns-in-Err-clause-err g c =
     let empty = pipe_emptied c.args.self.now.pipe c.hold.new.self c.hold.ensures.inbox c.hold.ensures.outbox c.hold.ensures.turns in
     let part = c.in-Err.ensures.err in
+    let method = c.args.view.now.method in
+    let after = fails_after (LacksAnswer method) (WantsAnswer method) c.hold-in-Err.new.self (c.hold-in-Err.ensures.turns ∙ c.forget_waiting.ensures.turns) part.3 in
+    let from = fails_from (LacksAnswer method) (WantsAnswer method) (HandsAnswer part.2) empty after part.5 in
     λ open_still. (
       part.0,
       part.1,
       part.2,
-      rw (← empty) (fails_after (LacksAnswer c.args.view.now.method) (WantsAnswer c.args.view.now.method) c.hold-in-Err.new.self (c.hold-in-Err.ensures.turns ∙ c.forget_waiting.ensures.turns) part.3),
+      from.0,
       λ at. part.4 at c.hold.ensures.inbox (c.hold.ensures.outbox ∙ c.args.self.now.drained),
+      from.1,
     )
 
 pub returns-in-Err-clause-marks : goal.returns-in-Err-clause-marks

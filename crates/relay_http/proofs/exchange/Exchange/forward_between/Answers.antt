@@ -6,6 +6,7 @@ use Rattle.relay_http.proofs.Turning.{moves_turns, fails_turns, fails_spent}
 use Rattle.relay_http.proofs.exchange.Exchange.forward_between.Goals as goal
 
 pub returns-in-Err-clause-err : goal.returns-in-Err-clause-err
+unfolding fails_after
 returns-in-Err-clause-err g c =
     let part = c.in-Err.ensures.err in
     λ open_still. (
@@ -14,6 +15,7 @@ returns-in-Err-clause-err g c =
       part.2,
       fails_after (LacksForwarded c.args.view.now) (WantsBody c.args.view.now) c.hold.new.self (c.hold.ensures.turns ∙ c.forget_waiting.ensures.turns) part.3,
       part.4,
+      part.5,
     )
 
 pub returns-in-Ok-clause-same_source : goal.returns-in-Ok-clause-same_source

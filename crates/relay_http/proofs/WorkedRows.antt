@@ -3,6 +3,8 @@ use Rattle.std.proofs.Common.{◌≡◌, ℕ, Option, List, [], Some, true, fals
 use Rattle.std.proofs.KnownBytes.{Consumes-nil, Appends-nil}
 use base.Fml.{GName}
 use Rattle.base_streams.specs.Streams.{Stream}
+use Rattle.httparse.specs.Grammar.{ResponseHead}
+use Rattle.exchange_machine.proofs.HeadEnds.{no_answer_at_all}
 use Rattle.http_bodies.specs.Framings.{IsUnfinished}
 use Rattle.http_bodies.specs.Steps.{Ends}
 use Rattle.http_bodies.specs.declared.framing.Framing.TheVariants.{Length}
@@ -15,9 +17,10 @@ use Rattle.http_texts.specs.Messages.PartOfAnswered.{some_heads}
 use Rattle.http_texts.specs.Messages.PartOfForwarded.{head_and_body}
 use Rattle.http_texts.specs.declared.additions.Additions.{Additions}
 use Rattle.http_texts.specs.declared.persistence.Persistence.TheVariants.{Close}
-use Rattle.relay_http.specs.Calls.{HoldsHead, HandsRequest}
+use Rattle.relay_http.specs.Calls.{HoldsHead, HandsRequest, HandsAnswer}
 use Rattle.relay_http.specs.Failures.{Blames, Misses, NoCause}
 use Rattle.relay_http.specs.States.{Serves, Marks}
+use Rattle.req_view.specs.AnswerHeads.{HasAnswer}
 use Rattle.req_view.specs.Request.{Request}
 use Rattle.base_verdict.specs.declared.cause.Cause.TheVariants.{Aborted}
 use Rattle.base_verdict.specs.declared.Verdict.TheVariants.{Serve, Told}
@@ -122,3 +125,11 @@ not_held_back : (adds : Additions) (r : Request) → (is : request_framing r ≡
 not_held_back adds r is hands =
     let front = hands.most (codes "a") (codes "a") [] (omega arith, refl) refl in
     omega (arith, ap (length {A = ℕ}) front.is)
+
+-- where nothing came no head is all, and where a whole head did it isn't
+no_head_is_all : (method : List ℕ) → HandsAnswer {says = Close} {method = method} {framed = true} (some_heads [] (no_heads method)) []
+no_head_is_all method = no_answer_at_all
+
+no_head_is_held_back : (method input rest : List ℕ) (h : ResponseHead) → HasAnswer input h rest
+    → ¬ (HandsAnswer {says = Close} {method = method} {framed = true} (some_heads [] (no_heads method)) input)
+no_head_is_held_back method input rest h has hands = hands h rest has

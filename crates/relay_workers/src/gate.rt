@@ -1,5 +1,6 @@
 ghost use Rattle.std.specs.Prelude.{◌≡◌, ◌+◌, ℕ, List, None, Option, IfSome, IfNone};
 ghost use Rattle.std.specs.Bool.{OnTrue, OnFalse};
+ghost use Rattle.base_places.specs.Sets.{Has};
 ghost use Rattle.relay_workers.specs.Carrying.{IsUntouched};
 ghost use Rattle.relay_workers.specs.Gates.{Notice, noted};
 ghost use Rattle.relay_workers.specs.Gates.Notice.{Came, NoMore, IsThere, HasLeft, Released, Connected, Missing, Disconnected, Posted, Found, NotYet, Now, Told, Ended};
@@ -25,56 +26,71 @@ pub trait Gate {
     /// nothing.
     ghost notes: { Self → Option (List (Notice Self.Client Self.Server)) } = { λ _. None };
 
+    /// That a look is owed at a place, since it was told of offers there. `Unit` where it keeps no
+    /// places: who makes it looks at them otherwise.
+    ghost owes: { Self → ℕ → Type 0 } = { λ _ _. Unit {0} };
+
     /// Returns the next client; `None` where no more come to this thread. It may wait without limit.
     fn next(&mut self) -> Option<Self::Client>
         ensures some { IfSome result (λ client. notes self.new ≡ noted (Came client) (notes self.old)) }
-        ensures none { IfNone result (notes self.new ≡ noted NoMore (notes self.old)) };
+        ensures none { IfNone result (notes self.new ≡ noted NoMore (notes self.old)) }
+        ensures kept { (place : ℕ) → owes self.old place → owes self.new place };
 
     /// Takes back a client, and closes its connection.
     fn release(&mut self, client: Self::Client)
-        ensures { notes self.new ≡ noted (Released client) (notes self.old) };
+        ensures told { notes self.new ≡ noted (Released client) (notes self.old) }
+        ensures kept { (place : ℕ) → owes self.old place → owes self.new place };
 
     /// Returns a connection to the server of a slot; `None` where there is none, and the request is
     /// retried there or elsewhere.
     fn connect<N: DeskName>(&mut self, slot: &Slot<'_, N>) -> Option<Self::Server>
         ensures some { IfSome result (λ server. notes self.new ≡ noted (Connected slot.now.pass.now server) (notes self.old)) }
-        ensures none { IfNone result (notes self.new ≡ noted (Missing slot.now.pass.now) (notes self.old)) };
+        ensures none { IfNone result (notes self.new ≡ noted (Missing slot.now.pass.now) (notes self.old)) }
+        ensures kept { (place : ℕ) → owes self.old place → owes self.new place };
 
     /// Takes back a connection to a server, and closes it.
     fn disconnect(&mut self, server: Self::Server)
-        ensures { notes self.new ≡ noted (Disconnected server) (notes self.old) };
+        ensures told { notes self.new ≡ noted (Disconnected server) (notes self.old) }
+        ensures kept { (place : ℕ) → owes self.old place → owes self.new place };
 
     /// Is shown the thread's seat, which has just posted a pass.
     fn posted(&mut self, seat: &RelaySeat)
-        ensures { notes self.new ≡ noted (Posted seat.now.view) (notes self.old) };
+        ensures told { notes self.new ≡ noted (Posted seat.now.view) (notes self.old) }
+        ensures kept { (place : ℕ) → owes self.old place → owes self.new place };
 
     /// Looks at the check of a server, and begins one where none runs; `None` where it isn't over
     /// yet. It doesn't wait, so no server's checks delay another's.
     fn probe(&mut self, server: usize) -> Option<bool>
         ensures found { IfSome result (λ ok. notes self.new ≡ noted (Found server ok) (notes self.old)) }
-        ensures none { IfNone result (notes self.new ≡ noted (NotYet server) (notes self.old)) };
+        ensures none { IfNone result (notes self.new ≡ noted (NotYet server) (notes self.old)) }
+        ensures kept { (place : ℕ) → owes self.old place → owes self.new place };
 
     /// Says whether a client that waits has left. What it sent meanwhile can still be read.
     fn gone(&mut self, client: &mut Self::Client) -> bool
         ensures left { OnTrue result (notes self.new ≡ noted HasLeft (notes self.old)) }
         ensures there { OnFalse result (notes self.new ≡ noted IsThere (notes self.old)) }
-        ensures kept { IsUntouched Self.Client.remaining Self.Client.contents client.old client.new };
+        ensures untouched { IsUntouched Self.Client.remaining Self.Client.contents client.old client.new }
+        ensures kept { (place : ℕ) → owes self.old place → owes self.new place };
 
     /// Returns the present moment.
     fn moment(&mut self) -> Moment
-        ensures { notes self.new ≡ noted (Now result) (notes self.old) };
+        ensures told { notes self.new ≡ noted (Now result) (notes self.old) }
+        ensures kept { (place : ℕ) → owes self.old place → owes self.new place };
 
     /// Takes what is told of a window that ended, because the log was full or its time was over.
     /// Each window goes to the gate of one thread, and they may come to the gates in another order
     /// than they ended.
     fn window<N: DeskName>(&mut self, window: EndedWindow, changed: Changed<N>)
         requires { WindowHasEnded window }
-        ensures { notes self.new ≡ noted (Ended window changed) (notes self.old) };
+        ensures told { notes self.new ≡ noted (Ended window changed) (notes self.old) }
+        ensures kept { (place : ℕ) → owes self.old place → owes self.new place };
 
     /// Is told after a call of the desk what it changed, and at which places it offered verdicts.
     /// The lock is free then.
     fn wake<N: DeskName>(&mut self, changed: Changed<N>)
-        ensures { notes self.new ≡ noted (Told changed) (notes self.old) };
+        ensures told { notes self.new ≡ noted (Told changed) (notes self.old) }
+        ensures owed { (place : ℕ) → Has changed.places place → owes self.new place }
+        ensures kept { (place : ℕ) → owes self.old place → owes self.new place };
 }
 
 /// A bound on the pauses of a thread.

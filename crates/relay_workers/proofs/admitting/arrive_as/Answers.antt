@@ -12,7 +12,7 @@ pub returns-clause-answered : goal.returns-clause-answered
 returns-clause-answered g c =
     answered g.N.BoardName.terms g.N.DeskName.setup (AnswersArrival g.N.BoardName.terms g.N.DeskName.setup (arrival c.args.wish.now) c.args.wish.now.pin) c.moment-moment.result
     c.retry_in_new_window.result (g.G.Gate.notes c.args.gate.now) (g.G.Gate.notes c.moment-moment.new.self)
-    (g.G.Gate.notes c.retry_in_new_window.new.gate) c.moment-moment.ensures c.retry_in_new_window.ensures
+    (g.G.Gate.notes c.retry_in_new_window.new.gate) c.moment-moment.ensures.told c.retry_in_new_window.ensures
 
 pub returns-clause-ok : goal.returns-clause-ok
 returns-clause-ok g c =

@@ -33,5 +33,5 @@ returns g c =
           (noted (Now c.moment-now.result) (g.G.Gate.notes c.args.gate.now)) count c.loop-number.next_checks (g.G.Gate.notes c.loop-number.gate)) all
           (subst (λ (notes : Option (List (Notice g.row.G-Client.Denot g.row.G-Server.Denot))). HasLooked g.N.BoardName.terms g.N.DeskName.setup
           c.args.proxy.now.config.servers c.moment-now.result c.args.next_checks.now notes c.loop-number.number c.loop-number.next_checks
-          (g.G.Gate.notes c.loop-number.gate)) c.moment-now.ensures c.loop-number.invariant.1),
+          (g.G.Gate.notes c.loop-number.gate)) c.moment-now.ensures.told c.loop-number.invariant.1),
     )

@@ -19,7 +19,7 @@ returns-in-None-carried-clause-again g c =
       c.carry-carried.ensures.kept.0,
       c.carry-carried.ensures.kept.1,
       none.1,
-      turned_from g.N.BoardName.terms g.N.DeskName.setup c.turn.result _ (c.posted.ensures ∙ ap (noted (Posted c.post.new.self.view)) none.3) c.turn.ensures,
+      turned_from g.N.BoardName.terms g.N.DeskName.setup c.turn.result _ (c.posted.ensures.told ∙ ap (noted (Posted c.post.new.self.view)) none.3) c.turn.ensures,
     )
 
 -- it was served, the pass was posted, a turn was made, and the client was released
@@ -29,6 +29,6 @@ returns-in-Some-carried-clause-relayed g c = (
   g.G.Gate.notes c.carry-carried.new.runner.gate,
   g.G.Gate.notes c.turn.new.gate,
   c.in-Some-carried.ensures.relayed,
-  turned_from g.N.BoardName.terms g.N.DeskName.setup c.turn.result _ c.posted.ensures c.turn.ensures,
+  turned_from g.N.BoardName.terms g.N.DeskName.setup c.turn.result _ c.posted.ensures.told c.turn.ensures,
   c.release.ensures,
 )

@@ -9,5 +9,5 @@ returns-in-Ok-clause-ok g c = (
   c.in-Ok.window,
   c.roll-ended.result.1,
   subst (λ (it : Result EndedWindow AllocError). AnswersRoll g.N.BoardName.terms g.N.DeskName.setup it c.roll-ended.result.1) c.in-Ok.is c.roll-ended.ensures.answer,
-  c.window.ensures,
+  c.window.ensures.told,
 )

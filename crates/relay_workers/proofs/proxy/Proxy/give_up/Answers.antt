@@ -5,5 +5,5 @@ use Rattle.relay_workers.proofs.proxy.Proxy.give_up.Goals as goal
 pub returns : goal.returns
 returns g c =
     answered g.N.BoardName.terms g.N.DeskName.setup (AnswersAbort g.N.BoardName.terms g.N.DeskName.setup c.args.ticket) c.moment-moment.result c.retry_in_new_window.result
-    (g.G.Gate.notes c.args.gate.now) (g.G.Gate.notes c.moment-moment.new.self) (g.G.Gate.notes c.retry_in_new_window.new.gate) c.moment-moment.ensures
+    (g.G.Gate.notes c.args.gate.now) (g.G.Gate.notes c.moment-moment.new.self) (g.G.Gate.notes c.retry_in_new_window.new.gate) c.moment-moment.ensures.told
     c.retry_in_new_window.ensures

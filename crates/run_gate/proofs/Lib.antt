@@ -1,3 +1,4 @@
 pub mod Adding
 pub mod Crosses
+pub mod Running
 mod WorkedRows

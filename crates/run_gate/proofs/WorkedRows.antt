@@ -1,7 +1,9 @@
--- How long is waited, at worked examples.
-use Rattle.std.proofs.Common.{◌≡◌, refl}
+-- How long is waited, and what a poll tells, at worked examples.
+use Rattle.std.proofs.Common.{◌≡◌, true, false, pos, refl}
 use Rattle.std.specs.Prelude.{Some, None}
 use Rattle.proxy_config.specs.declared.parts.Checks.{Checks}
+use Rattle.run_gate.specs.Polls.{tells_any, tells_end, tells_failure}
+use Rattle.run_gate.specs.Probes.{is_late}
 use Rattle.run_gate.specs.Waits.{turnaround, patience, left}
 
 -- a second where a connect may take five, or any time; and no longer than a connect
@@ -30,3 +32,30 @@ some_left = refl
 
 all_left : left 17 20 10 ≡ 20
 all_left = refl
+
+-- a check of 20 milliseconds is late after 20, and one without limit never
+late_in_time : is_late 10 (Some 20) 30 ≡ true
+late_in_time = refl
+
+in_time : is_late 10 (Some 20) 29 ≡ false
+in_time = refl
+
+never_late : is_late 10 None 1000000 ≡ false
+never_late = refl
+
+-- a connection that takes bytes hasn't failed, and one that hung up has
+takes_bytes : tells_failure (pos 4) ≡ false
+takes_bytes = refl
+
+hung_up : tells_failure (pos 20) ≡ true
+hung_up = refl
+
+-- the other end sends no more, which is no failure
+sends_no_more : tells_end (pos 8192) ≡ true
+sends_no_more = refl
+
+no_failure : tells_failure (pos 8192) ≡ false
+no_failure = refl
+
+nothing_told : tells_any (pos 0) ≡ false
+nothing_told = refl

@@ -1,11 +1,11 @@
-ghost use Rattle.std.specs.Prelude.{◌≡◌, None, IfSome, slice_get};
+ghost use Rattle.std.specs.Prelude.{◌≡◌, None, IfOk, IfSome, slice_get};
+ghost use Rattle.run_gate.specs.Names.{LooksUpNames, name_sought, name_to_find};
 ghost use Rattle.run_gate.specs.Numbers.{IsAddressOf, IsSocketAddress};
 
 use crate::name::Name;
 use proxy_config::{Address, Config, Host};
 use std::alloc::{AllocError, Global};
 use std::net::{IpAddr, Ipv4Addr, SocketAddr};
-use std::str;
 use std::sync::{Arc, Wait};
 
 /// The addresses of a configuration's servers.
@@ -17,7 +17,9 @@ pub struct Addresses {
 
 impl Addresses {
     /// Makes the addresses of these servers, before any look-up.
-    pub fn new(alloc: Global, config: &Config) -> Result<Addresses, AllocError> {
+    pub fn new(alloc: Global, config: &Config) -> Result<Addresses, AllocError>
+        ensures { IfOk result (LooksUpNames config.now) }
+    {
         let servers = config.servers.as_slice();
         let mut names = Vec::with_capacity(alloc, servers.len())?;
         for server in servers {
@@ -65,17 +67,21 @@ impl Addresses {
     }
 }
 
-fn address_at(octets: [u8; 4], port: u16) -> SocketAddr
+/// Returns the socket address of an IPv4 address and a port.
+pub(crate) fn address_at(octets: [u8; 4], port: u16) -> SocketAddr
     ensures { IsSocketAddress octets port result }
 {
     SocketAddr::new(IpAddr::V4(Ipv4Addr::from(octets)), port)
 }
 
-fn name_of(alloc: Global, address: &Address) -> Result<Option<Arc<Name>>, AllocError> {
+// Returns the name of an address that isn't given in numbers.
+fn name_of(alloc: Global, address: &Address) -> Result<Option<Arc<Name>>, AllocError>
+    ensures { IfOk result (λ name. name_sought name ≡ name_to_find address.now) }
+{
     let Host::Name(name) = &address.host else {
         return Ok(None);
     };
-    let host = String::from_str(alloc, str::from_utf8(name.as_slice()).unwrap_or_default())?;
+    let host = Vec::from_slice(alloc, name.as_slice())?;
     let name = Arc::new(alloc, Name::new(host, address.port))?;
     Ok(Some(name))
 }

@@ -1,4 +1,4 @@
-ghost use Rattle.std.specs.Prelude.{◌≡◌, ◌≢◌};
+ghost use Rattle.std.specs.Prelude.{◌≡◌, ◌≢◌, ◌<◌, ◌↔◌, IsTrue};
 ghost use Rattle.std.specs.Bool.{OnTrue, OnFalse};
 
 use std::sync::atomic::{AtomicBool, AtomicU64, Ordering};
@@ -28,7 +28,7 @@ impl Clients {
     pub fn take(&self) -> bool
         ensures { OnFalse result (self.now.most ≢ 0) }
     {
-        self.most == 0 || self.taken.fetch_add(1, Ordering::SeqCst) < self.most
+        self.most == 0 || is_fewer(self.taken.fetch_add(1, Ordering::SeqCst), self.most)
     }
 
     /// Returns how many clients may come; 0 is without limit.
@@ -42,7 +42,7 @@ impl Clients {
     pub fn are_all_taken(&self) -> bool
         ensures { OnTrue result (self.now.most ≢ 0) }
     {
-        self.most != 0 && self.most <= self.taken.load(Ordering::SeqCst)
+        self.most != 0 && !is_fewer(self.taken.load(Ordering::SeqCst), self.most)
     }
 
     /// Notes that a thread accepts no more clients, though more may come.
@@ -54,4 +54,11 @@ impl Clients {
     pub fn are_given_up(&self) -> bool {
         self.given_up.load(Ordering::SeqCst)
     }
+}
+
+// Says whether fewer clients were taken than may come.
+fn is_fewer(taken: u64, most: u64) -> bool
+    ensures { IsTrue result ↔ (taken < most) }
+{
+    taken < most
 }

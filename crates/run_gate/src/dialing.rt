@@ -1,7 +1,8 @@
 //! Connections to servers.
 
+use crate::addresses::address_at;
 use proxy_config::{Address, Host};
-use std::net::{Ipv4Addr, Net, TcpListener, TcpStream, ToSocketAddrs};
+use std::net::{Net, TcpListener, TcpStream, ToSocketAddrs};
 use std::str;
 use std::time::{Clock, Duration, Instant};
 
@@ -13,7 +14,7 @@ pub(crate) fn dial<R: Net<Listener = TcpListener, Stream = TcpStream> + Clock>(
     limit: Option<Duration>,
 ) -> Option<TcpStream> {
     match &address.host {
-        Host::Ip(ip) => dial_one_of(rt, (Ipv4Addr::from(*ip), address.port), limit),
+        Host::Ip(octets) => dial_one_of(rt, address_at(*octets, address.port), limit),
         Host::Name(name) => {
             let name = str::from_utf8(name.as_slice()).ok()?;
             dial_one_of(rt, (name, address.port), limit)

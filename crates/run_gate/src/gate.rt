@@ -1,12 +1,22 @@
-ghost use Rattle.std.specs.Prelude.{◌≡◌, ◌≤◌, ◌⊎◌, ◌↔◌, ℕ, IfOk, false, length};
+ghost use Rattle.std.specs.Prelude.{◌≡◌, ◌*◌, ◌≤◌, ◌<◌, ◌⊎◌, ◌↔◌, ℕ, List, length, replicate, slice_get, slice_set, IfOk, IfErr, IfSome, IfNone, IsSomeAnd, IsTrue, None, Some, Ok, false};
+ghost use Rattle.std.specs.Bool.{OnTrue, OnFalse};
+ghost use Rattle.std.specs.Duration.{as_nanos};
 ghost use Rattle.base_places.specs.Sets.{Has};
+ghost use Rattle.base_verdict.specs.declared.Verdict.TheVariants.{Serve};
 ghost use Rattle.relay_workers.specs.Windows.{WindowHasEnded};
+ghost use Rattle.relay_workers.specs.Carrying.{IsUntouched};
+ghost use Rattle.relay_workers.specs.Gates.{noted};
+ghost use Rattle.relay_workers.specs.Gates.Notice.{Came, NoMore, IsThere, HasLeft, Released, Connected, Missing, Disconnected, Posted, Found, NotYet, Now, Told, Ended};
+ghost use Rattle.run_gate.specs.Notes.{no_bytes, no_notes};
+ghost use Rattle.run_gate.specs.Numbers.{IsAddressOf};
+ghost use Rattle.run_gate.specs.Probes.{IsCheckOf, RunsOn, running_at};
+ghost use Rattle.run_gate.specs.Waits.{left, turnaround};
 
 use crate::dialing::dial;
 use crate::front::{GateShared, within};
 use crate::leaving::has_left;
 use crate::probing::Probe;
-use crate::waits::{duration, left, patience, turnaround};
+use crate::waits::{duration, left, moment_of, patience, turnaround};
 use base_places::PlaceSet;
 use dispatch_reports::EndedWindow;
 use due_key::Moment;
@@ -30,6 +40,22 @@ struct Failure {
     at: Moment,
 }
 
+impl Failure {
+    // Says whether it is of this request and this server.
+    fn is_of(&self, ticket: u64, server: usize) -> bool
+        ensures { IsTrue result ↔ ((self.now.ticket ≡ ticket) × (self.now.server ≡ server)) }
+    {
+        self.ticket == ticket && self.server == server
+    }
+
+    // Returns how long its request waits from a moment on, by `timeout connect`.
+    fn rest(&self, connect: Option<u64>, now: Moment) -> Duration
+        ensures { as_nanos result ≡ left self.now.at (turnaround connect) now * 1_000_000 }
+    {
+        Duration::from_millis(left(self.at, turnaround(connect), now))
+    }
+}
+
 /// A thread's gate.
 #[derive(Drop)]
 pub struct SocketGate<'a, R> {
@@ -51,7 +77,11 @@ impl<'a, R: Net<Listener = TcpListener, Stream = TcpStream> + Clock> SocketGate<
         alloc: Global,
         rt: &'a R,
         front: &'a GateShared<'a>,
-    ) -> Result<SocketGate<'a, R>, AllocError> {
+    ) -> Result<SocketGate<'a, R>, AllocError>
+        ensures shared { IfOk result (λ gate. gate.front.now ≡ front.now) }
+        ensures idle { IfOk result (λ gate. gate.probes.items ≡ replicate (length front.now.config.now.servers) None) }
+        ensures fresh { IfOk result (λ gate. (gate.last ≡ 0) × (gate.failure ≡ None) × ((place : ℕ) → Has gate.woken place → ⊥)) }
+    {
         let servers = front.config.servers.len();
         let mut probes = Vec::with_capacity(alloc, servers)?;
         for _ in 0..servers {
@@ -71,6 +101,7 @@ impl<'a, R: Net<Listener = TcpListener, Stream = TcpStream> + Clock> SocketGate<
     pub fn take_woken(&mut self) -> PlaceSet
         ensures taken { result ≡ self.old.woken }
         ensures none { (place : ℕ) → Has self.new.woken place → ⊥ }
+        ensures same { self.new ≡ record self.old { woken = self.new.woken } }
     {
         mem::replace(&mut self.woken, PlaceSet::new())
     }
@@ -85,7 +116,11 @@ impl<'a, R: Net<Listener = TcpListener, Stream = TcpStream> + Clock> SocketGate<
 
     /// Notes a failed connect of another thread: some time passes before the same request tries the
     /// same server again.
-    pub fn note_failure(&mut self, ticket: u64, server: usize) {
+    pub fn note_failure(&mut self, ticket: u64, server: usize)
+        ensures noted { self.new.failure ≡ Some (record { ticket = ticket; server = server; at = self.new.last }) }
+        ensures later { self.old.last ≤ self.new.last }
+        ensures same { self.new ≡ record self.old { last = self.new.last; failure = self.new.failure } }
+    {
         self.failure = Some(Failure {
             ticket,
             server,
@@ -97,6 +132,7 @@ impl<'a, R: Net<Listener = TcpListener, Stream = TcpStream> + Clock> SocketGate<
     fn now(&mut self) -> Moment
         ensures last { result ≡ self.new.last }
         ensures later { self.old.last ≤ self.new.last }
+        ensures same { self.new ≡ record self.old { last = self.new.last } }
     {
         let passed = self.front.start.elapsed(self.rt);
         if let Some(now) = passed.ok().and_then(moment_of) {
@@ -108,21 +144,27 @@ impl<'a, R: Net<Listener = TcpListener, Stream = TcpStream> + Clock> SocketGate<
     }
 
     // Waits some time before a request tries the server again that has just failed it.
-    fn hold_back(&mut self, ticket: u64, server: usize) {
+    fn hold_back(&mut self, ticket: u64, server: usize)
+        ensures { self.new ≡ record self.old { last = self.new.last } }
+    {
         let Some(failure) = self.failure else {
             return;
         };
-        if failure.ticket == ticket && failure.server == server {
-            let wait = turnaround(self.front.config.connect_timeout);
-            let millis = left(failure.at, wait, self.now());
-            thread::sleep(self.rt, Duration::from_millis(millis));
+        if failure.is_of(ticket, server) {
+            let rest = failure.rest(self.front.config.connect_timeout, self.now());
+            thread::sleep(self.rt, rest);
         }
     }
 }
 
 impl<'a, R: Net<Listener = TcpListener, Stream = TcpStream> + Clock + Wait> SocketGate<'a, R> {
     // Takes the running check of a server, or begins one.
-    fn take_probe(&mut self, server: usize, now: Moment) -> Result<Probe, CheckFailure> {
+    fn take_probe(&mut self, server: usize, now: Moment) -> Result<Probe, CheckFailure>
+        ensures taken { IfOk result (IsCheckOf self.old.front.now.config.now server now (running_at self.old.probes.items server)) }
+        ensures failed { IfErr result (λ _. running_at self.old.probes.items server ≡ None) }
+        ensures out { self.new.probes.items ≡ slice_set self.old.probes.items server None }
+        ensures same { self.new ≡ record self.old { probes = self.new.probes } }
+    {
         if let Some(place) = self.probes.get_mut(server) {
             if let Some(probe) = place.take() {
                 return Ok(probe);
@@ -151,17 +193,15 @@ impl<'a, R: Net<Listener = TcpListener, Stream = TcpStream> + Clock + Wait> Sock
 
     // Returns a server's address by the last look-up of its name, and asks for another look-up, for
     // the next check.
-    fn address_of(&self, server: usize) -> Option<SocketAddr> {
+    fn address_of(&self, server: usize) -> Option<SocketAddr>
+        ensures numbers { IfSome (slice_get self.now.front.now.config.now.servers server) (λ it. IsAddressOf it.address result) }
+        ensures nobody { slice_get self.now.front.now.config.now.servers server ≡ None → result ≡ None }
+    {
         let addresses = self.front.addresses;
         let address = addresses.of(self.rt, self.front.config, server);
         addresses.look_again(self.rt, server);
         address
     }
-}
-
-// Returns the moment after this time.
-fn moment_of(passed: Duration) -> Option<Moment> {
-    Moment::new(u64::try_from(passed.as_millis()).ok()?)
 }
 
 impl<'a, R: Net<Listener = TcpListener, Stream = TcpStream> + Clock + Wait> Gate
@@ -170,15 +210,35 @@ impl<'a, R: Net<Listener = TcpListener, Stream = TcpStream> + Clock + Wait> Gate
 
     type Server = TcpStream;
 
-    fn next(&mut self) -> Option<TcpStream> {
+    ghost notes = { λ _. no_notes };
+
+    ghost owes = { λ gate place. Has gate.woken place };
+
+    fn next(&mut self) -> Option<TcpStream>
+        ensures some { IfSome result (λ client. no_notes ≡ noted (Came client) no_notes) }
+        ensures none { IfNone result (no_notes ≡ noted NoMore no_notes) }
+        ensures kept { (place : ℕ) → Has self.old.woken place → Has self.new.woken place }
+        ensures same { self.new ≡ self.old }
+    {
         self.front.next(self.rt)
     }
 
-    fn release(&mut self, client: TcpStream) {
+    fn release(&mut self, client: TcpStream)
+        ensures told { no_notes ≡ noted (Released client) no_notes }
+        ensures kept { (place : ℕ) → Has self.old.woken place → Has self.new.woken place }
+        ensures same { self.new ≡ self.old }
+    {
         drop(client);
     }
 
-    fn connect<N: DeskName>(&mut self, slot: &Slot<'_, N>) -> Option<TcpStream> {
+    fn connect<N: DeskName>(&mut self, slot: &Slot<'_, N>) -> Option<TcpStream>
+        ensures some { IfSome result (λ server. no_notes ≡ noted (Connected slot.now.pass.now server) no_notes) }
+        ensures none { IfNone result (no_notes ≡ noted (Missing slot.now.pass.now) no_notes) }
+        ensures kept { (place : ℕ) → Has self.old.woken place → Has self.new.woken place }
+        ensures failed { (server : ℕ) → slot.now.pass.now.verdict ≡ Serve server → server < length self.old.front.now.config.now.servers → IfNone result (self.new.failure ≡ Some (record { ticket = slot.now.pass.now.ticket; server = server; at = self.new.last })) }
+        ensures same { self.new ≡ record self.old { last = self.new.last; failure = self.new.failure } }
+        ensures connected { IfSome result (λ _. self.new.failure ≡ self.old.failure) }
+    {
         let number = slot.server();
         self.hold_back(slot.ticket(), number);
         let config = self.front.config;
@@ -193,19 +253,35 @@ impl<'a, R: Net<Listener = TcpListener, Stream = TcpStream> + Clock + Wait> Gate
         }
     }
 
-    fn disconnect(&mut self, server: TcpStream) {
+    fn disconnect(&mut self, server: TcpStream)
+        ensures told { no_notes ≡ noted (Disconnected server) no_notes }
+        ensures kept { (place : ℕ) → Has self.old.woken place → Has self.new.woken place }
+        ensures same { self.new ≡ self.old }
+    {
         drop(server);
     }
 
-    fn posted(&mut self, _seat: &RelaySeat) {}
+    fn posted(&mut self, _seat: &RelaySeat)
+        ensures told { no_notes ≡ noted (Posted _seat.now.view) no_notes }
+        ensures kept { (place : ℕ) → Has self.old.woken place → Has self.new.woken place }
+        ensures same { self.new ≡ self.old }
+    {}
 
-    fn probe(&mut self, server: usize) -> Option<bool> {
+    fn probe(&mut self, server: usize) -> Option<bool>
+        ensures found { IfSome result (λ ok. no_notes ≡ noted (Found server ok) no_notes) }
+        ensures none { IfNone result (no_notes ≡ noted (NotYet server) no_notes) }
+        ensures kept { (place : ℕ) → Has self.old.woken place → Has self.new.woken place }
+        ensures over { IfSome result (λ _. self.new.probes.items ≡ slice_set self.old.probes.items server None) }
+        ensures same { self.new ≡ record self.old { last = self.new.last; probes = self.new.probes } }
+        ensures running { IfNone result (RunsOn self.old.front.now.config.now self.new.last server self.old.probes.items self.new.probes.items) }
+    {
         let now = self.now();
         let probe = match self.take_probe(server, now) {
             Ok(probe) => probe,
             Err(failure) => return Some(self.fails(server, failure)),
         };
-        match probe.ended(now) {
+        let told = probe.told();
+        match probe.ended(told, now) {
             Some(Ok(())) => Some(true),
             Some(Err(failure)) => Some(self.fails(server, failure)),
             None => {
@@ -217,21 +293,42 @@ impl<'a, R: Net<Listener = TcpListener, Stream = TcpStream> + Clock + Wait> Gate
         }
     }
 
-    fn gone(&mut self, client: &mut TcpStream) -> bool {
+    fn gone(&mut self, client: &mut TcpStream) -> bool
+        ensures left { OnTrue result (no_notes ≡ noted HasLeft no_notes) }
+        ensures there { OnFalse result (no_notes ≡ noted IsThere no_notes) }
+        ensures untouched { IsUntouched no_bytes no_bytes client.old client.new }
+        ensures kept { (place : ℕ) → Has self.old.woken place → Has self.new.woken place }
+        ensures same { self.new ≡ self.old }
+    {
         has_left(client.as_raw_fd(), self.front.config.abortonclose)
     }
 
-    fn moment(&mut self) -> Moment {
+    fn moment(&mut self) -> Moment
+        ensures told { no_notes ≡ noted (Now result) no_notes }
+        ensures kept { (place : ℕ) → Has self.old.woken place → Has self.new.woken place }
+        ensures last { result ≡ self.new.last }
+        ensures later { self.old.last ≤ self.new.last }
+        ensures same { self.new ≡ record self.old { last = self.new.last } }
+    {
         self.now()
     }
 
-    fn window<N: DeskName>(&mut self, window: EndedWindow, changed: Changed<N>) {
+    fn window<N: DeskName>(&mut self, window: EndedWindow, changed: Changed<N>)
+        ensures told { no_notes ≡ noted (Ended window changed) no_notes }
+        ensures kept { (place : ℕ) → Has self.old.woken place → Has self.new.woken place }
+        ensures same { self.new ≡ record self.old { last = self.new.last } }
+    {
         let _ = changed.take(self.front.wakes);
         let ended = self.now();
         self.front.windows.hand_over(self.rt, window, ended);
     }
 
-    fn wake<N: DeskName>(&mut self, changed: Changed<N>) {
+    fn wake<N: DeskName>(&mut self, changed: Changed<N>)
+        ensures told { no_notes ≡ noted (Told changed) no_notes }
+        ensures owed { (place : ℕ) → Has changed.places place → Has self.new.woken place }
+        ensures kept { (place : ℕ) → Has self.old.woken place → Has self.new.woken place }
+        ensures same { self.new ≡ record self.old { woken = self.new.woken } }
+    {
         let places = changed.take(self.front.wakes);
         self.add_woken(&places);
     }

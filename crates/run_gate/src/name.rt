@@ -1,8 +1,10 @@
+ghost use Rattle.std.specs.Prelude.{◌≡◌};
+
 use crate::answer::Lookup;
 use std::net::{Net, SocketAddr, ToSocketAddrs};
 use std::sync::{Condvar, CondvarTimeouts, Mutex, Wait};
-use std::thread;
 use std::time::{Clock, Duration};
+use std::{str, thread};
 
 /// The least time between two look-ups of a name, in milliseconds.
 const PAUSE: u64 = 100;
@@ -10,14 +12,17 @@ const PAUSE: u64 = 100;
 /// A server's name, and the knowledge of its address. The threads that ask and the one that looks it up share it.
 #[derive(Drop)]
 pub(crate) struct Name {
-    host: String,
+    host: Vec<u8>,
     port: u16,
     lookup: Mutex<Lookup>,
     bell: Condvar,
 }
 
 impl Name {
-    pub(crate) fn new(host: String, port: u16) -> Name {
+    /// Makes the name of this host, whose addresses have this port, before any look-up.
+    pub(crate) fn new(host: Vec<u8>, port: u16) -> Name
+        ensures { (result.host ≡ host) × (result.port ≡ port) }
+    {
         Name {
             host,
             port,
@@ -76,7 +81,8 @@ impl Name {
     }
 
     fn look_up<R: Net>(&self, rt: &R) -> Option<SocketAddr> {
-        let mut found = (self.host.as_str(), self.port).to_socket_addrs(rt).ok()?;
+        let host = str::from_utf8(self.host.as_slice()).ok()?;
+        let mut found = (host, self.port).to_socket_addrs(rt).ok()?;
         found.next()
     }
 }

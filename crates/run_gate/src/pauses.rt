@@ -17,7 +17,7 @@ pub struct Pauses<'a, R> {
 impl<'a, R: Clock> Pauses<'a, R> {
     /// Makes the pauses. None is made before the first beginning.
     pub fn new(rt: &'a R, millis: u64, most: u64) -> Pauses<'a, R>
-        ensures { result.most ≡ most }
+        ensures { (result.millis ≡ millis) × (result.most ≡ most) × (result.left ≡ 0) }
     {
         Pauses {
             rt,

@@ -1,7 +1,9 @@
 //! The longest waits, in milliseconds.
 
-ghost use Rattle.std.specs.Prelude.{◌≡◌, ◌≤◌, ◌+◌, ◌↔◌, IsTrue};
-ghost use Rattle.run_gate.specs.Waits.{turnaround, patience, left};
+ghost use Rattle.std.specs.Prelude.{◌≡◌, ◌<◌, ◌/◌, ◌^◌, ◌↔◌, IsTrue};
+ghost use Rattle.std.specs.Duration.{as_nanos};
+ghost use Rattle.std.specs.Option.{SomeIff};
+ghost use Rattle.run_gate.specs.Waits.{turnaround, patience, left, IsTimeOf};
 
 use due_key::Moment;
 use proxy_config::Checks;
@@ -10,8 +12,17 @@ use std::time::Duration;
 const SECOND: u64 = 1000;
 
 /// Returns the time of a configured number of milliseconds.
-pub(crate) fn duration(millis: Option<u64>) -> Option<Duration> {
+pub(crate) fn duration(millis: Option<u64>) -> Option<Duration>
+    ensures { IsTimeOf millis result }
+{
     millis.map(Duration::from_millis)
+}
+
+/// Returns the moment after this time; `None` where there is none.
+pub(crate) fn moment_of(passed: Duration) -> Option<Moment>
+    ensures { SomeIff result (as_nanos passed / 1_000_000 < 2 ^ 62) (as_nanos passed / 1_000_000) }
+{
+    Moment::new(u64::try_from(passed.as_millis()).ok()?)
 }
 
 /// Returns how long a request waits before it tries the server again that failed it, by `timeout connect`.

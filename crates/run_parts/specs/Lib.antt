@@ -3,3 +3,4 @@ pub mod Gauges
 pub mod Faults
 pub mod Parts
 pub mod Sizes
+pub mod Binds

@@ -1,5 +1,7 @@
 -- The sizes of a proxy.
-use Rattle.std.specs.Prelude.{ℕ, ◌<◌, ◌≤◌, Option, IfSome}
+use Rattle.std.specs.Prelude.{ℕ, ◌<◌, ◌≤◌, ◌==◌, if◌then◌else◌, min, List, Option, IfSome}
+use Rattle.std.specs.List.{sum_by}
+use Rattle.proxy_config.specs.declared.parts.Server.{Server}
 
 -- the number, where it is given, is from 1 to this one
 abbrev pub IsOneTo : Option ℕ → ℕ → Type 0
@@ -13,3 +15,12 @@ pub record LimitsAreWithin (workers loops waiting : Option ℕ) (places requests
   pub some_place : 0 < places
   pub few_places : places ≤ 4096
   pub few_requests : requests ≤ 999999999
+
+-- the requests that may be at a server at a time, of so many live ones: its limit, or all of them
+-- where it has none
+abbrev pub share_of : ℕ → Server → ℕ
+share_of places server = if server.maxconn == 0 then places else server.maxconn
+
+-- the requests that may be at servers at a time, of so many live ones
+abbrev pub slots_of : List Server → ℕ → ℕ
+slots_of servers places = min places (sum_by (share_of places) servers)

@@ -1,9 +1,10 @@
 //! The threads that serve a proxy: by the command line, or by the configuration and the machine.
 
-ghost use Rattle.std.specs.Prelude.{◌≡◌, ◌≤◌, IfSome};
+ghost use Rattle.std.specs.Prelude.{◌≡◌, ◌≤◌, IfSome, None, max, min};
+ghost use Rattle.run_parts.specs.Sizes.{share_of, slots_of};
 
 use crate::limits::{LoopSizes, MOST_LOOPS, MOST_WAITING, MOST_WORKERS, RunLimits};
-use proxy_config::Config;
+use proxy_config::{Config, Server};
 use std::thread;
 use std::thread::Threads;
 
@@ -25,6 +26,10 @@ pub fn crew_of(rt: &impl Threads, config: &Config, sizes: RunLimits) -> Crew
     ensures loops { IfSome sizes.loops (λ loops. result.threads.loops ≡ loops) }
     ensures workers { IfSome sizes.workers (λ workers. result.workers ≡ workers) }
     ensures waiting { IfSome sizes.waiting (λ waiting. result.threads.waiting ≡ waiting) }
+    ensures slots { result.threads.slots ≡ slots_of config.now.servers sizes.places }
+    ensures few_loops { sizes.loops ≡ None → (1 ≤ result.threads.loops) × (result.threads.loops ≤ 64) }
+    ensures a_worker_a_slot { sizes.workers ≡ None → result.workers ≡ max (min (slots_of config.now.servers sizes.places) 256) 1 }
+    ensures all_wait { sizes.waiting ≡ None → result.threads.waiting ≡ 65536 }
 {
     let slots = slots_of(config, sizes.places);
     let loops = match sizes.loops {
@@ -50,18 +55,27 @@ pub fn crew_of(rt: &impl Threads, config: &Config, sizes: RunLimits) -> Crew
     }
 }
 
-// Returns how many requests may be at servers at a time: the sum of the servers' limits, or all
-// live requests where one has none.
+// Returns how many requests may be at servers at a time.
 fn slots_of(config: &Config, places: usize) -> usize
-    ensures { result ≤ places }
+    ensures sum { result ≡ slots_of config.now.servers places }
+    ensures most { result ≤ places }
 {
     let mut slots = 0;
     let servers = config.servers.as_slice();
     for server in servers {
-        if server.maxconn == 0 {
-            return places;
-        }
-        slots = places.min((server.maxconn as usize).saturating_add(slots));
+        slots = places.min(share_of(server, places).saturating_add(slots));
     }
     slots
+}
+
+// Returns how many requests may be at a server at a time: its limit, or all live ones where it has
+// none.
+fn share_of(server: &Server, places: usize) -> usize
+    ensures { result ≡ share_of places server.now }
+{
+    if server.maxconn == 0 {
+        places
+    } else {
+        server.maxconn as usize
+    }
 }

@@ -1,5 +1,10 @@
 //! The listener of a proxy.
 
+ghost use Rattle.std.specs.Prelude.{◌≡◌};
+ghost use Rattle.std.specs.Net.Addr.{ipv4_octets};
+ghost use Rattle.std.specs.Net.Socket.{v4_ip, v4_port};
+ghost use Rattle.run_parts.specs.Binds.{octets_at};
+
 use crate::crew::Crew;
 use crate::fault::ServeFault;
 use crate::preparing::never_queues;
@@ -46,11 +51,7 @@ pub fn open<R: Net<Listener = TcpListener, Stream = TcpStream>>(
     rt: &R,
     bind: Bind,
 ) -> Result<TcpListener, ServeFault> {
-    let ip = match bind.ip {
-        Some(ip) => Ipv4Addr::from(ip),
-        None => Ipv4Addr::UNSPECIFIED,
-    };
-    let address = SocketAddrV4::new(ip, bind.port);
+    let address = address_of(bind);
     let listener = match TcpListener::bind(rt, address) {
         Ok(listener) => listener,
         Err(error) => {
@@ -62,6 +63,18 @@ pub fn open<R: Net<Listener = TcpListener, Stream = TcpStream>>(
         return Err(ServeFault::Read);
     }
     Ok(listener)
+}
+
+// Returns the address of a configuration: at all of the machine's addresses where it gives none.
+fn address_of(bind: Bind) -> SocketAddrV4
+    ensures ip { ipv4_octets (v4_ip result) ≡ octets_at bind.ip }
+    ensures port { v4_port result ≡ bind.port }
+{
+    let ip = match bind.ip {
+        Some(ip) => Ipv4Addr::from(ip),
+        None => Ipv4Addr::UNSPECIFIED,
+    };
+    SocketAddrV4::new(ip, bind.port)
 }
 
 /// Prints to standard error that it listens, and where no request can ever wait also that.

@@ -1,6 +1,8 @@
 //! What the threads of a proxy share beside its dispatcher.
 
 ghost use Rattle.std.specs.Prelude.{◌≡◌, IfOk};
+ghost use Rattle.std.specs.Option.{option_map};
+ghost use Rattle.run_gate.specs.Names.{LooksUpNames};
 
 use crate::fault::ServeFault;
 use crate::limits::LoopSizes;
@@ -48,6 +50,8 @@ pub fn service_parts_of<R: Clock + AllocGlobal>(
     threads: LoopSizes,
     wakes: WakeKey,
 ) -> Result<ServiceParts, ServeFault>
+    ensures names { IfOk result (λ parts. LooksUpNames config.now parts.addresses) }
+    ensures means { IfOk result (λ parts. (parts.controls ≡ options.controls) × (parts.admin ≡ options.admin)) }
     ensures options { IfOk result (λ parts. (parts.keeping ≡ options.keeping) × (parts.reusing ≡ options.reusing) × (parts.window ≡ options.window) × (parts.forwarded_for ≡ options.forwarded_for)) }
 {
     let alloc = rt.alloc();
@@ -124,6 +128,10 @@ pub fn front_of<'a>(
     ensures clients { result.clients.most ≡ requests }
     ensures options { (result.keeping ≡ beside.now.keeping) × (result.reusing ≡ beside.now.reusing) × (result.window ≡ beside.now.window) × (result.forwarded_for ≡ beside.now.forwarded_for) }
     ensures start { result.start ≡ beside.now.start }
+    ensures listener { result.listener ≡ listener }
+    ensures shared { (result.addresses.now ≡ beside.now.addresses) × (result.wakes.now ≡ beside.now.wakes) × (result.windows.now ≡ beside.now.windows) }
+    ensures steered { option_map (λ it. it.now) result.controls ≡ beside.now.controls }
+    ensures told { (option_map (λ it. it.now) result.log ≡ beside.now.log) × (option_map (λ it. it.now) result.admin ≡ beside.now.admin) }
 {
     GateShared {
         alloc,

@@ -1,14 +1,19 @@
 //! A loop's records of its exchanges, where the operator wants lines of them.
 
+ghost use Rattle.std.specs.Prelude.{◌≡◌, ◌==◌, ◌&&◌, ℕ, true, false, None, Some, IsNone, IsSome, IfSome, IfOk, is_none, is_some, option_map, option_and_then};
+ghost use Rattle.req_view.specs.Request.{version_of};
+ghost use Rattle.loop_events.specs.Ends.{account_of, with_ticket, has_come, begun_at, answered_at, with_meter, end_of, queue_end, cause_end, time_end, notice_end, last_at, has_line};
+
 use crate::guest::{Guest, Resident, Visit};
 use crate::looping::Looper;
 use base_verdict::Cause;
 use dispatch_state::Ticketed;
-use exchange_driver::{Line, Live};
+use due_key::{Class, Offset};
+use exchange_driver::{Line, Live, Meter};
 use exchange_events::TimeoutKind;
 use exchange_seated::{Notice, Stage};
 use locked_book::DeskName;
-use log_lines::{Account, Asked, During, EndedBy};
+use log_lines::{Account, Asked, During, EndedBy, ExchangeEnd};
 use loop_shared::{Gate, Presence};
 use prio_rules::Wish;
 use req_view::{Version, View};
@@ -30,22 +35,36 @@ impl<
         presence: &mut Presence,
         line: &Line<Live>,
         client: Option<SocketAddr>,
-    ) {
-        if self.teller.is_none() {
-            return;
+    )
+        ensures none { IsNone self.old.teller → presence.new ≡ presence.old }
+        ensures others { presence.new ≡ record presence.old { account = presence.new.account } }
+    {
+        if self.teller.is_some() {
+            presence.account = self.new_account(line, client);
         }
+    }
+
+    // Makes the record of an exchange that begins now; `None` where there is no memory for it.
+    fn new_account(
+        &mut self,
+        line: &Line<Live>,
+        client: Option<SocketAddr>,
+    ) -> Option<Box<Account>> {
         if let Some(live) = line.socket() {
             live.count_anew();
         }
         let now = self.gate.moment();
-        presence.account = Box::new(self.settings.alloc, Account::new(client, now)).ok();
+        Box::new(self.settings.alloc, Account::new(client, now)).ok()
     }
 
     /// Notes that the exchange's head has come.
-    pub(crate) fn note_asked(&mut self, visit: &mut Visit, view: &View, wish: Option<&Wish>) {
+    pub(crate) fn note_asked(&mut self, visit: &mut Visit, view: &View, wish: Option<&Wish>)
+        ensures wish { IfSome visit.new.presence.account (λ it. it.value.wish ≡ option_map (λ it. (it.now.class, it.now.offset)) wish.entry) }
+        ensures others { visit.new ≡ record visit.old { presence = record visit.old.presence { account = visit.new.presence.account } } }
+    {
         if let Some(account) = &mut visit.presence.account {
             account.moments.asked = Some(self.gate.moment());
-            account.wish = wish.map(|wish| (wish.class, wish.offset));
+            account.wish = wish_of(wish);
             account.asked = asked_of(self.settings.alloc, view).ok();
         }
     }
@@ -58,15 +77,36 @@ impl<
     }
 
     /// Notes that bytes moved: they may be the first ones of the request, or of its answer.
-    pub(crate) fn note_bytes(&mut self, visit: &mut Visit, client: bool, answers: bool) {
+    pub(crate) fn note_bytes(&mut self, visit: &mut Visit, client: bool, answers: bool)
+        ensures same { client ≡ false → answers ≡ false → account_of visit.new.presence ≡ account_of visit.old.presence }
+        ensures kept { is_some visit.new.presence.account ≡ is_some visit.old.presence.account }
+        ensures others { visit.new ≡ record visit.old { presence = record visit.old.presence { account = visit.new.presence.account } } }
+    {
         let Some(account) = &mut visit.presence.account else {
             return;
         };
-        if client && account.is_silent {
+        self.note_begin(account, client);
+        self.note_answer(account, answers);
+    }
+
+    // Notes when the first bytes of the request came, where some came.
+    fn note_begin(&mut self, account: &mut Account, came: bool)
+        ensures begun { came ≡ true → account.old.is_silent ≡ true → account.new ≡ begun_at account.new.moments.began account.old }
+        ensures same { (came && account.old.is_silent) ≡ false → account.new ≡ account.old }
+    {
+        if came && account.is_silent {
             account.is_silent = false;
             account.moments.began = self.gate.moment();
         }
-        if answers && account.moments.answered.is_none() {
+    }
+
+    // Notes when the first bytes of the answer came, where some came.
+    fn note_answer(&mut self, account: &mut Account, came: bool)
+        ensures answered { came ≡ true → IsNone account.old.moments.answered → (now : ℕ) × (account.new ≡ answered_at now account.old) }
+        ensures same { came ≡ false → account.new ≡ account.old }
+        ensures kept { IsSome account.old.moments.answered → account.new ≡ account.old }
+    {
+        if came && account.moments.answered.is_none() {
             account.moments.answered = Some(self.gate.moment());
         }
     }
@@ -82,25 +122,13 @@ impl<
             return;
         };
         learn(account, client);
-        let during = match stage {
-            Stage::Telling => During::Last,
-            _ => account.under_way(),
+        let during = match last_at(stage) {
+            Some(during) => during,
+            None => account.under_way(),
         };
-        match notice {
-            Notice::Connected(_) => account.moments.connected = Some(self.gate.moment()),
-            Notice::Unserved => account.end_by(EndedBy::Shortage, During::Queue),
-            Notice::Unreachable => account.end_by(EndedBy::Server, During::Connect),
-            Notice::ClientEnd | Notice::ClientFailed => account.end_by(EndedBy::Client, during),
-            Notice::TimeOver(TimeoutKind::Client) => account.end_by(EndedBy::ClientTime, during),
-            Notice::TimeOver(TimeoutKind::Queue) => account.end_by(
-                EndedBy::ServerTime,
-                During::Queue,
-            ),
-            Notice::TimeOver(TimeoutKind::Connect) => account.end_by(
-                EndedBy::ServerTime,
-                During::Connect,
-            ),
-            Notice::TimeOver(TimeoutKind::Server) => account.end_by(EndedBy::ServerTime, during),
+        match notice_end(notice, during) {
+            None => account.moments.connected = Some(self.gate.moment()),
+            Some(end) => account.end_by(end.by, end.during),
         }
     }
 
@@ -153,7 +181,7 @@ impl<
     /// Hands on the record of an exchange that is over.
     pub(crate) fn tell_of(&mut self, account: Box<Account>) {
         let mut account = account;
-        if account.asked.is_none() && account.received == 0 && account.sent == 0 {
+        if !has_line(&account) {
             return;
         }
         if account.asked.is_none() && account.status == Some(400) {
@@ -168,52 +196,131 @@ impl<
 }
 
 /// Notes that the first bytes have already come.
-pub(crate) fn note_come(presence: &mut Presence) {
-    if let Some(account) = &mut presence.account {
-        account.is_silent = false;
+pub(crate) fn note_come(presence: &mut Presence)
+    ensures account { account_of presence.new ≡ option_map has_come (account_of presence.old) }
+    ensures others { presence.new ≡ record presence.old { account = presence.new.account } }
+{
+    if let Some(begun) = &mut presence.account {
+        begun.is_silent = false;
     }
 }
 
 // Adds the bytes that were read from the client and written to it so far.
-fn learn(account: &mut Account, client: &Line<Live>) {
+fn learn(account: &mut Account, client: &Line<Live>)
+    ensures { account.new ≡ record account.old { received = account.new.received; sent = account.new.sent; status = account.new.status } }
+{
     if let Some(meter) = client.socket().and_then(|live| live.meter()) {
-        account.received = meter.received;
-        account.sent = meter.sent;
-        account.status = meter.status();
+        take_counts(account, &meter);
     }
 }
 
+// Takes a connection's counts over.
+fn take_counts(account: &mut Account, meter: &Meter)
+    ensures { account.new ≡ with_meter meter.now account.old }
+{
+    account.received = meter.received;
+    account.sent = meter.sent;
+    account.status = meter.status();
+}
+
+// Says whether an exchange has a line in the log: its client asked for something, or bytes went
+// over its connection.
+fn has_line(account: &Account) -> bool
+    ensures { result ≡ has_line account.now }
+{
+    !(account.asked.is_none() && account.received == 0 && account.sent == 0)
+}
+
 /// Notes that the request waits, with this ticket.
-pub(crate) fn note_ticket(presence: &mut Presence, at: Ticketed) {
+pub(crate) fn note_ticket(presence: &mut Presence, at: Ticketed)
+    ensures account { account_of presence.new ≡ option_map (with_ticket at.ticket) (account_of presence.old) }
+    ensures others { presence.new ≡ record presence.old { account = presence.new.account } }
+{
     if let Some(account) = &mut presence.account {
         account.ticket = Some(at.ticket);
     }
 }
 
 /// Notes that the request is told this cause, whether its client has left, and whether the proxy stops.
-pub(crate) fn note_cause(presence: &mut Presence, cause: Cause, gone: bool, stops: bool) {
+pub(crate) fn note_cause(presence: &mut Presence, cause: Cause, gone: bool, stops: bool)
+    ensures { presence.new ≡ record presence.old { account = presence.new.account } }
+{
     if let Some(account) = &mut presence.account {
-        match cause {
-            Cause::Aborted if gone => account.end_by(EndedBy::Client, During::Queue),
-            Cause::Aborted | Cause::Timeout if stops => account.end_by(
-                EndedBy::Proxy,
-                During::Queue,
-            ),
-            Cause::Aborted | Cause::Timeout => account.end_by(EndedBy::ServerTime, During::Queue),
-            Cause::Retries | Cause::NoServer => account.end_by(EndedBy::Server, During::Connect),
-        }
+        let end = cause_end(cause, gone, stops);
+        account.end_by(end.by, end.during);
     }
 }
 
 /// Notes that the request gets no place, since it waited too long, or since the proxy stops.
-pub(crate) fn note_refused(presence: &mut Presence, stops: bool) {
+pub(crate) fn note_refused(presence: &mut Presence, stops: bool)
+    ensures { presence.new ≡ record presence.old { account = presence.new.account } }
+{
     if let Some(account) = &mut presence.account {
-        let by = if stops {
-            EndedBy::Proxy
-        } else {
-            EndedBy::ServerTime
-        };
-        account.end_by(by, During::Queue);
+        let end = queue_end(stops);
+        account.end_by(end.by, end.during);
+    }
+}
+
+// Returns how the exchange of a request ends that is told this cause.
+fn cause_end(cause: Cause, gone: bool, stops: bool) -> ExchangeEnd
+    ensures { result ≡ cause_end cause gone stops }
+{
+    match cause {
+        Cause::Aborted if gone => end_of(EndedBy::Client, During::Queue),
+        Cause::Aborted | Cause::Timeout => queue_end(stops),
+        Cause::Retries | Cause::NoServer => end_of(EndedBy::Server, During::Connect),
+    }
+}
+
+// Returns how the exchange of a request ends that has waited too long, or waits while the proxy stops.
+fn queue_end(stops: bool) -> ExchangeEnd
+    ensures { result ≡ queue_end stops }
+{
+    if stops {
+        end_of(EndedBy::Proxy, During::Queue)
+    } else {
+        end_of(EndedBy::ServerTime, During::Queue)
+    }
+}
+
+// Returns how an event ends an exchange of which this was under way; `None` where it doesn't.
+fn notice_end(notice: &Notice, during: During) -> Option<ExchangeEnd>
+    ensures { result ≡ notice_end notice.now during }
+{
+    match notice {
+        Notice::Connected(_) => None,
+        Notice::Unserved => Some(end_of(EndedBy::Shortage, During::Queue)),
+        Notice::Unreachable => Some(end_of(EndedBy::Server, During::Connect)),
+        Notice::ClientEnd | Notice::ClientFailed => Some(end_of(EndedBy::Client, during)),
+        Notice::TimeOver(kind) => Some(time_end(*kind, during)),
+    }
+}
+
+// Returns how a timeout ends an exchange of which this was under way.
+fn time_end(kind: TimeoutKind, during: During) -> ExchangeEnd
+    ensures { result ≡ time_end kind during }
+{
+    match kind {
+        TimeoutKind::Client => end_of(EndedBy::ClientTime, during),
+        TimeoutKind::Queue => end_of(EndedBy::ServerTime, During::Queue),
+        TimeoutKind::Connect => end_of(EndedBy::ServerTime, During::Connect),
+        TimeoutKind::Server => end_of(EndedBy::ServerTime, during),
+    }
+}
+
+fn end_of(by: EndedBy, during: During) -> ExchangeEnd
+    ensures { result ≡ end_of by during }
+{
+    ExchangeEnd { by, during }
+}
+
+/// Returns what was under way where the rest of an answer was being sent to the client.
+pub(crate) fn last_at(stage: Stage) -> Option<During>
+    ensures { result ≡ last_at stage }
+{
+    match stage {
+        Stage::Telling => Some(During::Last),
+        Stage::Asking | Stage::Waiting | Stage::Dialing | Stage::Forwarding | Stage::Over => None,
     }
 }
 
@@ -238,11 +345,26 @@ pub(crate) fn note_unanswered(visit: &mut Visit) {
 }
 
 /// Returns the client's address.
-pub(crate) fn client_of(presence: &Presence) -> Option<SocketAddr> {
+pub(crate) fn client_of(presence: &Presence) -> Option<SocketAddr>
+    ensures { result ≡ option_and_then (λ it. it.client) (account_of presence.now) }
+{
     presence.account.as_ref().and_then(|account| account.client)
 }
 
-fn asked_of(alloc: Global, view: &View) -> Result<Asked, AllocError> {
+// Returns the class and the offset that the rules wish.
+fn wish_of(wish: Option<&Wish>) -> Option<(Class, Offset)>
+    ensures { result ≡ option_map (λ it. (it.now.class, it.now.offset)) wish.entry }
+{
+    let wish = wish?;
+    Some((wish.class, wish.offset))
+}
+
+// Copies the first line of a request.
+fn asked_of(alloc: Global, view: &View) -> Result<Asked, AllocError>
+    ensures method { IfOk result (λ it. it.method.items ≡ view.now.method) }
+    ensures target { IfOk result (λ it. it.target.items ≡ view.now.target) }
+    ensures version { IfOk result (λ it. version_of it.minor ≡ view.now.version) }
+{
     Ok(Asked {
         method: Vec::from_slice(alloc, view.method())?,
         target: Vec::from_slice(alloc, view.target())?,

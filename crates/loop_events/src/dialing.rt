@@ -1,11 +1,12 @@
 //! From a pass to a connection to its server.
 
-ghost use Rattle.std.specs.Prelude.{◌≡◌, IfSome, Some, true};
+ghost use Rattle.std.specs.Prelude.{◌≡◌, ◌≢◌, IfSome, Some, true};
 ghost use Rattle.std.specs.Bool.{OnTrue};
 ghost use Rattle.exchange_events.specs.Passes.{held_by};
 ghost use Rattle.exchange_seated.specs.Seats.{server_of};
+ghost use Rattle.loop_events.specs.Visits.{redialed};
 
-use crate::guest::{Guest, Task, Watch};
+use crate::guest::{Guest, Watch};
 use crate::keeping::NextLook;
 use crate::looping::Looper;
 use crate::serving::MoreToDo;
@@ -20,9 +21,6 @@ use std::net::{Net, TcpListener, TcpStream};
 use std::sync::Wait;
 use std::sync::ledger::Ledger;
 use std::time::Clock;
-
-/// The most connections that are opened in place of ones that broke before the server got a byte.
-const MOST_REDIALS: u32 = 1;
 
 /// The connection that a guest was given.
 #[derive(Clone, Copy, Debug, PartialEq, Eq)]
@@ -94,7 +92,10 @@ impl<
     }
 
     // Registers a new connection with the poll.
-    fn watch_of(&self, guest: &Guest<N>, token: Token) -> Watch {
+    fn watch_of(&self, guest: &Guest<N>, token: Token) -> Watch
+        ensures fresh { guest.now.visit.fresh ≡ true → result ≡ Watch.Nothing }
+        ensures reads { result ≢ Watch.Both }
+    {
         if !guest.visit.fresh && self.is_watched_anew(guest, token) {
             Watch::Reads
         } else {
@@ -142,20 +143,11 @@ impl<
 
     /// Opens another connection in place of one that broke before it got a byte of the request, or
     /// was used before and broke before a byte of the answer came: once for each of the two causes.
-    pub(crate) fn redial(&mut self, guest: Box<Guest<N>>, hole: Hole) -> MoreToDo<N> {
+    pub(crate) fn redial(&mut self, guest: Box<Guest<N>>, hole: Hole) -> MoreToDo<N>
+        ensures { (it : _) × (result ≡ MoreToDo.Goes it hole) × (it.value ≡ record guest.value { visit = redialed guest.value.visit }) }
+    {
         let mut guest = guest;
-        let visit = &mut guest.visit;
-        let fresh = visit.fresh;
-        visit.forget_server();
-        if fresh {
-            visit.redials = visit.redials.saturating_add(1);
-        }
-        visit.spoilt = visit.spoilt || !fresh;
-        visit.task = if visit.redials <= MOST_REDIALS {
-            Task::Dial
-        } else {
-            Task::GiveUp
-        };
+        guest.visit.redial();
         MoreToDo::Goes(guest, hole)
     }
 }

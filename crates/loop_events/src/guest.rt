@@ -5,6 +5,11 @@
 //! it closes its side. An unused connection of a server has a cell too, so that the poll can report
 //! it.
 
+ghost use Rattle.std.specs.Prelude.{◌≡◌, ◌&&◌, true, false};
+ghost use Rattle.exchange_events.specs.Chains as chains;
+ghost use Rattle.exchange_seated.specs.Seats.{stage_of};
+ghost use Rattle.loop_events.specs.Visits.{new_visit, without_server, renewed, redialed, watch_after};
+
 use crate::resetting::reset;
 use dispatch_state::Ticketed;
 use due_key::Moment;
@@ -14,6 +19,9 @@ use grant_board::BoardName;
 use loop_shared::Presence;
 use std::os::fd::AsRawFd;
 use std::sync::ledger::Ledger;
+
+/// The most connections that are opened in place of ones that broke before the server got a byte.
+const MOST_REDIALS: u32 = 1;
 
 /// The timeouts of a loop.
 #[derive(Clone, Copy, Debug, PartialEq, Eq)]
@@ -115,7 +123,11 @@ pub(crate) enum Resident<N: BoardName + Ledger> {
 
 impl<N: BoardName + Ledger> Resident<N> {
     /// Says whether it is a client between two requests, or an unused connection of a server.
-    pub(crate) fn is_silent(&self) -> bool {
+    pub(crate) fn is_silent(&self) -> bool
+        ensures lingering { (it : _) → self.now ≡ Resident.Lingering it → result ≡ false }
+        ensures unused { (it : _) → self.now ≡ Resident.Unused it → result ≡ true }
+        ensures guest { (it : _) → self.now ≡ Resident.Guest it → result ≡ (it.value.visit.asked_before && chains.is_silent it.value.linked.seated.exchange) }
+    {
         match self {
             Resident::Lingering(_) => false,
             Resident::Unused(_) => true,
@@ -125,25 +137,34 @@ impl<N: BoardName + Ledger> Resident<N> {
 }
 
 impl<N: BoardName + Ledger> Guest<N> {
-    fn is_silent(&self) -> bool {
+    // Says whether its client had an earlier request, and has sent no byte of the next one.
+    fn is_silent(&self) -> bool
+        ensures { result ≡ (self.now.visit.asked_before && chains.is_silent self.now.linked.seated.exchange) }
+    {
         self.visit.asked_before && self.linked.seated().is_silent()
     }
 
     /// Returns the stage of its exchange.
-    pub(crate) fn stage(&self) -> Stage {
+    pub(crate) fn stage(&self) -> Stage
+        ensures { result ≡ stage_of self.now.linked.seated.exchange }
+    {
         self.linked.seated().stage()
     }
 }
 
 impl Visit {
     /// Drops the connection to its server; the state of the next one begins anew.
-    pub(crate) fn forget_server(&mut self) {
+    pub(crate) fn forget_server(&mut self)
+        ensures { self.new ≡ without_server self.old }
+    {
         self.server_watch = Watch::Nothing;
         self.fresh = true;
     }
 
     /// Prepares the visit for the client's next request.
-    pub(crate) fn renew(&mut self) {
+    pub(crate) fn renew(&mut self)
+        ensures { self.new ≡ renewed self.old }
+    {
         self.forget_server();
         self.at = None;
         self.tried = None;
@@ -155,8 +176,29 @@ impl Visit {
         self.task = Task::Serve;
     }
 
+    /// Prepares it for another connection in place of one that broke before it got a byte of the
+    /// request, or was used before and broke before a byte of the answer came: once for each of the
+    /// two causes. Then its server counts as one that can't be reached.
+    pub(crate) fn redial(&mut self)
+        ensures { self.new ≡ redialed self.old }
+    {
+        let fresh = self.fresh;
+        self.forget_server();
+        if fresh {
+            self.redials = self.redials.saturating_add(1);
+        }
+        self.spoilt = self.spoilt || !fresh;
+        self.task = if self.redials <= MOST_REDIALS {
+            Task::Dial
+        } else {
+            Task::GiveUp
+        };
+    }
+
     /// Separates what waits with its request: the presence of its client, and the client's connection.
-    pub(crate) fn into_client(self) -> (Presence, Line<Live>) {
+    pub(crate) fn into_client(self) -> (Presence, Line<Live>)
+        ensures { result ≡ (self.presence, self.client) }
+    {
         let Visit {
             presence,
             client,
@@ -177,7 +219,10 @@ impl Visit {
         (presence, client)
     }
 
-    pub(crate) fn new(presence: Presence, client: Line<Live>) -> Visit {
+    /// Makes the visit of a client that has asked for nothing yet.
+    pub(crate) fn new(presence: Presence, client: Line<Live>) -> Visit
+        ensures { result ≡ new_visit presence client }
+    {
         Visit {
             presence,
             client,
@@ -194,6 +239,19 @@ impl Visit {
             client_watch: Watch::Nothing,
             server_watch: Watch::Nothing,
             timer: None,
+        }
+    }
+}
+
+impl Watch {
+    /// Returns what the poll watches once it is asked to watch reads, or both reads and writes: what
+    /// it watches already stays.
+    pub(crate) fn after(self, writes: bool) -> Watch
+        ensures { result ≡ watch_after self writes }
+    {
+        match (self, writes) {
+            (Watch::Both, _) | (_, true) => Watch::Both,
+            (Watch::Nothing | Watch::Reads, false) => Watch::Reads,
         }
     }
 }

@@ -1,15 +1,19 @@
 //! Guests in their cells: they are kept until there is more to do, and closed.
 
-ghost use Rattle.std.specs.Prelude.{◌≡◌, ◌<◌, true, Contains};
+ghost use Rattle.std.specs.Prelude.{◌≡◌, ◌<◌, ◌||◌, true, MatchOption, Contains};
+ghost use Rattle.loop_table.specs.TokenTables.{IsOut, closed, filled};
 ghost use Rattle.loop_events.specs.Rests.{goes_on};
+ghost use Rattle.loop_events.specs.Timeouts.{number_at, Stops};
+ghost use Rattle.loop_events.specs.Visits.{watch_after};
 
+use crate::accounting::last_at;
 use crate::guest::{Guest, Keyword, Resident, Visit, Watch, break_off};
 use crate::looping::Looper;
 use crate::serving::MoreToDo;
 use exchange_driver::{Live, Socket};
 use exchange_seated::{Linked, Stage};
 use locked_book::DeskName;
-use log_lines::{During, EndedBy};
+use log_lines::EndedBy;
 use loop_shared::{watch, watch_anew};
 use loop_table::{Hole, Subject, Token};
 use mio::Interest;
@@ -43,7 +47,9 @@ impl<
         linked: Linked<N, Live>,
         visit: Visit,
         hole: Hole,
-    ) -> MoreToDo<N> {
+    ) -> MoreToDo<N>
+        ensures { (it : _) (at : _) → result ≡ MoreToDo.Goes it at → (it.value.linked ≡ linked) × (it.value.visit ≡ visit) × (at ≡ hole) × (self.new.guests ≡ self.old.guests) }
+    {
         match Box::new(self.settings.alloc, Guest { linked, visit }) {
             Ok(guest) => MoreToDo::Goes(guest, hole),
             Err(refused) => {
@@ -58,11 +64,16 @@ impl<
         ensures next { soon ≡ NextLook.Next → hole.token.index < self.new.agenda.room → Contains self.new.agenda.soon hole.token.index }
         ensures later { soon ≡ NextLook.Later → hole.token.index < self.new.agenda.room → Contains self.new.agenda.later hole.token.index }
         ensures once { soon ≡ NextLook.AtOnce → goes_on result ≡ true }
+        ensures goes { soon ≡ NextLook.AtOnce → (it : _) × (result ≡ MoreToDo.Goes it hole) × (it.value.linked ≡ guest.value.linked) }
+        ensures next_cell { soon ≡ NextLook.Next → IsOut self.old.guests hole.token
+            → (it : _) × (self.new.guests ≡ filled self.old.guests hole.token (Resident.Guest it)) × (it.value.linked ≡ guest.value.linked) }
+        ensures later_cell { soon ≡ NextLook.Later → IsOut self.old.guests hole.token
+            → (it : _) × (self.new.guests ≡ filled self.old.guests hole.token (Resident.Guest it)) × (it.value.linked ≡ guest.value.linked) }
     {
         let mut guest = guest;
         let token = hole.token();
-        let Guest { linked, visit } = &mut *guest;
-        self.time(linked.seated(), visit, token.index());
+        let it = &mut *guest;
+        self.time(it.linked.seated(), &mut it.visit, token.index());
         match soon {
             NextLook::AtOnce => return MoreToDo::Goes(guest, hole),
             NextLook::Rests if !self.is_watched(&mut guest, token) => {
@@ -79,6 +90,7 @@ impl<
     fn note_look(&mut self, cell: usize, soon: NextLook)
         ensures next { soon ≡ NextLook.Next → cell < self.new.agenda.room → Contains self.new.agenda.soon cell }
         ensures later { soon ≡ NextLook.Later → cell < self.new.agenda.room → Contains self.new.agenda.later cell }
+        ensures cells { self.new.guests ≡ self.old.guests }
     {
         match soon {
             NextLook::Next => self.agenda.note(cell),
@@ -110,28 +122,34 @@ impl<
         told: &mut Watch,
         subject: Subject,
         opens: bool,
-    ) -> bool {
+    ) -> bool
+        ensures { MatchOption socket.entry (told.new ≡ told.old) (λ live. told.new ≡ watch_after told.old (opens || live.now.is_full)) }
+    {
         let Some(socket) = socket else {
             return true;
         };
-        let writes = opens || socket.is_full();
+        let before = *told;
+        let after = before.after(opens || socket.is_full());
+        *told = after;
+        if before == after {
+            return true;
+        }
         let connection = socket.stream().as_raw_fd();
-        let (is_there, interest) = match (*told, writes) {
-            (Watch::Both, _) | (Watch::Reads, false) => return true,
-            (Watch::Reads, true) => (true, Interest::READABLE | Interest::WRITABLE),
-            (Watch::Nothing, true) => (false, Interest::READABLE | Interest::WRITABLE),
-            (Watch::Nothing, false) => (false, Interest::READABLE),
+        let interest = match after {
+            Watch::Both => Interest::READABLE | Interest::WRITABLE,
+            Watch::Nothing | Watch::Reads => Interest::READABLE,
         };
-        *told = if writes { Watch::Both } else { Watch::Reads };
-        if is_there {
-            watch_anew(&self.registry, connection, subject, interest)
-        } else {
+        if before == Watch::Nothing {
             watch(&self.registry, connection, subject, interest)
+        } else {
+            watch_anew(&self.registry, connection, subject, interest)
         }
     }
 
     /// Puts the occupant of a cell back there.
-    pub(crate) fn lay(&mut self, resident: Resident<N>, hole: Hole) {
+    pub(crate) fn lay(&mut self, resident: Resident<N>, hole: Hole)
+        ensures { IsOut self.old.guests hole.token → (self.new.guests ≡ filled self.old.guests hole.token resident) × (self.new.agenda ≡ self.old.agenda) × (self.new.timers ≡ self.old.timers) }
+    {
         match self.guests.fill(hole, resident) {
             Ok(()) => {}
             Err(resident) => self.let_go(resident),
@@ -150,7 +168,9 @@ impl<
     }
 
     /// Ends a guest at any stage: its pass is posted, and its client's connection is closed.
-    pub(crate) fn close(&mut self, guest: Box<Guest<N>>, hole: Hole) -> MoreToDo<N> {
+    pub(crate) fn close(&mut self, guest: Box<Guest<N>>, hole: Hole) -> MoreToDo<N>
+        ensures { result ≡ MoreToDo.Rests }
+    {
         let Guest { linked, visit } = Box::into_inner(guest);
         self.close_on(linked, visit, hole)
     }
@@ -161,7 +181,9 @@ impl<
         linked: Linked<N, Live>,
         visit: Visit,
         hole: Hole,
-    ) -> MoreToDo<N> {
+    ) -> MoreToDo<N>
+        ensures { result ≡ MoreToDo.Rests }
+    {
         self.close_cell(hole, visit.timer);
         self.dismiss(linked, visit);
         MoreToDo::Rests
@@ -169,10 +191,7 @@ impl<
 
     fn dismiss(&mut self, linked: Linked<N, Live>, visit: Visit) {
         break_off(&linked);
-        let during = match linked.seated().stage() {
-            Stage::Telling => Some(During::Last),
-            _ => None,
-        };
+        let during = last_at(linked.seated().stage());
         let (presence, client) = visit.into_client();
         let mut presence = presence;
         self.tell_end(&mut presence, &client, EndedBy::Client, during);
@@ -184,7 +203,12 @@ impl<
     }
 
     /// Frees a cell and stops its timeout.
-    pub(crate) fn close_cell(&mut self, hole: Hole, timer: Option<Keyword>) {
+    pub(crate) fn close_cell(&mut self, hole: Hole, timer: Option<Keyword>)
+        ensures stops { Stops self.old.timers self.new.timers (number_at self.old.keywords timer) hole.token.index }
+        ensures closed { IsOut self.old.guests hole.token → self.new.guests ≡ closed self.old.guests hole.token }
+        ensures cells { (self.new.agenda ≡ self.old.agenda) × (self.new.shelves ≡ self.old.shelves) }
+        ensures others { (self.new.gate ≡ self.old.gate) × (self.new.keywords ≡ self.old.keywords) × (self.new.lingering ≡ self.old.lingering) }
+    {
         self.untime(timer, hole.token().index());
         self.guests.close(hole);
     }

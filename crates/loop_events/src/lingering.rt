@@ -2,9 +2,14 @@
 //! and thrown away: closing a connection with unread bytes resets it, and may cut the answer off
 //! (RFC 9112, section 9.6).
 
+ghost use Rattle.std.specs.Prelude.{◌≡◌, ◌-◌};
+ghost use Rattle.loop_table.specs.TokenTables.{IsOut, closed};
+ghost use Rattle.loop_events.specs.Timeouts.{number_of, Stops, lingers_on};
+
 use crate::guest::{Guest, Keyword, Lingering, Resident, Visit};
 use crate::looping::Looper;
 use crate::serving::MoreToDo;
+use due_key::Moment;
 use exchange_driver::{Live, ReadResult, Socket};
 use exchange_seated::Linked;
 use locked_book::DeskName;
@@ -99,8 +104,7 @@ impl<
 
     // Restarts its timeout since it sent something, within a limit.
     fn linger_on(&mut self, lingering: &Lingering, cell: usize) {
-        let now = self.gate.moment();
-        if now.get().saturating_sub(lingering.since.get()) < MOST_MILLIS {
+        if lingers_on(lingering.since, self.gate.moment()) {
             self.untime(Some(Keyword::Linger), cell);
             self.begin_time(Some(Keyword::Linger), cell);
         }
@@ -120,8 +124,19 @@ impl<
     }
 
     /// Closes a lingering client.
-    pub(crate) fn end_lingering(&mut self, hole: Hole) {
+    pub(crate) fn end_lingering(&mut self, hole: Hole)
+        ensures fewer { self.new.lingering ≡ self.old.lingering - 1 }
+        ensures stops { Stops self.old.timers self.new.timers (number_of self.old.keywords Keyword.Linger) hole.token.index }
+        ensures closed { IsOut self.old.guests hole.token → self.new.guests ≡ closed self.old.guests hole.token }
+    {
         self.lingering = self.lingering.saturating_sub(1);
         self.close_cell(hole, Some(Keyword::Linger));
     }
+}
+
+// Says whether a client that began to linger at one moment may linger on at another.
+fn lingers_on(since: Moment, now: Moment) -> bool
+    ensures { result ≡ lingers_on since now }
+{
+    now.get().saturating_sub(since.get()) < MOST_MILLIS
 }

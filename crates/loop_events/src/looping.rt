@@ -1,4 +1,4 @@
-ghost use Rattle.std.specs.Prelude.{◌≡◌, ◌<◌, [], None, vec_len};
+ghost use Rattle.std.specs.Prelude.{◌≡◌, ◌↔◌, ◌<◌, [], None, false, vec_len};
 ghost use Rattle.loop_shared.specs.Looks.{OwesNoLook};
 
 use crate::guest::{Guest, Resident};
@@ -151,7 +151,9 @@ impl<
     }
 
     /// Says whether there is something to do at once.
-    pub(crate) fn has_more(&self) -> bool {
+    pub(crate) fn has_more(&self) -> bool
+        ensures { (result ≡ false) ↔ ((self.now.more ≡ false) × (self.now.agenda.later ≡ [])) }
+    {
         self.more || !self.agenda.puts_nothing_off()
     }
 

@@ -4,8 +4,11 @@
 //! or an end on it close it. The last one used is the first to be used again, once a read has found
 //! nothing on it.
 
-ghost use Rattle.std.specs.Bool.{OnTrue};
-ghost use Rattle.std.specs.Prelude.{◌≡◌, true};
+ghost use Rattle.std.specs.Bool.{OnTrue, OnFalse};
+ghost use Rattle.std.specs.Prelude.{◌≡◌, ◌≢◌, ◌<◌, ◌+◌, ◌-◌, ℕ, [], ◌∷◌, ◌++◌, true, length, slice_get, MatchOption, IfOk};
+ghost use Rattle.loop_table.specs.TokenTables.{IsOut, closed};
+ghost use Rattle.loop_events.specs.Shelves.{shelf_at, without};
+ghost use Rattle.loop_events.specs.Timeouts.{number_of, Stops};
 
 use crate::accounting::note_unanswered;
 use crate::guest::{Guest, Keyword, Resident, break_off};
@@ -38,7 +41,11 @@ impl UnusedConnections {
         alloc: Global,
         servers: usize,
         most: usize,
-    ) -> Result<UnusedConnections, AllocError> {
+    ) -> Result<UnusedConnections, AllocError>
+        ensures empty { IfOk result (λ made. (server : ℕ) → shelf_at made.shelves.items server ≡ []) }
+        ensures servers { IfOk result (λ made. length made.shelves.items ≡ servers) }
+        ensures bounds { IfOk result (λ made. (made.count ≡ 0) × (made.most ≡ most)) }
+    {
         let mut shelves = Vec::with_capacity(alloc, servers)?;
         for _ in 0..servers {
             shelves.push(Vec::new(alloc))?;
@@ -50,12 +57,22 @@ impl UnusedConnections {
         })
     }
 
-    fn servers(&self) -> usize {
+    // Returns the number of servers.
+    fn servers(&self) -> usize
+        ensures { result ≡ length self.now.shelves.items }
+    {
         self.shelves.len()
     }
 
     /// Adds a connection. False where there are as many as there may be, or no memory for one more.
-    fn put(&mut self, server: usize, token: Token) -> bool {
+    fn put(&mut self, server: usize, token: Token) -> bool
+        ensures put { OnTrue result (shelf_at self.new.shelves.items server ≡ shelf_at self.old.shelves.items server ++ token ∷ []) }
+        ensures others { (other : ℕ) → other ≢ server → shelf_at self.new.shelves.items other ≡ shelf_at self.old.shelves.items other }
+        ensures count { OnTrue result (self.new.count ≡ self.old.count + 1) }
+        ensures few { OnTrue result (self.old.count < self.old.most) }
+        ensures most { self.new.most ≡ self.old.most }
+        ensures refused { OnFalse result ((self.new.count ≡ self.old.count) × (shelf_at self.new.shelves.items server ≡ shelf_at self.old.shelves.items server)) }
+    {
         if self.most <= self.count {
             return false;
         }
@@ -70,22 +87,32 @@ impl UnusedConnections {
     }
 
     /// Takes the last used connection of a server.
-    fn take(&mut self, server: usize) -> Option<Token> {
+    fn take(&mut self, server: usize) -> Option<Token>
+        ensures last { MatchOption result (shelf_at self.old.shelves.items server ≡ []) (λ token. shelf_at self.old.shelves.items server ≡ shelf_at self.new.shelves.items server ++ token ∷ []) }
+        ensures others { (other : ℕ) → other ≢ server → shelf_at self.new.shelves.items other ≡ shelf_at self.old.shelves.items other }
+        ensures count { MatchOption result (self.new.count ≡ self.old.count) (λ _. self.new.count ≡ self.old.count - 1) }
+    {
         let token = self.shelves.get_mut(server)?.pop()?;
         self.count = self.count.saturating_sub(1);
         Some(token)
     }
 
     /// Returns the connection that has been unused for longest. `O(n)`.
-    fn oldest(&self, server: usize) -> Option<Token> {
+    fn oldest(&self, server: usize) -> Option<Token>
+        ensures { result ≡ slice_get (shelf_at self.now.shelves.items server) 0 }
+    {
         self.shelves.get(server)?.first().copied()
     }
 
     /// Removes a connection. `O(n)`.
-    fn forget(&mut self, server: usize, token: Token) {
+    fn forget(&mut self, server: usize, token: Token)
+        ensures gone { shelf_at self.new.shelves.items server ≡ without token (shelf_at self.old.shelves.items server) }
+        ensures others { (other : ℕ) → other ≢ server → shelf_at self.new.shelves.items other ≡ shelf_at self.old.shelves.items other }
+        ensures count { self.new.count ≡ self.old.count - (length (shelf_at self.old.shelves.items server) - length (shelf_at self.new.shelves.items server)) }
+    {
         if let Some(shelf) = self.shelves.get_mut(server) {
             let before = shelf.len();
-            shelf.retain(|it| *it != token);
+            remove(shelf, token);
             let gone = before.saturating_sub(shelf.len());
             self.count = self.count.saturating_sub(gone);
         }
@@ -225,7 +252,11 @@ impl<
     }
 
     /// Closes an unused connection on which something came, or whose time is over.
-    pub(crate) fn end_unused(&mut self, unused: Box<Unused<Live>>, hole: Hole) {
+    pub(crate) fn end_unused(&mut self, unused: Box<Unused<Live>>, hole: Hole)
+        ensures gone { shelf_at self.new.shelves.shelves.items unused.value.server ≡ without hole.token (shelf_at self.old.shelves.shelves.items unused.value.server) }
+        ensures stops { Stops self.old.timers self.new.timers (number_of self.old.keywords Keyword.Unused) hole.token.index }
+        ensures closed { IsOut self.old.guests hole.token → self.new.guests ≡ closed self.old.guests hole.token }
+    {
         let server = unused.server();
         self.shelves.forget(server, hole.token());
         self.close_cell(hole, Some(Keyword::Unused));
@@ -243,4 +274,11 @@ impl<
             }
         }
     }
+}
+
+// Takes a token out of a list.
+fn remove(tokens: &mut Vec<Token>, token: Token)
+    ensures { tokens.new.items ≡ without token tokens.old.items }
+{
+    tokens.retain(|it| *it != token);
 }

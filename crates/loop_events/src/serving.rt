@@ -1,5 +1,10 @@
 //! The events and results of a guest's exchange.
 
+ghost use Rattle.std.specs.Prelude.{◌≡◌, ◌&&◌};
+ghost use Rattle.exchange_seated.specs.Seats.{has_asked};
+ghost use Rattle.loop_events.specs.Told.{socket_events};
+ghost use Rattle.loop_events.specs.Visits.{with_task};
+
 use crate::accounting::has_received;
 use crate::guest::{Guest, Keyword, Resident, Task, Visit};
 use crate::keeping::NextLook;
@@ -35,7 +40,10 @@ pub(crate) struct SocketEvents {
 }
 
 impl SocketEvents {
-    pub(crate) fn of(event: &Event) -> SocketEvents {
+    /// Returns what an event of the poll tells.
+    pub(crate) fn of(event: &Event) -> SocketEvents
+        ensures { result ≡ socket_events event.now }
+    {
         let broken = event.is_error() || event.is_write_closed();
         let closed = event.is_read_closed();
         SocketEvents {
@@ -78,7 +86,9 @@ impl<
     }
 
     // Says whether a client sends no more and, under `option abortonclose`, waits for no answer.
-    fn has_left(&self, guest: &Guest<N>) -> bool {
+    fn has_left(&self, guest: &Guest<N>) -> bool
+        ensures { result ≡ (guest.now.visit.ended && self.now.settings.rules.aborts && has_asked guest.now.linked.seated.exchange) }
+    {
         guest.visit.ended && self.settings.rules.aborts && guest.linked.seated().has_asked()
     }
 
@@ -234,7 +244,9 @@ impl<
 }
 
 // Sets the guest's next task.
-fn next<N: BoardName + Ledger>(guest: Box<Guest<N>>, hole: Hole, task: Task) -> MoreToDo<N> {
+fn next<N: BoardName + Ledger>(guest: Box<Guest<N>>, hole: Hole, task: Task) -> MoreToDo<N>
+    ensures { (it : _) × (result ≡ MoreToDo.Goes it hole) × (it.value ≡ record guest.value { visit = with_task guest.value.visit task }) }
+{
     let mut guest = guest;
     guest.visit.task = task;
     MoreToDo::Goes(guest, hole)

@@ -1,8 +1,11 @@
 //! The threads: the loops, and one that checks the servers.
 
-ghost use Rattle.std.specs.Prelude.{◌≡◌, IfOk, map};
+ghost use Rattle.std.specs.Prelude.{◌≡◌, IfOk, map, None, true, false};
 ghost use Rattle.std.specs.List.{enumerate_from};
 ghost use Rattle.loop_events.specs.Starts.{start_at};
+ghost use Rattle.loop_events.specs.Timeouts.{AreTimed};
+ghost use Rattle.loop_table.specs.Agendas.{nothing_noted};
+ghost use Rattle.loop_table.specs.TokenTables.{fresh};
 
 use crate::looping::Looper;
 use crate::reusing::UnusedConnections;
@@ -108,7 +111,9 @@ fn kept<R: Wait, N: DeskName + Ledger, T>(
     rt: &R,
     shared: &Shared<'_, N>,
     started: Option<T>,
-) -> Option<T> {
+) -> Option<T>
+    ensures { result ≡ started }
+{
     if started.is_none() {
         shared.give_up(rt);
     }
@@ -169,7 +174,13 @@ fn looper<
     shared: &'a Shared<'a, N>,
     poll: &Poll,
     home: usize,
-) -> Result<Looper<'a, N, R>, AllocError> {
+) -> Result<Looper<'a, N, R>, AllocError>
+    ensures home { IfOk result (λ it. it.home ≡ home) }
+    ensures times { IfOk result (λ it. AreTimed it.timers it.room shared.now.proxy.now.config shared.now.front.now.keeping shared.now.front.now.reusing it.keywords) }
+    ensures idle { IfOk result (λ it. (it.agenda ≡ nothing_noted it.room) × (it.freed ≡ None) × (it.more ≡ true) × (it.short ≡ false) × (it.lingering ≡ 0)) }
+    ensures cells { IfOk result (λ it. it.guests ≡ fresh it.room) }
+    ensures settings { IfOk result (λ it. (it.settings.rules.aborts ≡ shared.now.proxy.now.config.abortonclose) × (it.settings.turns ≡ 4)) }
+{
     let alloc = shared.proxy.alloc;
     let Ok(registry) = poll.registry().try_clone() else {
         return Err(AllocError);

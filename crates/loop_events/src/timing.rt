@@ -1,5 +1,12 @@
 //! The timeouts of a loop.
 
+ghost use Rattle.std.specs.Prelude.{◌≡◌, ◌≢◌, ℕ, Bool, true, false, Option, Some, [], IfOk, OnOk, OnErr, IsSome, IsNone};
+ghost use Rattle.exchange_events.specs.Chains as chains;
+ghost use Rattle.exchange_events.specs.Steps as steps;
+ghost use Rattle.loop_table.specs.Timers.{sooner_of};
+ghost use Rattle.loop_events.specs.Timeouts.{timeout_for, number_of, number_at, IsTimed, AreTimed, unused_time, Begins, Stops, Touches, Turns, retry_of, look_of, IsWait, expiry_of};
+ghost use Rattle.run_gate.specs.Waits as waits;
+
 use crate::guest::{Guest, Keyword, Resident, Visit};
 use crate::keeping::NextLook;
 use crate::looping::Looper;
@@ -45,6 +52,19 @@ pub(crate) struct Keywords {
     unused: Option<usize>,
 }
 
+/// What becomes of a guest whose timeout has expired.
+#[derive(Clone, Copy, Debug, PartialEq, Eq)]
+pub(crate) enum Expiry {
+    /// Its exchange is told that this time is over.
+    Told(TimeoutKind),
+    /// It tries its server again.
+    Dials,
+    /// Its client was silent between two requests, and lingers.
+    Ends,
+    /// Nothing: no such timeout runs for a guest.
+    Nothing,
+}
+
 impl Keywords {
     /// Makes the timeouts from the settings that all gates share, for the keys below `room`.
     pub(crate) fn of(
@@ -52,10 +72,12 @@ impl Keywords {
         front: &GateShared<'_>,
         timers: &mut Timers,
         room: usize,
-    ) -> Result<Keywords, AllocError> {
+    ) -> Result<Keywords, AllocError>
+        ensures { IfOk result (AreTimed timers.new room front.now.config.now front.now.keeping front.now.reusing) }
+    {
         let config = front.config;
-        let unused = front.reusing.map(|_| UNUSED);
-        let turnaround = config.connect_timeout.unwrap_or(TURNAROUND).min(TURNAROUND);
+        let unused = unused_time(front.reusing);
+        let turnaround = turnaround(config.connect_timeout);
         Ok(Keywords {
             client: timed(alloc, timers, config.client_timeout, room)?,
             connect: timed(alloc, timers, config.connect_timeout, room)?,
@@ -67,7 +89,10 @@ impl Keywords {
         })
     }
 
-    fn number(&self, keyword: Keyword) -> Option<usize> {
+    // Returns the number of a timeout in the loop's table.
+    fn number(&self, keyword: Keyword) -> Option<usize>
+        ensures { result ≡ number_of self.now keyword }
+    {
         match keyword {
             Keyword::Client => self.client,
             Keyword::Connect => self.connect,
@@ -78,14 +103,46 @@ impl Keywords {
             Keyword::Unused => self.unused,
         }
     }
+
+    // The same of a timeout that may be none.
+    fn number_at(&self, keyword: Option<Keyword>) -> Option<usize>
+        ensures { result ≡ number_at self.now keyword }
+    {
+        self.number(keyword?)
+    }
 }
 
+// Returns how long a request waits before it tries the server again that failed it, by `timeout connect`.
+fn turnaround(connect: Option<u64>) -> u64
+    ensures { result ≡ waits.turnaround connect }
+{
+    match connect {
+        None => TURNAROUND,
+        Some(connect) => connect.min(TURNAROUND),
+    }
+}
+
+// Returns how long an unused connection of a server stays open, where any does.
+fn unused_time(reusing: Option<u64>) -> Option<u64>
+    ensures { result ≡ unused_time reusing }
+{
+    match reusing {
+        None => None,
+        Some(_) => Some(UNUSED),
+    }
+}
+
+// Adds the timeout of a setting to the table, where there is one. Those that are there stay.
 fn timed(
     alloc: Global,
     timers: &mut Timers,
     millis: Option<u64>,
     room: usize,
-) -> Result<Option<usize>, AllocError> {
+) -> Result<Option<usize>, AllocError>
+    ensures number { IfOk result (λ number. IsTimed timers.new room millis number) }
+    ensures kept { OnOk result ((other number : Option ℕ) → IsTimed timers.old room other number → IsTimed timers.new room other number) }
+    ensures err { OnErr result (timers.new ≡ timers.old) }
+{
     match millis {
         None => Ok(None),
         Some(millis) => Ok(Some(timers.add(alloc, millis, room)?)),
@@ -93,7 +150,9 @@ fn timed(
 }
 
 // Returns the timeout that is to run for a guest.
-fn wanted<N: BoardName + Ledger>(seated: &Seated<N>, visit: &Visit) -> Option<Keyword> {
+fn wanted<N: BoardName + Ledger>(seated: &Seated<N>, visit: &Visit) -> Option<Keyword>
+    ensures { result ≡ timeout_for visit.now.pauses visit.now.asked_before (chains.is_silent seated.now.exchange) (steps.clock_of seated.now.exchange) }
+{
     if visit.pauses {
         return Some(Keyword::Turnaround);
     }
@@ -106,13 +165,62 @@ fn wanted<N: BoardName + Ledger>(seated: &Seated<N>, visit: &Visit) -> Option<Ke
     }
 }
 
+// Returns what becomes of a guest whose timeout has expired.
+fn expiry_of(timer: Option<Keyword>) -> Expiry
+    ensures { result ≡ expiry_of timer }
+{
+    match timer {
+        Some(Keyword::Client) => Expiry::Told(TimeoutKind::Client),
+        Some(Keyword::Connect) => Expiry::Told(TimeoutKind::Connect),
+        Some(Keyword::Server) => Expiry::Told(TimeoutKind::Server),
+        Some(Keyword::KeepAlive) => Expiry::Ends,
+        Some(Keyword::Turnaround) => Expiry::Dials,
+        Some(Keyword::Linger | Keyword::Unused) | None => Expiry::Nothing,
+    }
+}
+
+// Returns how soon a loop tries again that was short of something.
+fn retry_of(short: bool) -> Option<u64>
+    ensures { result ≡ retry_of short }
+{
+    if short { Some(SOON) } else { None }
+}
+
+// Returns how soon the first loop looks at the queues again, where a request waits there.
+fn look_of(looks: bool, timeout: Option<u64>) -> Option<u64>
+    ensures { result ≡ look_of looks timeout }
+{
+    match timeout {
+        Some(millis) if looks => Some((millis / 16).clamp(1, SELDOM)),
+        _ => None,
+    }
+}
+
+// Returns the lesser of two waits, where there are both.
+fn sooner(a: Option<u64>, b: Option<u64>) -> Option<u64>
+    ensures { result ≡ sooner_of a b }
+{
+    match (a, b) {
+        (Some(x), Some(y)) => Some(x.min(y)),
+        (Some(x), None) => Some(x),
+        (None, y) => y,
+    }
+}
+
 impl<
     'a,
     N: DeskName + Ledger,
     R: Net<Listener = TcpListener, Stream = TcpStream> + Clock + Print + Wait,
 > Looper<'a, N, R> {
     /// Makes the timeout of the guest's stage run for it, and no other.
-    pub(crate) fn time(&mut self, seated: &Seated<N>, visit: &mut Visit, cell: usize) {
+    pub(crate) fn time(&mut self, seated: &Seated<N>, visit: &mut Visit, cell: usize)
+        ensures timer { visit.new.timer ≡ timeout_for visit.old.pauses visit.old.asked_before (chains.is_silent seated.now.exchange) (steps.clock_of seated.now.exchange) }
+        ensures visit { visit.new ≡ record visit.old { timer = visit.new.timer } }
+        ensures same { visit.new.timer ≡ visit.old.timer → self.new.timers ≡ self.old.timers }
+        ensures turns { visit.new.timer ≢ visit.old.timer → Turns self.old.timers self.new.timers (number_at self.old.keywords visit.old.timer) (number_at self.old.keywords visit.new.timer) cell }
+        ensures cells { (self.new.guests ≡ self.old.guests) × (self.new.agenda ≡ self.old.agenda) × (self.new.shelves ≡ self.old.shelves) }
+        ensures others { (self.new.gate ≡ self.old.gate) × (self.new.keywords ≡ self.old.keywords) × (self.new.lingering ≡ self.old.lingering) }
+    {
         let wanted = wanted(seated, visit);
         if visit.timer != wanted {
             self.untime(visit.timer, cell);
@@ -121,14 +229,24 @@ impl<
         }
     }
 
-    pub(crate) fn begin_time(&mut self, keyword: Option<Keyword>, cell: usize) {
-        if let Some(number) = keyword.and_then(|it| self.keywords.number(it)) {
+    /// Makes a timeout run for a cell, where it has a limit.
+    pub(crate) fn begin_time(&mut self, keyword: Option<Keyword>, cell: usize)
+        ensures begins { Begins self.old.timers self.new.timers (number_at self.old.keywords keyword) cell }
+        ensures cells { (self.new.guests ≡ self.old.guests) × (self.new.agenda ≡ self.old.agenda) × (self.new.shelves ≡ self.old.shelves) }
+        ensures others { (self.new.gate ≡ self.old.gate) × (self.new.keywords ≡ self.old.keywords) × (self.new.lingering ≡ self.old.lingering) }
+    {
+        if let Some(number) = self.keywords.number_at(keyword) {
             self.timers.begin(number, cell);
         }
     }
 
-    pub(crate) fn untime(&mut self, keyword: Option<Keyword>, cell: usize) {
-        if let Some(number) = keyword.and_then(|it| self.keywords.number(it)) {
+    /// Stops a timeout for a cell.
+    pub(crate) fn untime(&mut self, keyword: Option<Keyword>, cell: usize)
+        ensures stops { Stops self.old.timers self.new.timers (number_at self.old.keywords keyword) cell }
+        ensures cells { (self.new.guests ≡ self.old.guests) × (self.new.agenda ≡ self.old.agenda) × (self.new.shelves ≡ self.old.shelves) }
+        ensures others { (self.new.gate ≡ self.old.gate) × (self.new.keywords ≡ self.old.keywords) × (self.new.lingering ≡ self.old.lingering) }
+    {
+        if let Some(number) = self.keywords.number_at(keyword) {
             self.timers.stop(number, cell);
         }
     }
@@ -140,7 +258,13 @@ impl<
         cell: usize,
         moved: Option<Moved>,
         side: Keyword,
-    ) {
+    )
+        ensures touches { IsSome moved → visit.now.timer ≡ Some side → Touches self.old.timers self.new.timers (number_of self.old.keywords side) cell }
+        ensures still { IsNone moved → self.new.timers ≡ self.old.timers }
+        ensures other { visit.now.timer ≢ Some side → self.new.timers ≡ self.old.timers }
+        ensures cells { (self.new.guests ≡ self.old.guests) × (self.new.agenda ≡ self.old.agenda) × (self.new.shelves ≡ self.old.shelves) }
+        ensures others { (self.new.gate ≡ self.old.gate) × (self.new.keywords ≡ self.old.keywords) × (self.new.lingering ≡ self.old.lingering) }
+    {
         let Some(moved) = moved else {
             return;
         };
@@ -151,21 +275,27 @@ impl<
     }
 
     /// Returns how many milliseconds the poll may wait; `None` is without limit.
-    pub(crate) fn patience(&self) -> Option<u64> {
+    pub(crate) fn patience(&self) -> Option<u64>
+        ensures more { self.now.more ≡ true → result ≡ Some 0 }
+        ensures later { self.now.agenda.later ≢ [] → result ≡ Some 0 }
+        ensures rests { self.now.more ≡ false → self.now.agenda.later ≡ [] → (looks : Bool) × (self.now.home ≢ 0 → looks ≡ false)
+            × IsWait self.now.timers self.now.short looks self.now.shared.now.proxy.now.config.queue_timeout result }
+    {
+        let looks = self.home == 0 && self.shared.has_waits();
+        self.patience_until(looks, self.shared.proxy.config.queue_timeout)
+    }
+
+    // The same, where the first loop looks at the queues, by `timeout queue`, or it doesn't.
+    fn patience_until(&self, looks: bool, timeout: Option<u64>) -> Option<u64>
+        ensures more { self.now.more ≡ true → result ≡ Some 0 }
+        ensures later { self.now.agenda.later ≢ [] → result ≡ Some 0 }
+        ensures rests { self.now.more ≡ false → self.now.agenda.later ≡ [] → IsWait self.now.timers self.now.short looks timeout result }
+    {
         if self.has_more() {
             return Some(0);
         }
-        let mut least = self.timers.patience();
-        if self.short {
-            least = Some(least.unwrap_or(SOON).min(SOON));
-        }
-        if self.home == 0 && self.shared.has_waits() {
-            if let Some(millis) = self.shared.proxy.config.queue_timeout {
-                let wait = (millis / 16).clamp(1, SELDOM);
-                least = Some(least.unwrap_or(wait).min(wait));
-            }
-        }
-        least
+        let first = sooner(self.timers.patience(), retry_of(self.short));
+        sooner(first, look_of(looks, timeout))
     }
 
     /// Handles the timeouts that expired.
@@ -240,21 +370,16 @@ impl<
 
     fn time_is_over(&mut self, guest: Box<Guest<N>>, hole: Hole) -> MoreToDo<N> {
         let mut guest = guest;
-        let kind = match guest.visit.timer.take() {
-            Some(Keyword::Turnaround) => {
+        let expiry = expiry_of(guest.visit.timer);
+        guest.visit.timer = None;
+        match expiry {
+            Expiry::Told(kind) => self.tell(guest, hole, Notice::TimeOver(kind)),
+            Expiry::Dials => {
                 guest.visit.pauses = false;
-                return self.dial(guest, hole);
+                self.dial(guest, hole)
             }
-            Some(Keyword::KeepAlive) => return self.finish(guest, hole),
-            Some(Keyword::Client) => TimeoutKind::Client,
-            Some(Keyword::Connect) => TimeoutKind::Connect,
-            Some(Keyword::Server) => TimeoutKind::Server,
-            Some(Keyword::Linger | Keyword::Unused) | None => return self.keep(
-                guest,
-                hole,
-                NextLook::Rests,
-            ),
-        };
-        self.tell(guest, hole, Notice::TimeOver(kind))
+            Expiry::Ends => self.finish(guest, hole),
+            Expiry::Nothing => self.keep(guest, hole, NextLook::Rests),
+        }
     }
 }

@@ -1,5 +1,5 @@
 -- What happens to the first request outside.
-use Rattle.std.specs.Prelude.{◌≡◌, ◌⊎◌, ℕ, List, Option, Result, Ok, Err}
+use Rattle.std.specs.Prelude.{◌≡◌, ◌⊎◌, ℕ, List, Option, Result, Ok, Err, IfOk}
 use Rattle.dispatch_state.specs.declared.position.Ticketed.{Ticketed}
 use Rattle.due_key.specs.declared.key.Key.{Key}
 use Rattle.grant_board.specs.Views.{Terms}
@@ -31,6 +31,7 @@ module _ {C S : Type 0} where
     pub gone : HasGone old new token outsider
     pub pinned : deferred.pin ≡ outsider.pin
     pub asked : AsksPlace terms setup deferred answer before after
+    pub admitted : IfOk answer (λ at. IsAdmittedLate terms setup deferred at)
     pub placed : answer ≡ Err PlacesFull → ⊥
 
   -- the first request outside asked for a place, and there is none; or nobody is first

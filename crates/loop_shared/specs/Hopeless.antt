@@ -1,5 +1,5 @@
 -- Which requests at places are given up.
-use Rattle.std.specs.Prelude.{◌≡◌, ◌≤◌, ◌-◌, ℕ, ¬_, true, false, Option, None, Some, MatchOption}
+use Rattle.std.specs.Prelude.{◌≡◌, ◌≤◌, ◌-◌, ℕ, true, false, Option, None, Some, MatchOption}
 use Rattle.loop_shared.specs.declared.parked.GivenUpSet.{GivenUpSet}
 use Rattle.loop_shared.specs.declared.parked.GivenUpSet.TheVariants.{All, Late}
 use Rattle.loop_shared.specs.declared.parked.Parked.{Parked}

@@ -1,5 +1,5 @@
 -- The requests that wait outside for a place.
-use Rattle.std.specs.Prelude.{◌≡◌, ℕ, ¬_, Option, None, Some, slice_get}
+use Rattle.std.specs.Prelude.{◌≡◌, ℕ, Option, None, Some, slice_get}
 use Rattle.std.specs.Global.{Box}
 use Rattle.due_key.specs.declared.key.Key.{Key}
 use Rattle.locked_book.specs.declared.book.Deferred.{Deferred}

@@ -4,7 +4,8 @@
 //! afterwards, so one of the two should find the other. No clause says that; it is argued here
 //! only.
 
-ghost use Rattle.std.specs.Prelude.{◌≡◌, IfSome, IfNone, IfErr};
+ghost use Rattle.std.specs.Prelude.{◌≡◌, true, false, Err, IfSome, IfNone, IfErr};
+ghost use Rattle.log_entries.specs.declared.refusal.Refusal.TheVariants.{PlacesFull};
 ghost use Rattle.loop_shared.specs.Admissions.{Admits, TakesFirst, FindsNoPlace};
 
 use crate::outside::{Outside, Outsider};
@@ -157,11 +158,20 @@ fn admit_one<R: Wait, N: DeskName, G: Gate>(
     ensures none { IfNone result (FindsNoPlace N.terms N.setup outside.old (G.notes gate.old) (G.notes gate.new) × (outside.new ≡ outside.old)) }
 {
     let (deferred, token) = outside.next()?;
-    match arrive_late(rt, proxy, gate, deferred) {
-        Err(Refusal::PlacesFull) => None,
-        arrived => match outside.take(token) {
-            None => unreachable!(),
-            Some(outsider) => Some((outsider, arrived)),
-        },
+    let arrived = arrive_late(rt, proxy, gate, deferred);
+    if lacks_place(&arrived) {
+        return None;
     }
+    match outside.take(token) {
+        None => unreachable!(),
+        Some(outsider) => Some((outsider, arrived)),
+    }
+}
+
+// Says whether a request was refused since all places are taken.
+fn lacks_place(arrived: &Result<Ticketed, Refusal>) -> bool
+    ensures full { result ≡ true → arrived.now ≡ Err PlacesFull }
+    ensures other { result ≡ false → arrived.now ≡ Err PlacesFull → ⊥ }
+{
+    matches!(arrived, Err(Refusal::PlacesFull))
 }

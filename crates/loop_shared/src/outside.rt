@@ -3,7 +3,7 @@
 
 ghost use Rattle.std.specs.Prelude.{◌≡◌, ◌⊎◌, ℕ, length, Option, IfOk, IfErr, IfSome, IfNone, MatchOption, None};
 ghost use Rattle.due_key.specs.declared.key.Key.{Key};
-ghost use Rattle.loop_table.specs.Runs.{begun_once};
+ghost use Rattle.loop_table.specs.Runs.{begun_once, stopped};
 ghost use Rattle.loop_table.specs.Timers.{later_at, Changes, MayRun, AreQuiet, IsOverdueAt};
 ghost use Rattle.loop_table.specs.declared.token.Token.{Token};
 ghost use Rattle.locked_book.specs.declared.book.Deferred.{Deferred};
@@ -135,6 +135,17 @@ impl Outside {
         }
     }
 
+    // Ends its timeout.
+    fn end_time(&mut self, number: usize)
+        ensures same { self.new ≡ record self.old { timers = self.new.timers } }
+        ensures limitless { self.old.patience ≡ None → self.new.timers ≡ self.old.timers }
+        ensures ended { IfSome self.old.patience (λ keyword. MayRun self.old.timers keyword number → Changes self.old.timers self.new.timers keyword (λ runs. stopped runs number)) }
+    {
+        if let Some(patience) = self.patience {
+            self.timers.stop(patience, number);
+        }
+    }
+
     /// Returns the wish of the first request, for the next free place.
     pub(crate) fn next(&mut self) -> Option<(Deferred, Token)>
         ensures some { IfSome result (λ it. IsFirstOutside self.old it.0 it.1) }
@@ -159,9 +170,7 @@ impl Outside {
     {
         let (standing, hole) = self.standing.lend(token)?;
         self.standing.close(hole);
-        if let Some(patience) = self.patience {
-            self.timers.stop(patience, token.index());
-        }
+        self.end_time(token.index());
         let Standing { key, outsider } = Box::into_inner(standing);
         let _ = self.order.leave(key);
         Some(outsider)
@@ -173,7 +182,8 @@ impl Outside {
         ensures none { IfNone result (((first : Option (Key × ℕ)) × NobodyIsFirst self.old first) ⊎ ((deferred : Deferred) × (token : Token) × IsFirstOutside self.old deferred token × IsGoneOutside self.old token)) }
     {
         let (_, token) = self.next()?;
-        self.take(token)
+        let outsider = self.take(token)?;
+        Some(outsider)
     }
 
     /// Returns the client of a request that waits.
@@ -194,7 +204,8 @@ impl Outside {
         };
         let Overdue { keyword: _, cell } = overdue;
         let token = self.standing.token_of(cell)?;
-        self.take(token)
+        let outsider = self.take(token)?;
+        Some(outsider)
     }
 
     /// Ends the presence of all clients that still wait.

@@ -53,9 +53,10 @@ impl<N: DeskName + Ledger> Shared<'_, N> {
         ensures { Collects N.terms N.setup place (G.notes gate.old) (G.notes gate.new) }
     {
         self.return_seat(rt, lent);
-        if self.has(place) {
-            let _ = self.proxy.collect(rt, gate, place);
+        if !self.has(place) {
+            return OwedAdmission::new();
         }
+        let _ = self.proxy.collect(rt, gate, place);
         OwedAdmission::new()
     }
 }

@@ -1,7 +1,7 @@
 pub mod Rests
 pub mod Starts
 pub mod Timeouts
-pub mod Visits
 pub mod Ends
+pub mod Visits
 pub mod Told
 pub mod Shelves

@@ -1,6 +1,6 @@
 //! A loop's records of its exchanges, where the operator wants lines of them.
 
-ghost use Rattle.std.specs.Prelude.{◌≡◌, ◌==◌, ◌&&◌, ℕ, true, false, None, Some, IsNone, IsSome, IfSome, IfOk, is_none, is_some, option_map, option_and_then};
+ghost use Rattle.std.specs.Prelude.{◌≡◌, ◌&&◌, ℕ, true, false, IsNone, IsSome, IfSome, IfOk, is_some, option_map, option_and_then};
 ghost use Rattle.req_view.specs.Request.{version_of};
 ghost use Rattle.loop_events.specs.Ends.{account_of, with_ticket, has_come, begun_at, answered_at, with_meter, end_of, queue_end, cause_end, time_end, notice_end, last_at, has_line};
 

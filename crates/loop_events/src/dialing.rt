@@ -4,6 +4,7 @@ ghost use Rattle.std.specs.Prelude.{◌≡◌, ◌≢◌, IfSome, Some, true};
 ghost use Rattle.std.specs.Bool.{OnTrue};
 ghost use Rattle.exchange_events.specs.Passes.{held_by};
 ghost use Rattle.exchange_seated.specs.Seats.{server_of};
+ghost use Rattle.loop_events.specs.Rests.{goes_on};
 ghost use Rattle.loop_events.specs.Visits.{redialed};
 
 use crate::guest::{Guest, Watch};
@@ -144,7 +145,8 @@ impl<
     /// Opens another connection in place of one that broke before it got a byte of the request, or
     /// was used before and broke before a byte of the answer came: once for each of the two causes.
     pub(crate) fn redial(&mut self, guest: Box<Guest<N>>, hole: Hole) -> MoreToDo<N>
-        ensures { (it : _) × (result ≡ MoreToDo.Goes it hole) × (it.value ≡ record guest.value { visit = redialed guest.value.visit }) }
+        ensures goes { goes_on result ≡ true }
+        ensures guest { (it : _) (at : _) → result ≡ MoreToDo.Goes it at → (it.value ≡ record guest.value { visit = redialed guest.value.visit }) × (at ≡ hole) }
     {
         let mut guest = guest;
         guest.visit.redial();

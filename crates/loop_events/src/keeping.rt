@@ -64,11 +64,7 @@ impl<
         ensures next { soon ≡ NextLook.Next → hole.token.index < self.new.agenda.room → Contains self.new.agenda.soon hole.token.index }
         ensures later { soon ≡ NextLook.Later → hole.token.index < self.new.agenda.room → Contains self.new.agenda.later hole.token.index }
         ensures once { soon ≡ NextLook.AtOnce → goes_on result ≡ true }
-        ensures goes { soon ≡ NextLook.AtOnce → (it : _) × (result ≡ MoreToDo.Goes it hole) × (it.value.linked ≡ guest.value.linked) }
-        ensures next_cell { soon ≡ NextLook.Next → IsOut self.old.guests hole.token
-            → (it : _) × (self.new.guests ≡ filled self.old.guests hole.token (Resident.Guest it)) × (it.value.linked ≡ guest.value.linked) }
-        ensures later_cell { soon ≡ NextLook.Later → IsOut self.old.guests hole.token
-            → (it : _) × (self.new.guests ≡ filled self.old.guests hole.token (Resident.Guest it)) × (it.value.linked ≡ guest.value.linked) }
+        ensures same { (it : _) (at : _) → soon ≡ NextLook.AtOnce → result ≡ MoreToDo.Goes it at → (it.value.linked ≡ guest.value.linked) × (at ≡ hole) }
     {
         let mut guest = guest;
         let token = hole.token();
@@ -90,7 +86,6 @@ impl<
     fn note_look(&mut self, cell: usize, soon: NextLook)
         ensures next { soon ≡ NextLook.Next → cell < self.new.agenda.room → Contains self.new.agenda.soon cell }
         ensures later { soon ≡ NextLook.Later → cell < self.new.agenda.room → Contains self.new.agenda.later cell }
-        ensures cells { self.new.guests ≡ self.old.guests }
     {
         match soon {
             NextLook::Next => self.agenda.note(cell),

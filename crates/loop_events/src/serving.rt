@@ -1,7 +1,8 @@
 //! The events and results of a guest's exchange.
 
-ghost use Rattle.std.specs.Prelude.{◌≡◌, ◌&&◌};
+ghost use Rattle.std.specs.Prelude.{◌≡◌, ◌&&◌, true};
 ghost use Rattle.exchange_seated.specs.Seats.{has_asked};
+ghost use Rattle.loop_events.specs.Rests.{goes_on};
 ghost use Rattle.loop_events.specs.Told.{socket_events};
 ghost use Rattle.loop_events.specs.Visits.{with_task};
 
@@ -245,7 +246,8 @@ impl<
 
 // Sets the guest's next task.
 fn next<N: BoardName + Ledger>(guest: Box<Guest<N>>, hole: Hole, task: Task) -> MoreToDo<N>
-    ensures { (it : _) × (result ≡ MoreToDo.Goes it hole) × (it.value ≡ record guest.value { visit = with_task guest.value.visit task }) }
+    ensures goes { goes_on result ≡ true }
+    ensures guest { (it : _) (at : _) → result ≡ MoreToDo.Goes it at → (it.value ≡ record guest.value { visit = with_task guest.value.visit task }) × (at ≡ hole) }
 {
     let mut guest = guest;
     guest.visit.task = task;

@@ -176,7 +176,7 @@ fn looper<
     home: usize,
 ) -> Result<Looper<'a, N, R>, AllocError>
     ensures home { IfOk result (λ it. it.home ≡ home) }
-    ensures times { IfOk result (λ it. AreTimed it.timers it.room shared.now.proxy.now.config shared.now.front.now.keeping shared.now.front.now.reusing it.keywords) }
+    ensures times { IfOk result (λ it. AreTimed it.timers it.room shared.now.front.now.config.now shared.now.front.now.keeping shared.now.front.now.reusing it.keywords) }
     ensures idle { IfOk result (λ it. (it.agenda ≡ nothing_noted it.room) × (it.freed ≡ None) × (it.more ≡ true) × (it.short ≡ false) × (it.lingering ≡ 0)) }
     ensures cells { IfOk result (λ it. it.guests ≡ fresh it.room) }
     ensures settings { IfOk result (λ it. (it.settings.rules.aborts ≡ shared.now.proxy.now.config.abortonclose) × (it.settings.turns ≡ 4)) }

@@ -1,7 +1,7 @@
 //! Looks at places that are owed.
 //!
 //! Neither a look nor a set of looks has a `Drop`: a look ends where its place is looked at, or goes
-//! on to a loop's mailbox or its gate, so none is forgotten.
+//! on to a loop's mailbox or its gate, so no caller forgets one.
 
 ghost use Rattle.std.specs.Prelude.{◌≡◌, ◌≢◌, ◌<◌, ◌↔◌, ℕ, MatchOption};
 ghost use Rattle.loop_shared.specs.Looks.{OwesNoLook};

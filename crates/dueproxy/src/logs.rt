@@ -1,5 +1,7 @@
 //! The logs that the options ask for.
 
+ghost use Rattle.std.specs.Prelude.{◌≡◌, ◌≢◌, codes, string_bytes};
+
 use crate::reasons::say_unopened;
 use config_command::LogWords;
 use log_lines::Format;
@@ -28,7 +30,7 @@ pub(crate) fn logs_of<R: Threads + Wait + Copy + Send + 'static>(
             let has_windows = name.as_str() == "-";
             let format = if is_json { Format::Json } else { Format::Text };
             Some(Access {
-                sink: sink_of(host, rt, way_of(name, Way::Output))?,
+                sink: sink_of(host, rt, access_way(name))?,
                 format,
                 has_windows,
             })
@@ -36,7 +38,7 @@ pub(crate) fn logs_of<R: Threads + Wait + Copy + Send + 'static>(
     };
     let events = match events {
         None => None,
-        Some(name) => Some(sink_of(host, rt, way_of(name, Way::Errors))?),
+        Some(name) => Some(sink_of(host, rt, events_way(name))?),
     };
     Ok(Logs {
         access,
@@ -45,7 +47,24 @@ pub(crate) fn logs_of<R: Threads + Wait + Copy + Send + 'static>(
     })
 }
 
-fn way_of(name: String, standard: Way) -> Way {
+fn access_way(name: String) -> Way
+    ensures standard { string_bytes name ≡ codes "-" → result ≡ Way.Output }
+    ensures file { string_bytes name ≢ codes "-" → result ≡ Way.File name }
+{
+    way_of(name, Way::Output)
+}
+
+fn events_way(name: String) -> Way
+    ensures standard { string_bytes name ≡ codes "-" → result ≡ Way.Errors }
+    ensures file { string_bytes name ≢ codes "-" → result ≡ Way.File name }
+{
+    way_of(name, Way::Errors)
+}
+
+fn way_of(name: String, standard: Way) -> Way
+    ensures standard { string_bytes name ≡ codes "-" → result ≡ standard }
+    ensures file { string_bytes name ≢ codes "-" → result ≡ Way.File name }
+{
     if name.as_str() == "-" {
         standard
     } else {

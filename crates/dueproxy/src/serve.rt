@@ -48,7 +48,7 @@ pub(crate) fn serve_file<
         Ok(options) => options,
         Err(status) => return status,
     };
-    let ended = run(rt, &bytes, options, sizes);
+    let ended = run(rt, &bytes, options, sizes).map(|_asked| ());
     end_controls(rt, &words);
     if let Err(fault) = ended {
         say(rt, &bytes, fault);

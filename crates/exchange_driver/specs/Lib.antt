@@ -1,4 +1,5 @@
 pub mod Answers
+pub mod Calls
 pub mod Drives
 pub mod Meters
 pub mod Moves

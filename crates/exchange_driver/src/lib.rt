@@ -5,6 +5,7 @@
 //! an edge-triggered poll is lost.
 #![tactic(auto)]
 
+mod calls;
 mod driving;
 mod line;
 mod meter;

@@ -77,7 +77,8 @@ fn still_forwarding(forwarding: Forwarding) -> Turned
 // A head's text waits for room, where bytes are to be sent before it; otherwise there is never room for it.
 fn no_room(forwarding: Forwarding) -> Turned
     ensures at { (h : ExchangeHistory) → IsForwarding forwarding h → steps.IsAtItsStage result.next (steps.ended result.outcome h) }
-    ensures does { ((forwarding.down.out ≢ []) × answers.RelaysOn forwarding result.outcome result.next) ⊎ answers.StarvesIn forwarding result.outcome result.next }
+    ensures waits { forwarding.down.out ≢ [] → answers.RelaysOn forwarding result.outcome result.next }
+    ensures starves { forwarding.down.out ≡ [] → answers.StarvesIn forwarding result.outcome result.next }
     ensures fails { steps.FailsInTurn result.outcome result.next }
 {
     if forwarding.to_client().is_empty() {

@@ -125,9 +125,7 @@ impl Dialing {
         if !fits {
             return Err(self);
         }
-        if !put_leave(&mut down, &self.waiting.asked.view) {
-            return Err(self);
-        }
+        put_leave(&mut down, &self.waiting.asked.view);
         Ok(self.begin(alloc, up, down, terms))
     }
 

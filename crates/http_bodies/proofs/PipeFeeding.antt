@@ -241,6 +241,10 @@ breaks_plainly {a} {b} {used} {text} Wants is breaks =
 read_is_not_framing : Faulty.Read ≡ Faulty.Framing → ⊥
 read_is_not_framing is = cc
 
+-- a whole body was handed on
+abbrev pub IsWhole : Framing → Bool → Ends → Ends → Type 0
+IsWhole framing framed a b = (used : List ℕ) × (text : List ℕ) × IsBody framing framed used text × Moves a b used text × HoldsBack a b text
+
 -- a fault was met amid a body
 abbrev pub StopsAmid : Framing → Bool → Ends → Ends → Fault → Type 0
 StopsAmid framing framed a b fault = (used : List ℕ) × (text : List ℕ) × IsTaken framing framed used text
@@ -256,15 +260,16 @@ module _ {framing : Framing} {framed : Bool} {c : Coding} {a b : Ends} {idle : �
       let none = subst (λ (f : Framing). Feeds (start_of f framed) c p.used p.text → is_done c ≡ false) (sym e) (never_done c p.used p.text) p.feeds in
       false≢true (sym none ∙ is)
 
-  pub whole_body : is_done c ≡ true → (used : List ℕ) × (text : List ℕ) × IsBody framing framed used text × Moves a b used text
+  pub whole_body : is_done c ≡ true → IsWhole framing framed a b
   whole_body is =
       let body = run_done framing framed ((p.used, p.text) ∷ []) c (c, p.feeds, refl) is in
-      (p.used ++ [], p.text ++ [], body, moves_as (sym (append-nil p.used)) (sym (append-nil p.text)) p.moves)
+      let held = subst (λ (l : List ℕ). HoldsBack a b l) (sym (append-nil p.text)) (still_holds a b p.text p.late) in
+      (p.used ++ [], p.text ++ [], body, moves_as (sym (append-nil p.used)) (sym (append-nil p.text)) p.moves, held)
 
-  pub body_to_end : framing ≡ Framed.ToEnd → (used : List ℕ) × (text : List ℕ) × IsBody framing framed used text × Moves a b used text
+  pub body_to_end : framing ≡ Framed.ToEnd → IsWhole framing framed a b
   body_to_end e =
       let body = subst (λ (f : Framing). Feeds (start_of f framed) c p.used p.text → IsBody f framed p.used p.text) (sym e) (all_given c p.used p.text) p.feeds in
-      (p.used, p.text, body, p.moves)
+      (p.used, p.text, body, p.moves, still_holds a b p.text p.late)
 
   -- a fault: the text is that of what was used
   part_of : {d : Ends} {fault : Fault} → (fault ≡ Faulty.Framing → HoldsBack a d p.text)

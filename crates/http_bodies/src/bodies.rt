@@ -22,7 +22,9 @@ impl Pipe {
         framed: bool,
     ) -> Result<(), Fault>
         requires { Countable (ends self.old (S.stream source.old) (K.stream sink.old)) }
-        ensures ok { OnOk result ((used : List ℕ) × (text : List ℕ) × IsBody framing framed used text × Moves (ends self.old (S.stream source.old) (K.stream sink.old)) (ends self.new (S.stream source.new) (K.stream sink.new)) used text) }
+        ensures ok { OnOk result ((used : List ℕ) × (text : List ℕ) × IsBody framing framed used text
+            × Moves (ends self.old (S.stream source.old) (K.stream sink.old)) (ends self.new (S.stream source.new) (K.stream sink.new)) used text
+            × HoldsBack (ends self.old (S.stream source.old) (K.stream sink.old)) (ends self.new (S.stream source.new) (K.stream sink.new)) text) }
         ensures end { framing ≡ Framing.ToEnd → OnOk result (IsAtEnd (S.stream source.new).bytes) }
         ensures all { framing ≡ Framing.ToEnd → OnOk result (self.new.inbox ≡ []) }
         ensures unread { ¬ (IsUnfinished framing self.old.inbox) → S.stream source.new ≡ S.stream source.old }

@@ -1,8 +1,11 @@
+pub mod Accounts
 pub mod Letters
 pub mod Escapes
+pub mod Fields
 pub mod Following
 pub mod Counts
 pub mod Bins
 pub mod Lateness
+pub mod LineTexts
 pub mod Texts
 pub mod Refusals

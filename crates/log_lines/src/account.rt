@@ -1,3 +1,7 @@
+ghost use Rattle.std.specs.Prelude.{◌≡◌, ◌≢◌};
+ghost use Rattle.log_lines.specs.Accounts as accounts;
+ghost use Rattle.log_lines.specs.Letters.{well};
+
 use crate::letters::{During, EndedBy, ExchangeEnd};
 use due_key::{Class, Moment, Offset};
 use std::net::SocketAddr;
@@ -55,14 +59,18 @@ pub struct Account {
 
 impl Account {
     /// Notes that it ended early, unless a cause is noted already.
-    pub fn end_by(&mut self, by: EndedBy, during: During) {
-        if self.ended.by == EndedBy::Nobody && by != EndedBy::Nobody {
+    pub fn end_by(&mut self, by: EndedBy, during: During)
+        ensures { self.new ≡ accounts.ended_by (record { by = by; during = during }) self.old }
+    {
+        if !is_early(self.ended.by) && is_early(by) {
             self.ended = ExchangeEnd { by, during };
         }
     }
 
     /// Returns what is under way, where its client wasn't sent its whole answer.
-    pub fn under_way(&self) -> During {
+    pub fn under_way(&self) -> During
+        ensures { result ≡ accounts.under_way self.now }
+    {
         let moments = self.moments;
         if moments.asked.is_none() {
             During::Request
@@ -78,7 +86,11 @@ impl Account {
     }
 
     /// Notes that its client was sent 400 though its server answered nothing: the request was at fault.
-    pub fn blame_request(&mut self) {
+    pub fn blame_request(&mut self)
+        ensures blamed { self.old.ended ≡ accounts.unanswered → self.old.status ≡ Some 400 → self.new ≡ record self.old { ended = accounts.refused } }
+        ensures answered { self.old.ended ≢ accounts.unanswered → self.new ≡ self.old }
+        ensures told { self.old.status ≢ Some 400 → self.new ≡ self.old }
+    {
         let told_nothing = self.ended.by == EndedBy::Server && self.ended.during == During::Head;
         if told_nothing && self.status == Some(400) {
             self.ended = ExchangeEnd {
@@ -89,7 +101,9 @@ impl Account {
     }
 
     /// Notes the server that it is given to, whatever was noted of an earlier one.
-    pub fn grant(&mut self, server: usize, now: Moment) {
+    pub fn grant(&mut self, server: usize, now: Moment)
+        ensures { self.new ≡ accounts.granted server now self.old }
+    {
         self.server = Some(server);
         self.ended = ExchangeEnd::well();
         self.moments.granted = Some(now);
@@ -98,7 +112,9 @@ impl Account {
     }
 
     /// Makes the record of an exchange that begins.
-    pub fn new(client: Option<SocketAddr>, began: Moment) -> Account {
+    pub fn new(client: Option<SocketAddr>, began: Moment) -> Account
+        ensures { result ≡ accounts.account_from client began }
+    {
         Account {
             client,
             asked: None,
@@ -121,4 +137,11 @@ impl Account {
             is_silent: true,
         }
     }
+}
+
+// Says whether something ended it before its proper end.
+fn is_early(by: EndedBy) -> bool
+    ensures { result ≡ accounts.is_early by }
+{
+    by != EndedBy::Nobody
 }

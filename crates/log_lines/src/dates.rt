@@ -1,5 +1,7 @@
 //! Moments as dates and times of day.
 
+ghost use Rattle.std.specs.Prelude.{◌≡◌, ◌-◌, ◌^◌, min, pos};
+
 use jiff::Timestamp;
 use std::alloc::{AllocError, Global};
 
@@ -92,6 +94,8 @@ fn text_of(alloc: Global, second: i64, format: &str) -> Result<String, AllocErro
 }
 
 /// A number of milliseconds that doesn't fit becomes the greatest one.
-pub(crate) fn signed(millis: u64) -> i64 {
+pub(crate) fn signed(millis: u64) -> i64
+    ensures { result ≡ pos (min millis (2 ^ 63 - 1)) }
+{
     i64::try_from(millis).unwrap_or(i64::MAX)
 }

@@ -1,5 +1,9 @@
 //! The events of a proxy as a whole, one a line.
 
+ghost use Rattle.std.specs.Prelude.{◌≡◌};
+ghost use Rattle.log_lines.specs.LineTexts.{failure_words};
+ghost use Rattle.log_texts.specs.Traces.{queue_name};
+
 use crate::dates::{Dates, signed};
 use log_entries::{Intake, Queue};
 use log_texts::Names;
@@ -115,7 +119,9 @@ fn push_down(
     }
 }
 
-fn words_of(failure: CheckFailure) -> &'static str {
+fn words_of(failure: CheckFailure) -> &'static str
+    ensures { result.now ≡ failure_words failure }
+{
     match failure {
         CheckFailure::NoAddress => "its name has no address",
         CheckFailure::Refused => "connection refused",
@@ -124,7 +130,9 @@ fn words_of(failure: CheckFailure) -> &'static str {
     }
 }
 
-fn name_of(names: &Names, queue: Queue) -> &str {
+fn name_of(names: &Names, queue: Queue) -> &str
+    ensures { result.now ≡ queue_name names.now queue }
+{
     match queue {
         Queue::Backend => "*",
         Queue::Server(server) => names.of(server),

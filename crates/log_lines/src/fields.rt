@@ -1,7 +1,9 @@
 //! The fields of a line.
 
-ghost use Rattle.std.specs.Prelude.{◌≡◌};
+ghost use Rattle.std.specs.Prelude.{◌≡◌, ◌-◌, false};
+ghost use Rattle.std.specs.Option.{option_map_or};
 ghost use Rattle.log_lines.specs.Escapes.{is_plain};
+ghost use Rattle.log_lines.specs.Fields as fields;
 
 use crate::account::Account;
 use crate::numbers::Numbers;
@@ -38,7 +40,9 @@ pub(crate) struct Spans {
 }
 
 impl<'a> Line<'a> {
-    pub(crate) fn spans(&self) -> Spans {
+    pub(crate) fn spans(&self) -> Spans
+        ensures { result ≡ fields.spans_of self.now.account.now.moments }
+    {
         let moments = self.account.moments;
         Spans {
             request: between(Some(moments.began), moments.asked),
@@ -50,7 +54,9 @@ impl<'a> Line<'a> {
     }
 
     /// Returns the name of its server; `<NOSRV>` where it was given to none.
-    pub(crate) fn server(&self) -> &'a str {
+    pub(crate) fn server(&self) -> &'a str
+        ensures { result.now ≡ fields.server_name self.now.names.now self.now.account.now.server }
+    {
         match self.account.server {
             None => "<NOSRV>",
             Some(server) => self.names.of(server),
@@ -58,7 +64,9 @@ impl<'a> Line<'a> {
     }
 
     /// Returns how many of its connections failed and were followed by another try.
-    pub(crate) fn retries(&self) -> u32 {
+    pub(crate) fn retries(&self) -> u32
+        ensures { result ≡ option_map_or (λ numbers. fields.retries numbers.now) self.now.numbers 0 }
+    {
         match self.numbers {
             None => 0,
             Some(numbers) if numbers.cause.is_some() => numbers.failures.saturating_sub(1),
@@ -66,7 +74,9 @@ impl<'a> Line<'a> {
         }
     }
 
-    pub(crate) fn is_redispatched(&self) -> bool {
+    pub(crate) fn is_redispatched(&self) -> bool
+        ensures { result ≡ option_map_or (λ numbers. fields.is_redispatched numbers.now) self.now.numbers false }
+    {
         match self.numbers {
             None => false,
             Some(numbers) => 1 < numbers.slots,
@@ -74,11 +84,15 @@ impl<'a> Line<'a> {
     }
 }
 
-fn between(from: Option<Moment>, to: Option<Moment>) -> Option<u64> {
+fn between(from: Option<Moment>, to: Option<Moment>) -> Option<u64>
+    ensures { result ≡ fields.between from to }
+{
     Some(span(from?, to?))
 }
 
-fn span(from: Moment, to: Moment) -> u64 {
+fn span(from: Moment, to: Moment) -> u64
+    ensures { result ≡ to - from }
+{
     to.get().saturating_sub(from.get())
 }
 

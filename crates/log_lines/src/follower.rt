@@ -133,7 +133,8 @@ impl Follower {
 
     /// Forgets all requests that came before, since entries were lost.
     pub fn forget(&mut self)
-        ensures { (ticket : ℕ) → known self.new ticket ≡ None }
+        ensures none { (ticket : ℕ) → known self.new ticket ≡ None }
+        ensures same { (self.new.moment ≡ self.old.moment) × (self.new.window ≡ record { number = self.old.window.number; given = [] }) }
     {
         self.given.clear();
         self.numbers.clear();

@@ -1,5 +1,11 @@
 //! A line as one JSON value.
 
+ghost use Rattle.std.specs.Prelude.{◌≡◌, ◌==◌, ◌&&◌, not, false, codes, is_some, string_bytes, if◌then◌else◌};
+ghost use Rattle.std.specs.Option.{option_map, option_map_or, option_and_then};
+ghost use Rattle.log_lines.specs.Fields.{spans_of, retries, is_redispatched};
+ghost use Rattle.log_lines.specs.Following as following;
+ghost use Rattle.log_texts.specs.Traces as traces;
+
 use crate::dates::Dates;
 use crate::fields::{Line, push_escaped};
 use crate::letters::cause_told;
@@ -131,7 +137,32 @@ fn escaped(alloc: Global, bytes: &[u8]) -> Result<String, AllocError> {
     Ok(text)
 }
 
-fn request_of<'a>(texts: &'a Texts, line: &'a Line) -> Request<'a> {
+fn request_of<'a>(texts: &'a Texts, line: &'a Line) -> Request<'a>
+    ensures times { (result.time.now ≡ string_bytes texts.now.time) × (result.began.now ≡ string_bytes texts.now.began) }
+    ensures client { option_map (λ it. it.now) result.client ≡ option_map string_bytes texts.now.client }
+    ensures method { option_map (λ it. it.now) result.method ≡ option_map string_bytes texts.now.method }
+    ensures target { option_map (λ it. it.now) result.target ≡ option_map string_bytes texts.now.target }
+    ensures version { option_map (λ it. it.now) result.version ≡ option_map (λ it. if it.minor == 0 then codes "HTTP/1.0" else codes "HTTP/1.1") line.now.account.now.asked }
+    ensures server { option_map (λ it. it.now) result.server ≡ option_map (traces.name_of line.now.names.now) line.now.account.now.server }
+    ensures end { (result.status ≡ line.now.account.now.status) × (result.termination.now ≡ string_bytes texts.now.termination) }
+    ensures bytes { (result.received ≡ line.now.account.now.received) × (result.sent ≡ line.now.account.now.sent) }
+    ensures spans { let spans = spans_of line.now.account.now.moments in
+        (result.request_ms ≡ spans.request) × (result.wait_ms ≡ spans.wait) × (result.connect_ms ≡ spans.connect) × (result.answer_ms ≡ spans.answer) × (result.total_ms ≡ spans.all) }
+    ensures wish { (result.class ≡ option_map (λ wish. wish.0) line.now.account.now.wish) × (result.offset ≡ option_map (λ wish. wish.1) line.now.account.now.wish) }
+    ensures ticket { result.ticket ≡ line.now.account.now.ticket }
+    ensures due { option_map (λ it. it.now) result.due ≡ option_map string_bytes texts.now.due }
+    ensures queue { option_map (λ it. it.now) result.queue ≡ option_map (λ stay. traces.queue_name line.now.names.now stay.queue)
+        (option_and_then (λ slot. slot.stay) (option_and_then (λ it. it.now.slot) line.now.numbers)) }
+    ensures waits { (result.waited ≡ option_and_then (λ it. following.waited it.now) line.now.numbers) × (result.late ≡ option_and_then (λ it. following.slot_lateness it.now) line.now.numbers) }
+    ensures slot { let slot = option_and_then (λ it. it.now.slot) line.now.numbers in
+        (result.ahead ≡ option_map (λ it. it.ahead) slot) × (result.overtakers ≡ option_map (λ it. it.overtakers) slot) × (result.window ≡ option_map (λ it. it.window) slot) }
+    ensures stay { let slot = option_and_then (λ it. it.now.slot) line.now.numbers in
+        let stay = option_and_then (λ it. it.stay) slot in
+        (result.direct ≡ (is_some slot && not (is_some stay))) × (result.since_window ≡ option_map (λ it. it.window) stay) }
+    ensures tries { (result.retries ≡ option_map_or (λ it. retries it.now) line.now.numbers 0) × (result.redispatched ≡ option_map_or (λ it. is_redispatched it.now) line.now.numbers false) }
+    ensures left { option_map (λ it. it.now) result.left ≡ option_map string_bytes texts.now.left }
+    ensures load { (result.clients ≡ line.now.account.now.clients) × (result.served ≡ line.now.load.all) × (result.served_by_server ≡ line.now.load.own) }
+{
     let account = line.account;
     let spans = line.spans();
     let slot = slot_of(line.numbers);
@@ -184,7 +215,9 @@ fn request_of<'a>(texts: &'a Texts, line: &'a Line) -> Request<'a> {
     }
 }
 
-fn word(text: &Option<String>) -> Option<&str> {
+fn word(text: &Option<String>) -> Option<&str>
+    ensures { option_map (λ it. it.now) result ≡ option_map string_bytes text.now }
+{
     match text {
         None => None,
         Some(text) => Some(text.as_str()),

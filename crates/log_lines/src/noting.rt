@@ -30,8 +30,7 @@ impl ProxyNumbers {
 
     /// Counts the end of a window.
     pub fn roll(&mut self)
-        ensures window { (self.new.entries ≡ 0) × (self.new.windows ≡ one_more self.old.windows) }
-        ensures same { (self.new.live ≡ self.old.live) × (self.new.lost ≡ self.old.lost) × (self.new.refused ≡ self.old.refused) }
+        ensures { self.new ≡ record self.old { entries = 0; windows = one_more self.old.windows } }
     {
         self.entries = 0;
         self.windows = self.windows.saturating_add(1);
@@ -82,7 +81,7 @@ impl ProxyNumbers {
 
     /// Adds what was left uncounted since the last call.
     pub fn lose(&mut self, lost: Lost)
-        ensures { self.new.lost ≡ both_lost self.old.lost lost }
+        ensures { self.new ≡ record self.old { lost = both_lost self.old.lost lost } }
     {
         self.lost = self.lost.and(lost);
     }

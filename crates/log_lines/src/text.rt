@@ -1,7 +1,13 @@
 //! A line in the form of HAProxy's `option httplog`, with the dispatcher's own fields after the quoted request.
 
+ghost use Rattle.std.specs.Prelude.{◌≡◌, ◌++◌, false, OnOk, codes, string_bytes};
+ghost use Rattle.std.specs.Option.{option_map, option_map_or, option_and_then};
+ghost use Rattle.log_lines.specs.Fields as fields;
+ghost use Rattle.log_lines.specs.LineTexts as texts;
+ghost use Rattle.log_texts.specs.Traces as traces;
+
 use crate::dates::{Dates, signed};
-use crate::fields::{Line, push_escaped};
+use crate::fields::{Line, Load, push_escaped};
 use crate::json::{push_json, push_lost_json};
 use crate::letters::cause_told;
 use crate::numbers::{Numbers, SlotNumbers};
@@ -73,42 +79,87 @@ fn push_head(text: &mut String, dates: &mut Dates, line: &Line) -> Result<(), Al
     write!(text, "] in out/{} ", line.server())
 }
 
-fn push_times(text: &mut String, line: &Line) -> Result<(), AllocError> {
+fn push_times(text: &mut String, line: &Line) -> Result<(), AllocError>
+    ensures { OnOk result (string_bytes text.new ≡ string_bytes text.old ++ texts.times_text (fields.spans_of line.now.account.now.moments)) }
+{
     let spans = line.spans();
-    for span in [spans.request, spans.wait, spans.connect, spans.answer] {
-        match span {
-            Some(span) => write!(text, "{span}/")?,
-            None => text.push_str("-1/")?,
-        }
-    }
+    push_span(text, spans.request)?;
+    push_span(text, spans.wait)?;
+    push_span(text, spans.connect)?;
+    push_span(text, spans.answer)?;
     write!(text, "{} ", spans.all)
 }
 
-fn push_outcome(text: &mut String, line: &Line) -> Result<(), AllocError> {
+fn push_span(text: &mut String, span: Option<u64>) -> Result<(), AllocError>
+    ensures { OnOk result (string_bytes text.new ≡ string_bytes text.old ++ (texts.number_text span ++ codes "/")) }
+{
+    match span {
+        Some(span) => write!(text, "{span}/"),
+        None => text.push_str("-1/"),
+    }
+}
+
+fn push_outcome(text: &mut String, line: &Line) -> Result<(), AllocError>
+    ensures { OnOk result (string_bytes text.new ≡ string_bytes text.old ++ texts.outcome_text line.now.account.now.status line.now.account.now.sent line.now.account.now.ended) }
+{
     let account = line.account;
     let (by, during) = account.ended.letters();
-    match account.status {
-        Some(status) => write!(text, "{status} ")?,
-        None => text.push_str("-1 ")?,
-    }
+    push_status(text, account.status)?;
     write!(text, "{} - - {by}{during}-- ", account.sent)
 }
 
-fn push_load(text: &mut String, line: &Line) -> Result<(), AllocError> {
-    let clients = line.account.clients;
-    let load = line.load;
-    let retries = line.retries();
-    let sign = if line.is_redispatched() { "+" } else { "" };
-    let (own, backend) = ahead(line.numbers);
-    write!(
-        text,
-        "{clients}/{clients}/{}/{}/{sign}{retries} {own}/{backend} ",
-        load.all, load.own
-    )
+fn push_status(text: &mut String, status: Option<u16>) -> Result<(), AllocError>
+    ensures { OnOk result (string_bytes text.new ≡ string_bytes text.old ++ (texts.number_text status ++ codes " ")) }
+{
+    match status {
+        Some(status) => write!(text, "{status} "),
+        None => text.push_str("-1 "),
+    }
+}
+
+fn push_load(text: &mut String, line: &Line) -> Result<(), AllocError>
+    ensures { let redispatched = option_map_or (λ it. fields.is_redispatched it.now) line.now.numbers false in
+        let retries = option_map_or (λ it. fields.retries it.now) line.now.numbers 0 in
+        let ahead = option_map_or fields.ahead_of (option_and_then (λ it. it.now.slot) line.now.numbers) (0, 0) in
+        OnOk result (string_bytes text.new ≡ string_bytes text.old ++ (texts.counts_text line.now.account.now.clients line.now.load ++ texts.tries_text redispatched retries ahead)) }
+{
+    push_counts(text, line.account.clients, line.load)?;
+    let ahead = ahead(line.numbers);
+    push_tries(text, line.is_redispatched(), line.retries(), ahead)
+}
+
+// Writes how many clients and requests there are.
+fn push_counts(text: &mut String, clients: u64, load: Load) -> Result<(), AllocError>
+    ensures { OnOk result (string_bytes text.new ≡ string_bytes text.old ++ texts.counts_text clients load) }
+{
+    let Load { all, own } = load;
+    write!(text, "{clients}/{clients}/{all}/{own}/")
+}
+
+// Writes how many further tries were made, and how many requests went before it.
+fn push_tries(
+    text: &mut String,
+    redispatched: bool,
+    retries: u32,
+    ahead: (usize, usize),
+) -> Result<(), AllocError>
+    ensures { OnOk result (string_bytes text.new ≡ string_bytes text.old ++ texts.tries_text redispatched retries ahead) }
+{
+    let (own, backend) = ahead;
+    let sign = sign_of(redispatched);
+    write!(text, "{sign}{retries} {own}/{backend} ")
+}
+
+fn sign_of(redispatched: bool) -> &'static str
+    ensures { result.now ≡ texts.sign_text redispatched }
+{
+    if redispatched { "+" } else { "" }
 }
 
 // Returns how many requests went before it from its server's queue, and from the backend's.
-fn ahead(numbers: Option<&Numbers>) -> (usize, usize) {
+fn ahead(numbers: Option<&Numbers>) -> (usize, usize)
+    ensures { result ≡ option_map_or fields.ahead_of (option_and_then (λ it. it.now.slot) numbers.entry) (0, 0) }
+{
     let Some(slot) = slot_of(numbers) else {
         return (0, 0);
     };
@@ -121,7 +172,9 @@ fn ahead(numbers: Option<&Numbers>) -> (usize, usize) {
     }
 }
 
-pub(crate) fn slot_of(numbers: Option<&Numbers>) -> Option<SlotNumbers> {
+pub(crate) fn slot_of(numbers: Option<&Numbers>) -> Option<SlotNumbers>
+    ensures { result ≡ option_and_then (λ it. it.now.slot) numbers.entry }
+{
     numbers?.slot
 }
 
@@ -182,7 +235,9 @@ fn push_wait(text: &mut String, line: &Line) -> Result<(), AllocError> {
 }
 
 /// Returns the queue of a stay: `*` is the backend's. `None` where there was no stay.
-pub(crate) fn queue_name<'a>(names: &'a Names, slot: &SlotNumbers) -> Option<&'a str> {
+pub(crate) fn queue_name<'a>(names: &'a Names, slot: &SlotNumbers) -> Option<&'a str>
+    ensures { option_map (λ name. name.now) result ≡ option_map (λ stay. traces.queue_name names.now stay.queue) slot.now.stay }
+{
     match slot.stay?.queue {
         Queue::Backend => Some("*"),
         Queue::Server(server) => Some(names.of(server)),

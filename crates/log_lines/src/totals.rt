@@ -123,14 +123,14 @@ impl ProxyNumbers {
 
     /// Notes that no more clients are accepted.
     pub fn stop(&mut self)
-        ensures { self.new.stopping ≡ true }
+        ensures { self.new ≡ record self.old { stopping = true } }
     {
         self.stopping = true;
     }
 
     /// Sets the number of requests that wait outside for a place.
     pub fn note_outside(&mut self, requests: u64)
-        ensures { self.new.outside ≡ requests }
+        ensures { self.new ≡ record self.old { outside = requests } }
     {
         self.outside = requests;
     }

@@ -11,4 +11,4 @@ mod tests;
 
 pub use log::{Access, Extent, Logs, RecordSink, RequestLog};
 pub use log_lines::CheckFailure;
-pub use scribe::{LogSubject, Scribe, base_of};
+pub use scribe::{LogSubject, Scribe, ScribeEnd, base_of};

@@ -1,3 +1,6 @@
+ghost use Rattle.std.specs.Prelude.{◌≡◌, true, IfOk, is_some};
+ghost use Rattle.log_requests.specs.Sinks.{AreUnwanted, IsLogOf};
+
 use crate::scribe::Scribe;
 use log_lines::{Account, CheckFailure, Format, Lost, ProxyNumbers};
 use log_sink::Sink;
@@ -80,31 +83,26 @@ pub struct RecordSink<'a> {
 impl RequestLog {
     /// Makes the logs of a proxy. There is a ring for each loop where exchanges are logged or
     /// counted. `None`: nothing is wanted.
-    pub fn new(
-        alloc: Global,
-        logs: Logs,
-        extent: Extent,
-    ) -> Result<Option<RequestLog>, AllocError> {
+    pub fn new(alloc: Global, logs: Logs, extent: Extent) -> Result<Option<RequestLog>, AllocError>
+        ensures { IfOk result (IsLogOf logs) }
+    {
+        if are_unwanted(&logs) {
+            return Ok(None);
+        }
         let Logs {
             access,
             events,
             numbers,
         } = logs;
-        if access.is_none() && events.is_none() && numbers.is_none() {
-            return Ok(None);
-        }
         let has_rings = access.is_some() || numbers.is_some();
         let count = if has_rings { extent.loops } else { 0 };
         let (rings, ends) = rings_of(alloc, count)?;
         let scribe = Scribe::new(alloc, ends, extent)?;
-        let mut failures = Vec::with_capacity(alloc, extent.servers)?;
-        for _ in 0..extent.servers {
-            failures.push(None)?;
-        }
+        let failures = no_failures(alloc, extent.servers)?;
         Ok(Some(RequestLog {
             access,
             events,
-            numbers: numbers.map(Mutex::new),
+            numbers: shared(numbers),
             rings: Mutex::new(rings),
             told: AtomicU64::new(0),
             scribe: Mutex::new(Some(scribe)),
@@ -237,6 +235,39 @@ impl RecordSink<'_> {
         if self.ring.push(NumberedRecord { number, account }).is_err() {
             self.log.lost.fetch_add(1, Ordering::SeqCst);
         }
+    }
+}
+
+// Says whether no log is wanted.
+fn are_unwanted(logs: &Logs) -> bool
+    ensures none { result ≡ true → AreUnwanted logs.now }
+{
+    match logs {
+        Logs {
+            access: None,
+            events: None,
+            numbers: None,
+        } => true,
+        _ => false,
+    }
+}
+
+// Returns a list in which no server's check has failed.
+fn no_failures(alloc: Global, servers: usize) -> Result<Vec<Option<CheckFailure>>, AllocError> {
+    let mut failures = Vec::with_capacity(alloc, servers)?;
+    for _ in 0..servers {
+        failures.push(None)?;
+    }
+    Ok(failures)
+}
+
+// Puts the counters behind a lock, where there are some.
+fn shared(numbers: Option<ProxyNumbers>) -> Option<Mutex<ProxyNumbers>>
+    ensures { is_some result ≡ is_some numbers }
+{
+    match numbers {
+        None => None,
+        Some(numbers) => Some(Mutex::new(numbers)),
     }
 }
 

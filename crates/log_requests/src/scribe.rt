@@ -1,3 +1,5 @@
+ghost use Rattle.std.specs.Prelude.{◌≡◌};
+
 use crate::log::{Access, Ends, Extent, RequestLog};
 use crate::tallies::Tallies;
 use locked_book::DeskName;
@@ -50,6 +52,13 @@ pub struct Scribe {
     stopping: bool,
 }
 
+/// What a scribe leaves that has ended. Only a scribe makes it.
+#[derive(Drop)]
+pub struct ScribeEnd {
+    lost: u64,
+    unsaid: u64,
+}
+
 /// Returns the wall clock at moment 0, in milliseconds since the Unix epoch; 0 where no clock can be read.
 pub fn base_of<R: Clock>(rt: &R, start: Instant) -> i64 {
     let passed = start.elapsed(rt).unwrap_or(Duration::from_millis(0));
@@ -98,12 +107,12 @@ impl Scribe {
         log: &RequestLog,
         desk: (&Desk<N>, &LogKey<N>),
         site: LogSubject<'_>,
-    ) {
+    ) -> ScribeEnd {
         let LogSubject { names, address } = site;
         let mut scribe = self;
         match desk.0.follow(rt, scribe.alloc, TAIL) {
             Ok(begun) => begun.forget(desk.1),
-            Err(_) => return,
+            Err(_) => return scribe.end(),
         }
         scribe.say(rt, log, names, ProxyEvent::Started);
         if let Some(address) = address {
@@ -123,6 +132,16 @@ impl Scribe {
         }
         scribe.say(rt, log, names, ProxyEvent::Stopped);
         log.note_untold(scribe.lost, scribe.unsaid);
+        scribe.end()
+    }
+
+    fn end(self) -> ScribeEnd
+        ensures { (result.lost ≡ self.lost) × (result.unsaid ≡ self.unsaid) }
+    {
+        ScribeEnd {
+            lost: self.lost,
+            unsaid: self.unsaid,
+        }
     }
 
     // Writes what has happened since the last call. Returns true where there may be more already.
@@ -461,3 +480,6 @@ fn line_of<'x>(
         load,
     }
 }
+
+#[cfg(test)]
+mod order;

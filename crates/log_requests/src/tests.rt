@@ -1,3 +1,5 @@
+mod reopening;
+
 use crate::tallies::Tallies;
 use due_key::Moment;
 use log_entries::{Entry, Queue};

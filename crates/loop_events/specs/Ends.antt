@@ -1,5 +1,5 @@
 -- The record of an exchange: what is noted, what ended it, and what was under way then.
-use Rattle.std.specs.Prelude.{ℕ, ◌==◌, Bool, true, false, ◌&&◌, not, [], Option, None, Some, option_map, box_value, is_none}
+use Rattle.std.specs.Prelude.{ℕ, ◌==◌, Bool, true, false, ◌&&◌, not, [], Option, None, Some, option_map, unwrap_or, box_value, is_none}
 use Rattle.base_verdict.specs.declared.cause.Cause.{Cause}
 use Rattle.base_verdict.specs.declared.cause.Cause.TheVariants.{Aborted, Timeout, Retries, NoServer}
 use Rattle.exchange_driver.specs.Meters.{tells}
@@ -10,6 +10,7 @@ use Rattle.exchange_seated.specs.declared.notice.Notice.{Notice}
 use Rattle.exchange_seated.specs.declared.notice.Notice.TheVariants.{Unserved, Connected, Unreachable, ClientEnd, ClientFailed, TimeOver}
 use Rattle.exchange_seated.specs.declared.seated.Stage.{Stage}
 use Rattle.exchange_seated.specs.declared.seated.Stage.TheVariants as stages
+use Rattle.log_lines.specs.Accounts.{ended_by, under_way}
 use Rattle.log_lines.specs.declared.account.Account.{Account}
 use Rattle.log_lines.specs.declared.letters.EndedBy.{EndedBy}
 use Rattle.log_lines.specs.declared.letters.EndedBy.TheVariants as by
@@ -41,6 +42,10 @@ answered_at now account = record account { moments = record account.moments { an
 -- the bytes that were read from the client and written to it so far, and the status that it was sent
 abbrev pub with_meter : Meter → Account → Account
 with_meter meter account = record account { received = meter.received; sent = meter.sent; status = tells meter [] }
+
+-- so many bytes were read from the client and written to it so far, and this status was sent
+abbrev pub learnt : ℕ → ℕ → Option ℕ → Account → Account
+learnt received sent status account = record account { received = received; sent = sent; status = status }
 
 -- it ended so
 abbrev pub end_of : EndedBy → During → ExchangeEnd
@@ -83,6 +88,27 @@ last_at stages.Waiting = None
 last_at stages.Dialing = None
 last_at stages.Forwarding = None
 last_at stages.Over = None
+
+-- what was under way in this stage
+abbrev pub during_in : Stage → Account → During
+during_in stage account = unwrap_or (last_at stage) (under_way account)
+
+-- the server was connected at this moment
+abbrev pub connected_at : ℕ → Account → Account
+connected_at now account = record account { moments = record account.moments { connected = Some now } }
+
+-- an end is noted or, where there is none, that the server was connected at this moment
+abbrev pub noted : Option ExchangeEnd → ℕ → Account → Account
+noted None now account = connected_at now account
+noted (Some end) now account = ended_by end account
+
+-- an event comes in this stage at this moment
+abbrev pub noticed : Notice → Stage → ℕ → Account → Account
+noticed notice stage now account = noted (notice_end notice (during_in stage account)) now account
+
+-- the server didn't answer, or not to the end
+abbrev pub unanswered : Account → Account
+unanswered account = ended_by (end_of by.Server (under_way account)) account
 
 -- a client that asked for nothing and was sent nothing has no line
 abbrev pub has_line : Account → Bool

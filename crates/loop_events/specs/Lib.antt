@@ -5,3 +5,5 @@ pub mod Ends
 pub mod Visits
 pub mod Told
 pub mod Shelves
+pub mod Silent
+pub mod Tasks

@@ -1,5 +1,5 @@
 -- Which timeout runs for a guest, and how the table of timeouts changes.
-use Rattle.std.specs.Prelude.{◌≡◌, ℕ, ◌/◌, min, max, Bool, true, false, ◌&&◌, if◌then◌else◌, nat_lt, ◌-◌, Option, None, Some, slice_get}
+use Rattle.std.specs.Prelude.{◌≡◌, ℕ, ◌/◌, min, max, Bool, true, false, ◌&&◌, if◌then◌else◌, nat_lt, ◌-◌, Option, None, Some}
 use Rattle.exchange_events.specs.declared.event.TimeoutKind.{TimeoutKind}
 use Rattle.exchange_events.specs.declared.event.TimeoutKind.TheVariants as Clocks
 use Rattle.loop_events.specs.declared.guest.Keyword.{Keyword}
@@ -7,8 +7,9 @@ use Rattle.loop_events.specs.declared.guest.Keyword.TheVariants.{Client, Connect
 use Rattle.loop_events.specs.declared.timing.Expiry.{Expiry}
 use Rattle.loop_events.specs.declared.timing.Expiry.TheVariants.{Told, Dials, Ends, Nothing}
 use Rattle.loop_events.specs.declared.timing.Keywords.{Keywords}
-use Rattle.loop_table.specs.Runs.{none_running, begun_once, touched, stopped}
-use Rattle.loop_table.specs.Timers.{Timeouts, timed, MayRun, Changes, ArePatient, sooner_of}
+use Rattle.loop_shared.specs.Timed.{IsTimed, Begins, Stops}
+use Rattle.loop_table.specs.Runs.{touched}
+use Rattle.loop_table.specs.Timers.{Timeouts, MayRun, Changes, ArePatient, sooner_of}
 use Rattle.proxy_config.specs.declared.parts.Config.{Config}
 use Rattle.run_gate.specs.Waits as waits
 
@@ -37,13 +38,6 @@ abbrev pub number_at : Keywords → Option Keyword → Option ℕ
 number_at keywords None = None
 number_at keywords (Some keyword) = number_of keywords keyword
 
--- The timeout of a setting has this number: at that the table has its milliseconds, and it runs for
--- no cell yet, and may for those below a bound. Without a setting it has no number.
-abbrev pub IsTimed : Timeouts → ℕ → Option ℕ → Option ℕ → Type 0
-IsTimed timers room None number = number ≡ None
-IsTimed timers room (Some millis) None = ⊥
-IsTimed timers room (Some millis) (Some number) = slice_get timers.timed number ≡ Some (timed millis (none_running room))
-
 -- how long an unused connection of a server stays open, in milliseconds, where any does
 abbrev pub unused_time : Option ℕ → Option ℕ
 unused_time None = None
@@ -59,19 +53,7 @@ pub record AreTimed (timers : Timeouts) (room : ℕ) (config : Config) (keeping 
   pub turnaround : IsTimed timers room (Some (waits.turnaround config.connect_timeout)) it.turnaround
   pub unused : IsTimed timers room (unused_time reusing) it.unused
 
--- the timeout with this number begins for a cell, where it may run for that; else nothing changes
-abbrev pub Begins : Timeouts → Timeouts → Option ℕ → ℕ → Type 0
-Begins old new None cell = new ≡ old
-Begins old new (Some number) cell =
-    (MayRun old number cell → Changes old new number (λ runs. begun_once runs cell old.clock)) × (¬ (MayRun old number cell) → new ≡ old)
-
--- it is stopped for a cell
-abbrev pub Stops : Timeouts → Timeouts → Option ℕ → ℕ → Type 0
-Stops old new None cell = new ≡ old
-Stops old new (Some number) cell =
-    (MayRun old number cell → Changes old new number (λ runs. stopped runs cell)) × (¬ (MayRun old number cell) → new ≡ old)
-
--- bytes moved: it begins anew for a cell, where it runs for that
+-- bytes moved: the timeout with this number begins anew for a cell, where it runs for that
 abbrev pub Touches : Timeouts → Timeouts → Option ℕ → ℕ → Type 0
 Touches old new None cell = new ≡ old
 Touches old new (Some number) cell =

@@ -59,9 +59,9 @@ redialed visit = let redials = redials_after visit.fresh visit.redials in record
   task = if nat_le redials 1 then tasks.Dial else tasks.GiveUp;
 }
 
--- this is to be done next
+-- this is to be done next; that the client sends no more counts no longer
 abbrev pub with_task : Visit → Task → Visit
-with_task visit task = record visit { task = task }
+with_task visit task = record visit { task = task; ended = false }
 
 -- what the poll watches of a socket once it is asked to watch reads, or both reads and writes; what it watches already stays
 abbrev pub watch_after : Watch → Bool → Watch

@@ -1,8 +1,9 @@
 //! A loop's records of its exchanges, where the operator wants lines of them.
 
-ghost use Rattle.std.specs.Prelude.{◌≡◌, ◌&&◌, ℕ, true, false, IsNone, IsSome, IfSome, IfOk, is_some, option_map, option_and_then};
+ghost use Rattle.std.specs.Prelude.{◌≡◌, ◌&&◌, ℕ, Option, true, false, None, IsNone, IsSome, IfSome, IfOk, is_some, option_map, option_and_then};
 ghost use Rattle.req_view.specs.Request.{version_of};
-ghost use Rattle.loop_events.specs.Ends.{account_of, with_ticket, has_come, begun_at, answered_at, with_meter, end_of, queue_end, cause_end, time_end, notice_end, last_at, has_line};
+ghost use Rattle.loop_events.specs.Ends.{account_of, with_ticket, has_come, begun_at, answered_at, with_meter, learnt, end_of, queue_end, cause_end, time_end, notice_end, last_at, noticed, unanswered, has_line};
+ghost use Rattle.log_lines.specs.Accounts.{ended_by, granted};
 
 use crate::guest::{Guest, Resident, Visit};
 use crate::looping::Looper;
@@ -70,7 +71,10 @@ impl<
     }
 
     /// Notes the server that the exchange was given to.
-    pub(crate) fn note_granted(&mut self, visit: &mut Visit, server: usize) {
+    pub(crate) fn note_granted(&mut self, visit: &mut Visit, server: usize)
+        ensures account { (now : ℕ) × (account_of visit.new.presence ≡ option_map (granted server now) (account_of visit.old.presence)) }
+        ensures others { visit.new ≡ record visit.old { presence = record visit.old.presence { account = visit.new.presence.account } } }
+    {
         if let Some(account) = &mut visit.presence.account {
             account.grant(server, self.gate.moment());
         }
@@ -112,7 +116,10 @@ impl<
     }
 
     /// Notes an event that may end the exchange.
-    pub(crate) fn note_notice(&mut self, visit: &mut Visit, stage: Stage, notice: &Notice) {
+    pub(crate) fn note_notice(&mut self, visit: &mut Visit, stage: Stage, notice: &Notice)
+        ensures account { (received : ℕ) × (sent : ℕ) × (status : Option ℕ) × (now : ℕ) × (account_of visit.new.presence ≡ option_map (λ it. noticed notice.now stage now (learnt received sent status it)) (account_of visit.old.presence)) }
+        ensures others { visit.new ≡ record visit.old { presence = record visit.old.presence { account = visit.new.presence.account } } }
+    {
         let Visit {
             presence,
             client,
@@ -122,10 +129,14 @@ impl<
             return;
         };
         learn(account, client);
-        let during = match last_at(stage) {
-            Some(during) => during,
-            None => account.under_way(),
-        };
+        self.note_event(account, stage, notice);
+    }
+
+    // Notes an event that comes in this stage.
+    fn note_event(&mut self, account: &mut Account, stage: Stage, notice: &Notice)
+        ensures { (now : ℕ) × (account.new ≡ noticed notice.now stage now account.old) }
+    {
+        let during = last_at(stage).unwrap_or(account.under_way());
         match notice_end(notice, during) {
             None => account.moments.connected = Some(self.gate.moment()),
             Some(end) => account.end_by(end.by, end.during),
@@ -139,15 +150,14 @@ impl<
         client: &Line<Live>,
         by: EndedBy,
         during: Option<During>,
-    ) {
+    )
+        ensures { presence.new ≡ record presence.old { account = None } }
+    {
         let Some(mut account) = presence.account.take() else {
             return;
         };
         learn(&mut account, client);
-        let during = match during {
-            Some(during) => during,
-            None => account.under_way(),
-        };
+        let during = during.unwrap_or(account.under_way());
         account.end_by(by, during);
         account.blame_request();
         self.tell_of(account);
@@ -207,7 +217,7 @@ pub(crate) fn note_come(presence: &mut Presence)
 
 // Adds the bytes that were read from the client and written to it so far.
 fn learn(account: &mut Account, client: &Line<Live>)
-    ensures { account.new ≡ record account.old { received = account.new.received; sent = account.new.sent; status = account.new.status } }
+    ensures { account.new ≡ learnt account.new.received account.new.sent account.new.status account.old }
 {
     if let Some(meter) = client.socket().and_then(|live| live.meter()) {
         take_counts(account, &meter);
@@ -243,7 +253,8 @@ pub(crate) fn note_ticket(presence: &mut Presence, at: Ticketed)
 
 /// Notes that the request is told this cause, whether its client has left, and whether the proxy stops.
 pub(crate) fn note_cause(presence: &mut Presence, cause: Cause, gone: bool, stops: bool)
-    ensures { presence.new ≡ record presence.old { account = presence.new.account } }
+    ensures account { account_of presence.new ≡ option_map (ended_by (cause_end cause gone stops)) (account_of presence.old) }
+    ensures others { presence.new ≡ record presence.old { account = presence.new.account } }
 {
     if let Some(account) = &mut presence.account {
         let end = cause_end(cause, gone, stops);
@@ -253,7 +264,8 @@ pub(crate) fn note_cause(presence: &mut Presence, cause: Cause, gone: bool, stop
 
 /// Notes that the request gets no place, since it waited too long, or since the proxy stops.
 pub(crate) fn note_refused(presence: &mut Presence, stops: bool)
-    ensures { presence.new ≡ record presence.old { account = presence.new.account } }
+    ensures account { account_of presence.new ≡ option_map (ended_by (queue_end stops)) (account_of presence.old) }
+    ensures others { presence.new ≡ record presence.old { account = presence.new.account } }
 {
     if let Some(account) = &mut presence.account {
         let end = queue_end(stops);
@@ -331,7 +343,10 @@ pub(crate) fn has_received(server: Option<&Live>) -> bool {
 }
 
 /// Notes that the server didn't answer, or not to the end.
-pub(crate) fn note_unanswered(visit: &mut Visit) {
+pub(crate) fn note_unanswered(visit: &mut Visit)
+    ensures account { (received : ℕ) × (sent : ℕ) × (status : Option ℕ) × (account_of visit.new.presence ≡ option_map (λ it. unanswered (learnt received sent status it)) (account_of visit.old.presence)) }
+    ensures others { visit.new ≡ record visit.old { presence = record visit.old.presence { account = visit.new.presence.account } } }
+{
     let Visit {
         presence,
         client,

@@ -8,7 +8,7 @@ use due_key::Moment;
 use exchange_seated::Linked;
 use locked_book::DeskName;
 use log_lines::{During, EndedBy};
-use loop_shared::{Admission, Outsider, OwedAdmission, Parked};
+use loop_shared::{Admission, Outsider, OwedAdmission, Parked, Refusing};
 use loop_table::Token;
 use prio_rules::Wish;
 use std::net::{Net, TcpListener, TcpStream};
@@ -26,7 +26,7 @@ impl<
         let mut owed = owed;
         for _ in self.rt.forever() {
             match self.shared.admit_first(self.rt, &mut self.gate, owed) {
-                Admission::Rests => return,
+                Admission::Rests(_) => return,
                 Admission::Admitted(outsider, at, left) => {
                     self.lay_down(outsider, at);
                     owed = left;
@@ -59,7 +59,7 @@ impl<
                 client,
                 at,
                 failed: None,
-                watched: false,
+                watched: None,
                 came: Some(came),
                 late: false,
             },
@@ -78,7 +78,7 @@ impl<
             pin: _,
         } = outsider;
         let mut presence = presence;
-        note_refused(&mut presence, self.shared.is_refusing());
+        note_refused(&mut presence, self.shared.seen_refusing().is_some());
         let Some(hole) = self.guests.open() else {
             self.tell_end(&mut presence, &client, EndedBy::Shortage, None);
             return self.shared.note_end(self.rt, presence);
@@ -101,7 +101,7 @@ impl<
 
     /// The poll reports a client that waits for a place. Where it has left, its request ends.
     pub(crate) fn hear_outside(&mut self, token: Token) {
-        if let Some(outsider) = self.shared.leave_outside(self.rt, token) {
+        if let Some((outsider, _left)) = self.shared.leave_outside(self.rt, token) {
             let mut outsider = outsider;
             self.tell_end(
                 &mut outsider.presence,
@@ -114,9 +114,9 @@ impl<
     }
 
     /// Tells all requests that wait for a place that they get none.
-    pub(crate) fn refuse_outside(&mut self) {
+    pub(crate) fn refuse_outside(&mut self, refusing: Refusing) {
         for _ in self.rt.forever() {
-            let Some(outsider) = self.shared.take_first(self.rt) else {
+            let Some(outsider) = self.shared.take_first(self.rt, refusing) else {
                 return;
             };
             self.refuse(outsider);

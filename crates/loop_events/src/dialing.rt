@@ -7,7 +7,7 @@ ghost use Rattle.exchange_seated.specs.Seats.{server_of};
 ghost use Rattle.loop_events.specs.Rests.{goes_on};
 ghost use Rattle.loop_events.specs.Visits.{redialed};
 
-use crate::guest::{Guest, Watch};
+use crate::guest::{Guest, Task, Watch};
 use crate::keeping::NextLook;
 use crate::looping::Looper;
 use crate::serving::MoreToDo;
@@ -125,6 +125,8 @@ impl<
     }
 
     fn tell_of_connection(&mut self, guest: Box<Guest<N>>, hole: Hole) -> MoreToDo<N> {
+        let mut guest = guest;
+        guest.visit.task = Task::Dial;
         let fresh = guest.visit.fresh;
         let terms = self.shared.terms(&guest.visit.presence, fresh);
         self.tell(guest, hole, Notice::Connected(terms))
@@ -139,6 +141,8 @@ impl<
         if let Some(number) = guest.linked.seated().server() {
             self.shared.front.addresses.look_again(self.rt, number);
         }
+        let mut guest = guest;
+        guest.visit.task = Task::GiveUp;
         self.tell(guest, hole, Notice::Unreachable)
     }
 

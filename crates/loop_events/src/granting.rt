@@ -91,7 +91,7 @@ impl<
             .look_at(self.rt, &self.registry, &mut self.gate, owed);
         match looked {
             Looked::Granted(granted) => Some(granted),
-            Looked::Waits | Looked::Unwatched(_) | Looked::Nobody => None,
+            Looked::Waits | Looked::Unwatched(_) | Looked::Nobody(_) => None,
             Looked::NoSeat(owed) => {
                 self.shared.look_again(self.rt, self.home, owed);
                 None
@@ -155,7 +155,7 @@ impl<
                 self.as_guest(linked, visit, hole)
             }
             Verdict::Told(cause) => {
-                let stops = self.shared.is_refusing();
+                let stops = self.shared.seen_refusing().is_some();
                 note_cause(&mut visit.presence, cause, !late, stops);
                 self.give_back(taken);
                 let linked = Linked::unseated(self.settings.alloc, queued);

@@ -5,9 +5,10 @@
 //! it closes its side. An unused connection of a server has a cell too, so that the poll can report
 //! it.
 
-ghost use Rattle.std.specs.Prelude.{◌≡◌, ◌&&◌, true, false};
+ghost use Rattle.std.specs.Prelude.{◌≡◌, ◌&&◌};
 ghost use Rattle.exchange_events.specs.Chains as chains;
 ghost use Rattle.exchange_seated.specs.Seats.{stage_of};
+ghost use Rattle.loop_events.specs.Silent.{is_silent};
 ghost use Rattle.loop_events.specs.Visits.{new_visit, without_server, renewed, redialed, watch_after};
 
 use crate::resetting::reset;
@@ -88,6 +89,8 @@ pub(crate) enum Task {
     GiveUp,
     /// End it: its client sends no more, and doesn't wait for an answer.
     Leave,
+    /// End it: its client's connection broke.
+    Fail,
 }
 
 /// What the poll watches of a socket.
@@ -124,9 +127,7 @@ pub(crate) enum Resident<N: BoardName + Ledger> {
 impl<N: BoardName + Ledger> Resident<N> {
     /// Says whether it is a client between two requests, or an unused connection of a server.
     pub(crate) fn is_silent(&self) -> bool
-        ensures lingering { (it : _) → self.now ≡ Resident.Lingering it → result ≡ false }
-        ensures unused { (it : _) → self.now ≡ Resident.Unused it → result ≡ true }
-        ensures guest { (it : _) → self.now ≡ Resident.Guest it → result ≡ (it.value.visit.asked_before && chains.is_silent it.value.linked.seated.exchange) }
+        ensures { result ≡ is_silent self.now }
     {
         match self {
             Resident::Lingering(_) => false,

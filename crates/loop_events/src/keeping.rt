@@ -3,7 +3,8 @@
 ghost use Rattle.std.specs.Prelude.{◌≡◌, ◌<◌, ◌||◌, true, MatchOption, Contains};
 ghost use Rattle.loop_table.specs.TokenTables.{IsOut, closed, filled};
 ghost use Rattle.loop_events.specs.Rests.{goes_on};
-ghost use Rattle.loop_events.specs.Timeouts.{number_at, Stops};
+ghost use Rattle.loop_events.specs.Timeouts.{number_at};
+ghost use Rattle.loop_shared.specs.Timed.{Stops};
 ghost use Rattle.loop_events.specs.Visits.{watch_after};
 
 use crate::accounting::last_at;
@@ -134,11 +135,12 @@ impl<
             Watch::Both => Interest::READABLE | Interest::WRITABLE,
             Watch::Nothing | Watch::Reads => Interest::READABLE,
         };
-        if before == Watch::Nothing {
+        let watched = if before == Watch::Nothing {
             watch(&self.registry, connection, subject, interest)
         } else {
             watch_anew(&self.registry, connection, subject, interest)
-        }
+        };
+        watched.is_some()
     }
 
     /// Puts the occupant of a cell back there.

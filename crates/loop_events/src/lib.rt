@@ -21,6 +21,7 @@ mod looping;
 mod parking;
 mod resetting;
 mod reusing;
+mod rooms;
 mod serving;
 mod threads;
 mod timing;

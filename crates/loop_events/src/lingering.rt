@@ -4,7 +4,8 @@
 
 ghost use Rattle.std.specs.Prelude.{◌≡◌, ◌-◌};
 ghost use Rattle.loop_table.specs.TokenTables.{IsOut, closed};
-ghost use Rattle.loop_events.specs.Timeouts.{number_of, Stops, lingers_on};
+ghost use Rattle.loop_events.specs.Timeouts.{number_of, lingers_on};
+ghost use Rattle.loop_shared.specs.Timed.{Stops};
 
 use crate::guest::{Guest, Keyword, Lingering, Resident, Visit};
 use crate::looping::Looper;
@@ -115,7 +116,7 @@ impl<
         let connection = lingering.client.stream().as_raw_fd();
         let subject = Subject::Client(hole.token());
         if self.lingering <= self.most_lingering
-            && watch(&self.registry, connection, subject, Interest::READABLE)
+            && watch(&self.registry, connection, subject, Interest::READABLE).is_some()
         {
             self.lay(Resident::Lingering(lingering), hole);
         } else {

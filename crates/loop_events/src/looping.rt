@@ -188,13 +188,16 @@ impl<
     fn open_mail(&mut self) {
         let owed = self.shared.take_mail(self.rt, self.home);
         owed.put_off(&mut self.gate);
-        if self.shared.is_stopping() {
+        if let Some(stopping) = self.shared.seen_stopping() {
             self.more = true;
-            self.dismiss_silent();
+            self.dismiss_silent(stopping);
         }
         self.close_called_for();
-        if self.home == 0 && self.shared.is_refusing() {
-            self.refuse_waiting();
+        if self.home != 0 {
+            return;
+        }
+        if let Some(refusing) = self.shared.seen_refusing() {
+            self.refuse_waiting(refusing);
         }
     }
 }

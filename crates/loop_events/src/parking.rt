@@ -34,7 +34,7 @@ impl<
 
     fn enter(&mut self, queued: WaitingExchange, visit: Visit, hole: Hole) -> MoreToDo<N> {
         let mut visit = visit;
-        if self.shared.is_refusing() {
+        if self.shared.seen_refusing().is_some() {
             self.note_asked(&mut visit, queued.view(), None);
             return self.turn_away(queued, visit, hole);
         }
@@ -118,7 +118,7 @@ impl<
                 client,
                 at,
                 failed: None,
-                watched: false,
+                watched: None,
                 came: None,
                 late: false,
             },
@@ -161,7 +161,7 @@ impl<
                         client,
                         at,
                         failed: tried,
-                        watched: false,
+                        watched: None,
                         came,
                         late: false,
                     },
@@ -180,7 +180,7 @@ impl<
 
     /// The poll reports a client whose request waits. Where it has left, its request is aborted.
     pub(crate) fn hear_waiting(&mut self, place: usize, ticket: u64) {
-        if self.shared.lies_left(self.rt, place, ticket) {
+        if self.shared.lies_left(self.rt, place, ticket).is_some() {
             let _ = self.shared.proxy.give_up(self.rt, &mut self.gate, ticket);
             self.go_on();
         }

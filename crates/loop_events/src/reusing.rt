@@ -8,7 +8,8 @@ ghost use Rattle.std.specs.Bool.{OnTrue, OnFalse};
 ghost use Rattle.std.specs.Prelude.{◌≡◌, ◌≢◌, ◌<◌, ◌+◌, ◌-◌, ℕ, [], ◌∷◌, ◌++◌, true, length, slice_get, MatchOption, IfOk};
 ghost use Rattle.loop_table.specs.TokenTables.{IsOut, closed};
 ghost use Rattle.loop_events.specs.Shelves.{shelf_at, without};
-ghost use Rattle.loop_events.specs.Timeouts.{number_of, Stops};
+ghost use Rattle.loop_events.specs.Timeouts.{number_of};
+ghost use Rattle.loop_shared.specs.Timed.{Stops};
 
 use crate::accounting::note_unanswered;
 use crate::guest::{Guest, Keyword, Resident, break_off};
@@ -143,7 +144,7 @@ impl<
     // the system is short.
     fn set_aside(&mut self, unused: Unused<Live>) {
         let server = unused.server();
-        if self.shared.is_stopping() || !self.shared.note_unused(server) {
+        if self.shared.seen_stopping().is_some() || !self.shared.note_unused(server) {
             return;
         }
         let Some(hole) = self.guests.open() else {
@@ -152,7 +153,7 @@ impl<
         let token = hole.token();
         let descriptor = unused.socket().stream().as_raw_fd();
         let subject = Subject::Server(token);
-        let is_kept = watch_anew(&self.registry, descriptor, subject, Interest::READABLE)
+        let is_kept = watch_anew(&self.registry, descriptor, subject, Interest::READABLE).is_some()
             && self.shelves.put(server, token);
         if !is_kept {
             self.guests.close(hole);
@@ -270,7 +271,7 @@ impl<
             Some(live) => {
                 let descriptor = live.stream().as_raw_fd();
                 let subject = Subject::Server(token);
-                watch_anew(&self.registry, descriptor, subject, Interest::READABLE)
+                watch_anew(&self.registry, descriptor, subject, Interest::READABLE).is_some()
             }
         }
     }

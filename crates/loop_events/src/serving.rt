@@ -1,8 +1,9 @@
 //! The events and results of a guest's exchange.
 
-ghost use Rattle.std.specs.Prelude.{◌≡◌, ◌&&◌, true};
-ghost use Rattle.exchange_seated.specs.Seats.{has_asked};
+ghost use Rattle.std.specs.Prelude.{◌≡◌, ◌||◌, true, Some};
+ghost use Rattle.exchange_seated.specs.Seats.{stage_of};
 ghost use Rattle.loop_events.specs.Rests.{goes_on};
+ghost use Rattle.loop_events.specs.Tasks.{MayTell, has_left, task_after, task_heard};
 ghost use Rattle.loop_events.specs.Told.{socket_events};
 ghost use Rattle.loop_events.specs.Visits.{with_task};
 
@@ -72,23 +73,27 @@ impl<
             Resident::Unused(unused) => self.lay(Resident::Unused(unused), hole),
             Resident::Guest(guest) => {
                 let mut guest = guest;
-                guest.visit.client.wake(told.reads, told.writes);
-                guest.visit.ended = guest.visit.ended || told.closed;
-                let then = if told.broken {
-                    self.tell(guest, hole, Notice::ClientFailed)
-                } else if self.has_left(&guest) {
-                    self.tell(guest, hole, Notice::ClientEnd)
-                } else {
-                    MoreToDo::Goes(guest, hole)
-                };
-                self.go(then);
+                self.note_told(&mut guest, told);
+                self.go(MoreToDo::Goes(guest, hole));
             }
         }
     }
 
+    // Notes at a guest what the poll tells of its client.
+    fn note_told(&self, guest: &mut Guest<N>, told: SocketEvents)
+        ensures exchange { guest.new.linked ≡ guest.old.linked }
+        ensures ended { guest.new.visit.ended ≡ (guest.old.visit.ended || told.closed) }
+        ensures task { guest.new.visit.task ≡ task_heard told.broken (has_left (guest.old.visit.ended || told.closed) self.now.settings.rules.aborts guest.old.linked.seated.exchange) guest.old.visit.task }
+        ensures others { guest.new.visit ≡ record guest.old.visit { client = guest.new.visit.client; ended = guest.new.visit.ended; task = guest.new.visit.task } }
+    {
+        guest.visit.client.wake(told.reads, told.writes);
+        guest.visit.ended = guest.visit.ended || told.closed;
+        guest.visit.task = task_heard(told.broken, self.has_left(guest), guest.visit.task);
+    }
+
     // Says whether a client sends no more and, under `option abortonclose`, waits for no answer.
     fn has_left(&self, guest: &Guest<N>) -> bool
-        ensures { result ≡ (guest.now.visit.ended && self.now.settings.rules.aborts && has_asked guest.now.linked.seated.exchange) }
+        ensures { result ≡ has_left guest.now.visit.ended self.now.settings.rules.aborts guest.now.linked.seated.exchange }
     {
         guest.visit.ended && self.settings.rules.aborts && guest.linked.seated().has_asked()
     }
@@ -145,6 +150,7 @@ impl<
             Task::Refuse => self.tell(guest, hole, Notice::Unserved),
             Task::GiveUp => self.tell_of_no_connection(guest, hole),
             Task::Leave => self.tell(guest, hole, Notice::ClientEnd),
+            Task::Fail => self.tell(guest, hole, Notice::ClientFailed),
         }
     }
 
@@ -161,7 +167,9 @@ impl<
     }
 
     /// Reports an event to a guest's exchange.
-    pub(crate) fn tell(&mut self, guest: Box<Guest<N>>, hole: Hole, notice: Notice) -> MoreToDo<N> {
+    pub(crate) fn tell(&mut self, guest: Box<Guest<N>>, hole: Hole, notice: Notice) -> MoreToDo<N>
+        requires { MayTell guest.value.visit.task notice }
+    {
         let Guest { linked, visit } = Box::into_inner(guest);
         let mut visit = visit;
         visit.task = Task::Serve;
@@ -223,33 +231,52 @@ impl<
 
     // Decides by its stage where a guest goes next.
     fn decide_next(&mut self, guest: Box<Guest<N>>, hole: Hole, soon: NextLook) -> MoreToDo<N> {
-        if self.has_left(&guest) {
-            let mut guest = guest;
-            guest.visit.ended = false;
-            return next(guest, hole, Task::Leave);
+        let stage = guest.stage();
+        if let Some(task) = task_after(self.has_left(&guest), stage) {
+            return self.next(guest, hole, task);
         }
-        match guest.stage() {
-            Stage::Asking | Stage::Forwarding => self.keep(guest, hole, soon),
-            Stage::Waiting => next(guest, hole, Task::Arrive),
-            Stage::Dialing => next(guest, hole, Task::Dial),
-            Stage::Telling => {
-                if guest.linked.seated().has_told() {
-                    self.end_or_ask_again(guest, hole)
-                } else {
-                    self.keep(guest, hole, soon)
-                }
-            }
-            Stage::Over => self.close(guest, hole),
+        if stage == Stage::Over {
+            return self.close(guest, hole);
         }
+        if stage == Stage::Telling && guest.linked.seated().has_told() {
+            return self.end_or_ask_again(guest, hole);
+        }
+        self.keep(guest, hole, soon)
+    }
+
+    // Sets the guest's next task. That its client sends no more is told once.
+    fn next(&self, guest: Box<Guest<N>>, hole: Hole, task: Task) -> MoreToDo<N>
+        requires { task_after (has_left guest.value.visit.ended self.now.settings.rules.aborts guest.value.linked.seated.exchange) (stage_of guest.value.linked.seated.exchange) ≡ Some task }
+        ensures goes { goes_on result ≡ true }
+        ensures guest { (it : _) (at : _) → result ≡ MoreToDo.Goes it at → (it.value ≡ record guest.value { visit = with_task guest.value.visit task }) × (at ≡ hole) }
+    {
+        let mut guest = guest;
+        guest.visit.ended = false;
+        guest.visit.task = task;
+        MoreToDo::Goes(guest, hole)
     }
 }
 
-// Sets the guest's next task.
-fn next<N: BoardName + Ledger>(guest: Box<Guest<N>>, hole: Hole, task: Task) -> MoreToDo<N>
-    ensures goes { goes_on result ≡ true }
-    ensures guest { (it : _) (at : _) → result ≡ MoreToDo.Goes it at → (it.value ≡ record guest.value { visit = with_task guest.value.visit task }) × (at ≡ hole) }
+// Returns what is to be done for a guest, where the poll told that its client's connection broke,
+// or where its client has left.
+fn task_heard(broken: bool, left: bool, task: Task) -> Task
+    ensures { result ≡ task_heard broken left task }
 {
-    let mut guest = guest;
-    guest.visit.task = task;
-    MoreToDo::Goes(guest, hole)
+    match (broken, left) {
+        (true, _) => Task::Fail,
+        (false, true) => Task::Leave,
+        (false, false) => task,
+    }
+}
+
+// Returns what is to be done next for a guest whose client has left, or which is in this stage.
+fn task_after(left: bool, stage: Stage) -> Option<Task>
+    ensures { result ≡ task_after left stage }
+{
+    match stage {
+        _ if left => Some(Task::Leave),
+        Stage::Waiting => Some(Task::Arrive),
+        Stage::Dialing => Some(Task::Dial),
+        Stage::Asking | Stage::Forwarding | Stage::Telling | Stage::Over => None,
+    }
 }

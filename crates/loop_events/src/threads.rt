@@ -9,20 +9,21 @@ ghost use Rattle.loop_table.specs.TokenTables.{fresh};
 
 use crate::looping::Looper;
 use crate::reusing::UnusedConnections;
+use crate::rooms::rooms_of;
 use crate::timing::Keywords;
 use due_key::Moment;
 use exchange_driver::Settings;
 use exchange_events::Rules;
 use locked_book::DeskName;
 use log_requests::RecordSink;
-use loop_shared::{Shared, SocketGate, run_checks, run_controls, run_windows};
+use loop_shared::{Shared, SocketGate, Stop, run_checks, run_controls, run_windows};
 use loop_table::{Agenda, Timers, TokenTable};
 use mio::Poll;
+use proxy_config::Config;
 use std::alloc::{AllocError, Global};
 use std::marker::Model;
 use std::net::{Net, TcpListener, TcpStream};
 use std::sync::Wait;
-use std::sync::atomic::{AtomicBool, Ordering};
 use std::sync::ledger::Ledger;
 use std::thread;
 use std::thread::{JoinHandle, Scope, Threads};
@@ -33,15 +34,6 @@ const BUFFER: usize = 16_384;
 
 /// The most moves of each direction of an exchange before the others get their turn.
 const TURNS: u32 = 4;
-
-/// The most guests of a loop.
-const MOST_GUESTS: u64 = 16_384;
-
-/// The most lingering clients of a loop.
-const MOST_LINGERING: u64 = 4096;
-
-/// The most unused connections of a loop.
-const MOST_UNUSED: u64 = 4096;
 
 /// A loop that hasn't started yet. Contracts see its number and its poll.
 #[derive(Drop)]
@@ -75,12 +67,12 @@ pub fn run_all<
     N: DeskName + Ledger + Send + Sync,
     S: Lends<N> + Sync,
 >(rt: &R, shared: &S, loops: Vec<UnstartedLoop>) {
-    let stop = AtomicBool::new(false);
-    let told = &stop;
+    let stop = Stop::new();
+    let stop = &stop;
     thread::scope(thread::scope_env(), rt, move |scope| {
         let mut loops = loops;
         let checking = if shared.lend().has_checks() {
-            let started = scope.spawn(move || run_checks(rt, shared.lend(), told));
+            let started = scope.spawn(move || run_checks(rt, shared.lend(), stop.view()));
             kept(rt, shared.lend(), started.ok())
         } else {
             None
@@ -99,7 +91,7 @@ pub fn run_all<
             }
         };
         begin_loops(scope, rt, shared, &mut loops);
-        told.store(true, Ordering::SeqCst);
+        stop.tell();
         join(rt, checking);
         join(rt, steering);
         join(rt, rolling);
@@ -185,21 +177,15 @@ fn looper<
     let Ok(registry) = poll.registry().try_clone() else {
         return Err(AllocError);
     };
-    let loops = shared.loops().max(1) as u64;
-    let most_lingering = (shared.most.lingering / loops).min(MOST_LINGERING);
-    let servers = shared.proxy.config.servers.len();
-    let most_unused = shared.most.unused.min(MOST_UNUSED);
-    let guests = shared.most.clients.min(MOST_GUESTS);
-    let room = (guests + most_lingering + most_unused) as usize;
+    let rooms = rooms_of(shared.most, shared.loops());
+    let room = rooms.guests + rooms.lingering + rooms.unused;
     let mut timers = Timers::new(alloc);
     let keywords = Keywords::of(alloc, shared.front, &mut timers, room)?;
-    let rules = Rules {
-        aborts: shared.proxy.config.abortonclose,
-    };
     let buffer = vec![in alloc; 0u8; BUFFER]?;
     let gate = SocketGate::new(alloc, rt, shared.front)?;
     let agenda = Agenda::with_room(alloc, room)?;
-    let shelves = UnusedConnections::empty(alloc, servers, most_unused as usize)?;
+    let servers = shared.proxy.config.servers.len();
+    let shelves = UnusedConnections::empty(alloc, servers, rooms.unused)?;
     let guests = TokenTable::with_room(alloc, room)?;
     Ok(Looper {
         rt,
@@ -207,11 +193,7 @@ fn looper<
         home,
         registry,
         gate,
-        settings: Settings {
-            alloc,
-            rules,
-            turns: TURNS,
-        },
+        settings: settings_of(alloc, &shared.proxy.config),
         guests,
         room,
         timers,
@@ -224,9 +206,22 @@ fn looper<
         tried: Moment::zero(),
         freed: None,
         lingering: 0,
-        most_lingering: most_lingering as usize,
+        most_lingering: rooms.lingering,
         teller: teller_of(rt, shared),
     })
+}
+
+// Returns the settings of a loop's exchanges.
+fn settings_of(alloc: Global, config: &Config) -> Settings
+    ensures { (result.rules.aborts ≡ config.now.abortonclose) × (result.turns ≡ 4) }
+{
+    Settings {
+        alloc,
+        rules: Rules {
+            aborts: config.abortonclose,
+        },
+        turns: TURNS,
+    }
 }
 
 // Makes the sink for a loop's records.

@@ -1,13 +1,14 @@
 //! The timeouts of a loop.
 
-ghost use Rattle.std.specs.Prelude.{◌≡◌, ◌≢◌, ℕ, Bool, true, false, Option, Some, [], IfOk, OnOk, OnErr, IsSome, IsNone};
+ghost use Rattle.std.specs.Prelude.{◌≡◌, ◌≢◌, Bool, true, false, Some, [], IfOk, IsSome, IsNone};
 ghost use Rattle.exchange_events.specs.Chains as chains;
 ghost use Rattle.exchange_events.specs.Steps as steps;
 ghost use Rattle.loop_table.specs.Timers.{sooner_of};
-ghost use Rattle.loop_events.specs.Timeouts.{timeout_for, number_of, number_at, IsTimed, AreTimed, unused_time, Begins, Stops, Touches, Turns, retry_of, look_of, IsWait, expiry_of};
+ghost use Rattle.loop_events.specs.Timeouts.{timeout_for, number_of, number_at, AreTimed, unused_time, Touches, Turns, retry_of, look_of, IsWait, expiry_of};
+ghost use Rattle.loop_shared.specs.Timed.{Begins, Stops};
 ghost use Rattle.run_gate.specs.Waits as waits;
 
-use crate::guest::{Guest, Keyword, Resident, Visit};
+use crate::guest::{Guest, Keyword, Resident, Task, Visit};
 use crate::keeping::NextLook;
 use crate::looping::Looper;
 use crate::serving::MoreToDo;
@@ -16,7 +17,7 @@ use exchange_events::TimeoutKind;
 use exchange_seated::{Notice, Seated};
 use grant_board::BoardName;
 use locked_book::DeskName;
-use loop_shared::{Gate, GateShared, GivenUpSet};
+use loop_shared::{Gate, GateShared, GivenUpSet, Refusing, timed};
 use loop_table::{Hole, Overdue, Timers};
 use std::alloc::{AllocError, Global};
 use std::net::{Net, TcpListener, TcpStream};
@@ -129,23 +130,6 @@ fn unused_time(reusing: Option<u64>) -> Option<u64>
     match reusing {
         None => None,
         Some(_) => Some(UNUSED),
-    }
-}
-
-// Adds the timeout of a setting to the table, where there is one. Those that are there stay.
-fn timed(
-    alloc: Global,
-    timers: &mut Timers,
-    millis: Option<u64>,
-    room: usize,
-) -> Result<Option<usize>, AllocError>
-    ensures number { IfOk result (λ number. IsTimed timers.new room millis number) }
-    ensures kept { OnOk result ((other number : Option ℕ) → IsTimed timers.old room other number → IsTimed timers.new room other number) }
-    ensures err { OnErr result (timers.new ≡ timers.old) }
-{
-    match millis {
-        None => Ok(None),
-        Some(millis) => Ok(Some(timers.add(alloc, millis, room)?)),
     }
 }
 
@@ -344,9 +328,9 @@ impl<
     }
 
     /// Tells all requests that wait for a place or for a pass that they aren't served.
-    pub(crate) fn refuse_waiting(&mut self) {
-        self.refuse_outside();
-        self.give_up(&GivenUpSet::All);
+    pub(crate) fn refuse_waiting(&mut self, refusing: Refusing) {
+        self.refuse_outside(refusing);
+        self.give_up(&GivenUpSet::All(refusing));
     }
 
     // Handles the timeout of a cell's occupant.
@@ -373,7 +357,10 @@ impl<
         let expiry = expiry_of(guest.visit.timer);
         guest.visit.timer = None;
         match expiry {
-            Expiry::Told(kind) => self.tell(guest, hole, Notice::TimeOver(kind)),
+            Expiry::Told(kind) => {
+                guest.visit.task = Task::Serve;
+                self.tell(guest, hole, Notice::TimeOver(kind))
+            }
             Expiry::Dials => {
                 guest.visit.pauses = false;
                 self.dial(guest, hole)

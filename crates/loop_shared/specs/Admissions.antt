@@ -47,4 +47,4 @@ module _ {C S : Type 0} where
       (deferred : Deferred) × (deferred.pin ≡ outsider.pin) × IsAdmittedLate terms setup deferred at × AsksPlace terms setup deferred (Ok at) before after
   Admits terms setup (Refused outsider owed) before after =
       (deferred : Deferred) × (refusal : Refusal) × (deferred.pin ≡ outsider.pin) × (refusal ≡ PlacesFull → ⊥) × AsksPlace terms setup deferred (Err refusal) before after
-  Admits terms setup Rests before after = (after ≡ before) ⊎ ((deferred : Deferred) × AsksPlace terms setup deferred (Err PlacesFull) before after)
+  Admits terms setup (Rests nothing) before after = (after ≡ before) ⊎ ((deferred : Deferred) × AsksPlace terms setup deferred (Err PlacesFull) before after)

@@ -7,7 +7,7 @@ use Rattle.loop_shared.specs.declared.parked.Parked.{Parked}
 -- It isn't given up yet, and all are to be; or it had to wait for its place, and came at least this
 -- number of milliseconds before this moment.
 abbrev pub IsHopeless : Parked → GivenUpSet → Type 0
-IsHopeless it All = it.late ≡ false
+IsHopeless it (All refusing) = it.late ≡ false
 IsHopeless it (Late now millis) = (it.late ≡ false) × MatchOption it.came ⊥ (λ came. millis ≤ now - came)
 
 -- The request of a cell is given up and noted as such, and this is its ticket; or there is none, or

@@ -3,11 +3,13 @@ use Rattle.std.specs.Prelude.{◌≡◌, ℕ, Option, None, Some, slice_get}
 use Rattle.std.specs.Global.{Box}
 use Rattle.due_key.specs.declared.key.Key.{Key}
 use Rattle.locked_book.specs.declared.book.Deferred.{Deferred}
+use Rattle.loop_table.specs.Timers.{later_at}
 use Rattle.loop_table.specs.TokenTables.{Table, HasValue, IsVacantToken, table_with_open, lent, filled, closed}
 use Rattle.loop_table.specs.declared.token.Token.{Token}
 use Rattle.loop_shared.specs.declared.outside.Outside.{Outside}
 use Rattle.loop_shared.specs.declared.outside.Outsider.{Outsider}
 use Rattle.loop_shared.specs.declared.outside.Standing.{Standing}
+use Rattle.loop_shared.specs.Timed.{Begins}
 use Rattle.prio_rules.specs.declared.wish.Wish.{Wish}
 use Rattle.queue_outside.specs.Rooms.{outsider_key, came, left}
 
@@ -16,7 +18,8 @@ abbrev pub IsGoneOutside : Outside → Token → Type 0
 IsGoneOutside outside token = (standing : Box Standing) → ¬ (HasValue outside.standing token standing)
 
 -- A request came: it has a token that was free, and a key for its class, for the due date that its
--- coming and its offset make, and behind all that came before.
+-- coming and its offset make, and behind all that came before. Its timeout, where it has one, runs
+-- from its coming.
 pub record HasCome (old new : Outside) (wish : Wish) (outsider : Outsider) (token : Token) : Type 0 where
   pub key : Key
   pub keyed : key ≡ outsider_key old.order wish.class outsider.came wish.offset
@@ -25,6 +28,8 @@ pub record HasCome (old new : Outside) (wish : Wish) (outsider : Outsider) (toke
   pub standing : Box Standing
   pub holds : standing.value ≡ record { key = key; outsider = outsider }
   pub stands : new.standing ≡ filled (table_with_open old.standing token) token standing
+  pub timed : Begins (later_at old.timers outsider.came) new.timers old.patience token.index
+  pub patience : new.patience ≡ old.patience
 
 -- the request of this token went: it left the order with its key, and its cell is free
 pub record HasGone (old new : Outside) (token : Token) (outsider : Outsider) : Type 0 where
@@ -33,6 +38,7 @@ pub record HasGone (old new : Outside) (token : Token) (outsider : Outsider) : T
   pub held : standing.value.outsider ≡ outsider
   pub order : new.order ≡ left old.order standing.value.key
   pub closes : new.standing ≡ closed (lent old.standing token) token
+  pub patience : new.patience ≡ old.patience
 
 -- This is the first request in the order, and what it asks the dispatcher for: a place in its class,
 -- by its due date, at the server that it is pinned to.

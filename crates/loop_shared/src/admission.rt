@@ -4,23 +4,26 @@
 //! afterwards, so one of the two should find the other. No clause says that; it is argued here
 //! only.
 
-ghost use Rattle.std.specs.Prelude.{◌≡◌, true, false, Err, IfSome, IfNone, IfErr};
-ghost use Rattle.log_entries.specs.declared.refusal.Refusal.TheVariants.{PlacesFull};
-ghost use Rattle.loop_shared.specs.Admissions.{Admits, TakesFirst, FindsNoPlace};
+ghost use Rattle.std.specs.Prelude.{◌≡◌, IfErr, IfSome, IfNone};
+ghost use Rattle.loop_shared.specs.Admissions.{Admits};
+ghost use Rattle.loop_shared.specs.Outsides.{HasGone};
+ghost use Rattle.loop_table.specs.declared.subject.Subject.TheVariants as subjects;
 
+use crate::first_outside::{NothingToAdmit, admit_one};
+use crate::leaving::HasLeft;
 use crate::outside::{Outside, Outsider};
 use crate::owed_admission::OwedAdmission;
 use crate::shared::Shared;
+use crate::stopping::Refusing;
 use crate::watching::watch_anew;
 use dispatch_state::Ticketed;
 use due_key::Moment;
 use locked_book::DeskName;
-use log_entries::Refusal;
 use loop_table::{Subject, Token};
 use mio::{Interest, Registry};
 use prio_rules::Wish;
-use relay_workers::{Gate, Proxy, arrive_late};
-use run_gate::has_left;
+use proxy_config::Config;
+use relay_workers::Gate;
 use std::os::fd::AsRawFd;
 use std::sync::Wait;
 use std::sync::atomic::Ordering;
@@ -34,7 +37,7 @@ pub enum Admission {
     /// The dispatcher refuses it for another cause than want of places.
     Refused(Outsider, OwedAdmission),
     /// It waits on, or no request does.
-    Rests,
+    Rests(NothingToAdmit),
 }
 
 impl<N: DeskName + Ledger> Shared<'_, N> {
@@ -72,19 +75,23 @@ impl<N: DeskName + Ledger> Shared<'_, N> {
     ) -> Admission
         ensures { Admits N.terms N.setup result (G.notes gate.old) (G.notes gate.new) }
     {
-        if !self.has_outside() {
-            owed.end();
-            return Admission::Rests;
+        if let Some(nothing) = self.seen_nobody_outside() {
+            owed.end(&nothing);
+            return Admission::Rests(nothing);
         }
         let mut outside = self.outside.lock(rt);
-        let Some((outsider, arrived)) = admit_one(rt, self.proxy, gate, &mut *outside) else {
-            owed.end();
-            return Admission::Rests;
-        };
-        self.note_outside(&outside);
-        match arrived {
-            Ok(at) => Admission::Admitted(outsider, at, owed),
-            Err(_) => Admission::Refused(outsider, owed),
+        match admit_one(rt, self.proxy, gate, &mut *outside) {
+            Err(nothing) => {
+                owed.end(&nothing);
+                Admission::Rests(nothing)
+            }
+            Ok((outsider, arrived)) => {
+                self.note_outside(&outside);
+                match arrived {
+                    Ok(at) => Admission::Admitted(outsider, at, owed),
+                    Err(_) => Admission::Refused(outsider, owed),
+                }
+            }
         }
     }
 
@@ -107,7 +114,7 @@ impl<N: DeskName + Ledger> Shared<'_, N> {
                 if let Some(live) = outside.client(token) {
                     let connection = live.stream().as_raw_fd();
                     let subject = Subject::Outside(token);
-                    watch_anew(registry, connection, subject, Interest::READABLE);
+                    let _ = watch_anew(registry, connection, subject, Interest::READABLE);
                 }
                 Ok(OwedAdmission::new())
             }
@@ -115,22 +122,17 @@ impl<N: DeskName + Ledger> Shared<'_, N> {
     }
 
     /// Takes out a request whose client left. `None`: it waits on, or is gone already.
-    pub fn leave_outside<R: Wait>(&self, rt: &R, token: Token) -> Option<Outsider> {
+    pub fn leave_outside<R: Wait>(&self, rt: &R, token: Token) -> Option<(Outsider, HasLeft)>
+        ensures { IfSome result (λ it. it.1.subject ≡ subjects.Outside token) }
+    {
         let mut outside = self.outside.lock(rt);
-        let left = match outside.client(token) {
-            None => false,
-            Some(live) => has_left(live.stream().as_raw_fd(), self.front.config.abortonclose),
-        };
-        if !left {
-            return None;
-        }
-        let taken = outside.take(token);
+        let left = leave_one(&mut *outside, token, self.front.config)?;
         self.note_outside(&outside);
-        taken
+        Some(left)
     }
 
-    /// Takes out the first request.
-    pub fn take_first<R: Wait>(&self, rt: &R) -> Option<Outsider> {
+    /// Takes out the first request, since none is to be served.
+    pub fn take_first<R: Wait>(&self, rt: &R, _refusing: Refusing) -> Option<Outsider> {
         let mut outside = self.outside.lock(rt);
         let first = outside.take_first();
         self.note_outside(&outside);
@@ -146,32 +148,12 @@ impl<N: DeskName + Ledger> Shared<'_, N> {
     }
 }
 
-// Lets the first request outside arrive, with its class, its due date and its pin, and takes it out
-// unless all places are taken. `None`: it waits on, or nobody is first.
-fn admit_one<R: Wait, N: DeskName, G: Gate>(
-    rt: &R,
-    proxy: &Proxy<N>,
-    gate: &mut G,
-    outside: &mut Outside,
-) -> Option<(Outsider, Result<Ticketed, Refusal>)>
-    ensures some { IfSome result (λ it. TakesFirst N.terms N.setup outside.old outside.new it.0 it.1 (G.notes gate.old) (G.notes gate.new)) }
-    ensures none { IfNone result (FindsNoPlace N.terms N.setup outside.old (G.notes gate.old) (G.notes gate.new) × (outside.new ≡ outside.old)) }
+// Takes out the request of this token, where its client left.
+fn leave_one(outside: &mut Outside, token: Token, config: &Config) -> Option<(Outsider, HasLeft)>
+    ensures some { IfSome result (λ it. HasGone outside.old outside.new token it.0 × (it.1.subject ≡ subjects.Outside token)) }
+    ensures none { IfNone result (outside.new ≡ outside.old) }
 {
-    let (deferred, token) = outside.next()?;
-    let arrived = arrive_late(rt, proxy, gate, deferred);
-    if lacks_place(&arrived) {
-        return None;
-    }
-    match outside.take(token) {
-        None => unreachable!(),
-        Some(outsider) => Some((outsider, arrived)),
-    }
-}
-
-// Says whether a request was refused since all places are taken.
-fn lacks_place(arrived: &Result<Ticketed, Refusal>) -> bool
-    ensures full { result ≡ true → arrived.now ≡ Err PlacesFull }
-    ensures other { result ≡ false → arrived.now ≡ Err PlacesFull → ⊥ }
-{
-    matches!(arrived, Err(Refusal::PlacesFull))
+    let left = outside.left(token, config)?;
+    let outsider = outside.take(token)?;
+    Some((outsider, left))
 }

@@ -1,13 +1,13 @@
 //! Looks at places: the request that waits there, and its pass.
 
 ghost use Rattle.std.specs.Prelude.{◌≡◌, ◌<◌, IfSome, None, Some};
-ghost use Rattle.loop_shared.specs.Looks.{EndsLook, GivesUpUnwatched, LeavesWatched};
+ghost use Rattle.loop_shared.specs.Looks.{EndsLook, GivesUpUnwatched, IsLookAt, LeavesWatched};
 
 use crate::granted::GrantedRequest;
-use crate::owed::OwedLook;
+use crate::owed::{NobodyThere, OwedLook};
 use crate::parked::Parked;
 use crate::shared::Shared;
-use crate::watching::watch;
+use crate::watching::{Watched, nothing_to_watch, watch};
 use board_seats::{Lent, Taken};
 use dispatch_state::Ticketed;
 use grant_board::BoardName;
@@ -31,7 +31,7 @@ pub enum Looked<N: BoardName + Ledger> {
     /// It waits on, and no seat was idle to ask for its pass: a look is still owed.
     NoSeat(OwedLook),
     /// No request waits there.
-    Nobody,
+    Nobody(NobodyThere),
 }
 
 impl<N: DeskName + Ledger> Shared<'_, N> {
@@ -43,7 +43,8 @@ impl<N: DeskName + Ledger> Shared<'_, N> {
         gate: &mut G,
         owed: OwedLook,
     ) -> Looked<N>
-        ensures { GivesUpUnwatched N.terms N.setup result (G.notes gate.old) (G.notes gate.new) }
+        ensures unwatched { GivesUpUnwatched N.terms N.setup result (G.notes gate.old) (G.notes gate.new) }
+        ensures its { IsLookAt owed result }
     {
         let place = owed.place();
         let looked = self.look_in_cell(rt, registry, owed);
@@ -53,12 +54,11 @@ impl<N: DeskName + Ledger> Shared<'_, N> {
         looked
     }
 
-    fn look_in_cell<R: Wait>(&self, rt: &R, registry: &Registry, owed: OwedLook) -> Looked<N> {
+    fn look_in_cell<R: Wait>(&self, rt: &R, registry: &Registry, owed: OwedLook) -> Looked<N>
+        ensures { IsLookAt owed result }
+    {
         match self.cells.as_slice().get(owed.place()) {
-            None => {
-                owed.end();
-                Looked::Nobody
-            }
+            None => Looked::Nobody(owed.end_beyond::<N>()),
             Some(cell) => {
                 let mut cell = cell.lock(rt);
                 self.look_in(rt, registry, &mut *cell, owed)
@@ -76,9 +76,9 @@ impl<N: DeskName + Ledger> Shared<'_, N> {
     ) -> Looked<N>
         ensures { EndsLook owed cell.old cell.new result }
     {
-        let Some(parked) = cell.take() else {
-            owed.end();
-            return Looked::Nobody;
+        let (parked, owed) = match owed.find(cell) {
+            Err(nobody) => return Looked::Nobody(nobody),
+            Ok(found) => found,
         };
         let lent = self.seats.lock(rt).lend();
         match lent {
@@ -86,25 +86,18 @@ impl<N: DeskName + Ledger> Shared<'_, N> {
                 put_back(cell, parked);
                 Looked::NoSeat(owed)
             }
-            Some(lent) => {
-                owed.end();
-                match self.ask(rt, lent, parked.at) {
-                    Some(taken) => Looked::Granted(GrantedRequest { taken, parked }),
-                    None => keep_watched(registry, cell, parked),
-                }
-            }
+            Some(lent) => match self.ask(rt, owed, lent, parked.at) {
+                Some(taken) => Looked::Granted(GrantedRequest { taken, parked }),
+                None => keep_watched(registry, cell, parked),
+            },
         }
     }
 
     // Takes the pass of a place and a ticket, where it is offered. Otherwise the seat comes back.
-    fn ask<R: Wait>(&self, rt: &R, lent: Lent<N>, at: Ticketed) -> Option<Taken<N>>
+    fn ask<R: Wait>(&self, rt: &R, owed: OwedLook, lent: Lent<N>, at: Ticketed) -> Option<Taken<N>>
         ensures { IfSome result (λ taken. (taken.held.pass.place ≡ at.place) × (taken.held.pass.ticket ≡ at.ticket)) }
     {
-        if !self.has(at.place) {
-            self.return_seat(rt, lent);
-            return None;
-        }
-        match lent.take(self.proxy.desk.board(), at.place, at.ticket) {
+        match owed.ask(self.proxy.desk.board(), lent, at, self.has(at.place)) {
             Ok(taken) => Some(taken),
             Err(lent) => {
                 self.return_seat(rt, lent);
@@ -125,8 +118,8 @@ fn keep_watched<N: BoardName + Ledger>(
 {
     let mut parked = parked;
     let ticket = parked.at.ticket;
-    if parked.watched || watches(registry, &parked) {
-        parked.watched = true;
+    parked.watched = watched_by(registry, &parked);
+    if parked.watched.is_some() {
         put_back(cell, parked);
         Looked::Waits
     } else {
@@ -146,19 +139,19 @@ fn put_back(cell: &mut Option<Parked>, parked: Parked)
     }
 }
 
-// Registers the client of a waiting request with the poll of this registry. False where the system refuses that.
-fn watches(registry: &Registry, parked: &Parked) -> bool {
+// Has the poll of this registry watch the client of a waiting request, which some poll may watch
+// already. `None` where the system refuses that.
+fn watched_by(registry: &Registry, parked: &Parked) -> Option<Watched> {
+    if parked.watched.is_some() {
+        return parked.watched;
+    }
     let Some(live) = parked.client.socket() else {
-        return true;
+        return Some(nothing_to_watch(&parked.client));
     };
     let subject = Subject::Waiting {
         place: parked.at.place,
         ticket: parked.at.ticket,
     };
-    watch(
-        registry,
-        live.stream().as_raw_fd(),
-        subject,
-        Interest::READABLE,
-    )
+    let connection = live.stream().as_raw_fd();
+    watch(registry, connection, subject, Interest::READABLE)
 }

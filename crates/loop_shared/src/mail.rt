@@ -1,7 +1,7 @@
-use crate::owed::{OwedLook, OwedLooks};
-use base_places::{MOST_PLACES, PlaceSet};
+use crate::owed::OwedLook;
+use crate::owed_looks::OwedLooks;
+use base_places::PlaceSet;
 use mio::Waker;
-use std::mem;
 use std::sync::{Mutex, Wait};
 
 /// A loop's mailbox: the places that it is asked to look at.
@@ -14,11 +14,7 @@ pub struct Mailbox {
 impl Mailbox {
     /// Asks the loop to look at one more place.
     pub(crate) fn send<R: Wait>(&self, rt: &R, look: OwedLook) {
-        let place = look.place();
-        look.end();
-        if place < MOST_PLACES {
-            self.places.lock(rt).insert(place);
-        }
+        look.note(&mut *self.places.lock(rt));
         self.ring();
     }
 
@@ -30,6 +26,6 @@ impl Mailbox {
 
     /// Takes all places since the last call.
     pub(crate) fn take_all<R: Wait>(&self, rt: &R) -> OwedLooks {
-        OwedLooks::of(mem::replace(&mut *self.places.lock(rt), PlaceSet::new()))
+        OwedLooks::of_mail(&mut *self.places.lock(rt))
     }
 }

@@ -1,22 +1,28 @@
 //! Requests beyond the places. They wait by class and due date, those of all loops in one order,
 //! and the next free place goes to the first.
 
-ghost use Rattle.std.specs.Prelude.{◌≡◌, ◌⊎◌, ℕ, length, Option, IfOk, IfErr, IfSome, IfNone, MatchOption, None};
+ghost use Rattle.std.specs.Prelude.{◌≡◌, ◌⊎◌, ℕ, length, min, Option, IfOk, IfErr, IfSome, IfNone, None};
 ghost use Rattle.due_key.specs.declared.key.Key.{Key};
-ghost use Rattle.loop_table.specs.Runs.{begun_once, stopped};
-ghost use Rattle.loop_table.specs.Timers.{later_at, Changes, MayRun, AreQuiet, IsOverdueAt};
+ghost use Rattle.loop_table.specs.Timers.{later_at, AreQuiet, IsOverdueAt};
+ghost use Rattle.loop_table.specs.TokenTables.{fresh};
+ghost use Rattle.loop_table.specs.declared.subject.Subject.TheVariants as subjects;
 ghost use Rattle.loop_table.specs.declared.token.Token.{Token};
 ghost use Rattle.locked_book.specs.declared.book.Deferred.{Deferred};
 ghost use Rattle.loop_shared.specs.Outsides.{HasCome, HasGone, IsFirstOutside, IsGoneOutside, NobodyIsFirst};
+ghost use Rattle.loop_shared.specs.Timed.{IsTimed, Begins, Stops};
+ghost use Rattle.queue_outside.specs.Rooms.{nobody};
 
+use crate::leaving::{HasLeft, left};
 use crate::presence::Presence;
+use crate::timeouts::timed;
 use due_key::{Key, Moment};
 use exchange_driver::{Line, Live};
 use exchange_seated::WaitingExchange;
 use locked_book::Deferred;
-use loop_table::{Overdue, Timers, Token, TokenTable};
+use loop_table::{Overdue, Subject, Timers, Token, TokenTable};
 use pend_queue::ListQueue;
 use prio_rules::Wish;
+use proxy_config::Config;
 use queue_outside::OutsideOrder;
 use std::alloc::{AllocError, Global};
 
@@ -52,15 +58,13 @@ pub struct Outside {
 impl Outside {
     /// Makes an empty one, with room for all clients, each for this number of milliseconds.
     /// Fails only where memory is refused.
-    pub fn new(alloc: Global, clients: u64, millis: Option<u64>) -> Result<Outside, AllocError> {
-        let room = usize::try_from(clients)
-            .unwrap_or(MOST_OUTSIDE)
-            .min(MOST_OUTSIDE);
+    pub fn new(alloc: Global, clients: u64, millis: Option<u64>) -> Result<Outside, AllocError>
+        ensures empty { IfOk result (λ made. (made.order ≡ nobody (min clients 131072)) × (made.standing ≡ fresh (min clients 131072))) }
+        ensures timed { IfOk result (λ made. IsTimed made.timers (min clients 131072) millis made.patience) }
+    {
+        let room = room_for(clients);
         let mut timers = Timers::new(alloc);
-        let patience = match millis {
-            None => None,
-            Some(millis) => Some(timers.add(alloc, millis, room)?),
-        };
+        let patience = timed(alloc, &mut timers, millis, room)?;
         let order = OutsideOrder::with_room(alloc, room)?;
         let standing = TokenTable::with_room(alloc, room)?;
         Ok(Outside {
@@ -125,9 +129,7 @@ impl Outside {
     // Begins its timeout. The clock may not have been read for long.
     fn begin_time(&mut self, number: usize, now: Moment)
         ensures same { self.new ≡ record self.old { timers = self.new.timers } }
-        ensures limitless { self.old.patience ≡ None → self.new.timers ≡ later_at self.old.timers now }
-        ensures begun { IfSome self.old.patience (λ keyword. MayRun (later_at self.old.timers now) keyword number
-            → Changes (later_at self.old.timers now) self.new.timers keyword (λ runs. begun_once runs number (later_at self.old.timers now).clock)) }
+        ensures begins { Begins (later_at self.old.timers now) self.new.timers self.old.patience number }
     {
         self.timers.look_at_clock(now);
         if let Some(patience) = self.patience {
@@ -138,8 +140,7 @@ impl Outside {
     // Ends its timeout.
     fn end_time(&mut self, number: usize)
         ensures same { self.new ≡ record self.old { timers = self.new.timers } }
-        ensures limitless { self.old.patience ≡ None → self.new.timers ≡ self.old.timers }
-        ensures ended { IfSome self.old.patience (λ keyword. MayRun self.old.timers keyword number → Changes self.old.timers self.new.timers keyword (λ runs. stopped runs number)) }
+        ensures stops { Stops self.old.timers self.new.timers self.old.patience number }
     {
         if let Some(patience) = self.patience {
             self.timers.stop(patience, number);
@@ -167,6 +168,7 @@ impl Outside {
     pub(crate) fn take(&mut self, token: Token) -> Option<Outsider>
         ensures some { IfSome result (λ outsider. HasGone self.old self.new token outsider) }
         ensures none { IfNone result (IsGoneOutside self.old token × (self.new ≡ self.old)) }
+        ensures untimed { IfSome result (λ _. Stops self.old.timers self.new.timers self.old.patience token.index) }
     {
         let (standing, hole) = self.standing.lend(token)?;
         self.standing.close(hole);
@@ -190,6 +192,13 @@ impl Outside {
     pub(crate) fn client(&self, token: Token) -> Option<&Live> {
         let standing = self.standing.get(token)?;
         standing.outsider.client.socket()
+    }
+
+    /// Asks the system whether the client of a request that waits has left.
+    pub(crate) fn left(&self, token: Token, config: &Config) -> Option<HasLeft>
+        ensures { IfSome result (λ it. it.subject ≡ subjects.Outside token) }
+    {
+        left(self.client(token)?, Subject::Outside(token), config)
     }
 
     /// Takes out a request that has waited too long at this moment.
@@ -225,6 +234,15 @@ impl Outside {
         }
         standing.destroy_empty();
     }
+}
+
+// Returns the room for the requests of this number of clients.
+fn room_for(clients: u64) -> usize
+    ensures { result ≡ min clients 131072 }
+{
+    usize::try_from(clients)
+        .unwrap_or(MOST_OUTSIDE)
+        .min(MOST_OUTSIDE)
 }
 
 impl Outsider {

@@ -1,15 +1,21 @@
-//! Looks at places that are owed.
+//! A look at a place that is owed.
 //!
-//! Neither a look nor a set of looks has a `Drop`: a look ends where its place is looked at, or goes
-//! on to a loop's mailbox or its gate, so no caller forgets one.
+//! It has no `Drop`: it ends where its place is looked at, or goes on to a loop's mailbox or its
+//! gate, so no caller forgets one.
 
-ghost use Rattle.std.specs.Prelude.{◌≡◌, ◌≢◌, ◌<◌, ◌↔◌, ℕ, MatchOption};
-ghost use Rattle.loop_shared.specs.Looks.{OwesNoLook};
+ghost use Rattle.std.specs.Prelude.{◌≡◌, ◌<◌, ◌≤◌, ◌↔◌, ℕ, None, Some, IsTrue, IfOk, IfErr, vec_len};
 ghost use Rattle.base_places.specs.Sets.{Has};
 
+use crate::parked::Parked;
+use crate::shared::Shared;
 use base_places::{MOST_PLACES, PlaceSet};
+use board_seats::{Lent, Taken};
+use dispatch_state::Ticketed;
+use grant_board::{Board, BoardName};
+use locked_book::DeskName;
 use run_gate::SocketGate;
 use std::net::{Net, TcpListener, TcpStream};
+use std::sync::ledger::Ledger;
 use std::time::Clock;
 
 /// A look that is owed at a place.
@@ -17,9 +23,11 @@ pub struct OwedLook {
     place: usize,
 }
 
-/// The places at which looks are owed. It can be ended only once no look is.
-pub struct OwedLooks {
-    places: PlaceSet,
+/// Somebody looked at a place, and no request lay there.
+#[derive(Drop)]
+pub struct NobodyThere {
+    // It is private, so no other module makes one.
+    place: usize,
 }
 
 impl OwedLook {
@@ -36,12 +44,64 @@ impl OwedLook {
         self.place
     }
 
-    // Ends it: somebody looked, or was asked to.
-    pub(crate) fn end(self) {
-        let OwedLook { place: _ } = self;
+    // Takes out the request that lies in the cell of its place. Where none does, the look ends.
+    pub(crate) fn find(self, cell: &mut Option<Parked>) -> Result<(Parked, OwedLook), NobodyThere>
+        ensures found { IfOk result (λ it. (cell.old ≡ Some it.0) × (it.1 ≡ self)) }
+        ensures nobody { IfErr result (λ it. (cell.old ≡ None) × (it.place ≡ self.place)) }
+        ensures empty { cell.new ≡ None }
+    {
+        match cell.take() {
+            Some(parked) => Ok((parked, self)),
+            None => {
+                let OwedLook { place } = self;
+                Err(NobodyThere { place })
+            }
+        }
     }
 
-    /// Has the gate's loop look there later. A place beyond those of any board is no place.
+    // Ends it: its place is none of the board's.
+    pub(crate) fn end_beyond<N: BoardName>(self) -> NobodyThere
+        requires { N.terms.places ≤ self.place }
+        ensures { result.place ≡ self.place }
+    {
+        let OwedLook { place } = self;
+        NobodyThere { place }
+    }
+
+    // Asks the board for the pass of the request that lies at its place, and ends. A place that is
+    // none of the board's has no pass.
+    pub(crate) fn ask<N: BoardName + Ledger>(
+        self,
+        board: &Board,
+        lent: Lent<N>,
+        at: Ticketed,
+        is_place: bool,
+    ) -> Result<Taken<N>, Lent<N>>
+        requires same_board { board.now ≡ N.board }
+        requires place { IsTrue is_place ↔ (at.place < N.terms.places) }
+        ensures { IfOk result (λ taken. (taken.held.pass.place ≡ at.place) × (taken.held.pass.ticket ≡ at.ticket)) }
+    {
+        let OwedLook { place: _ } = self;
+        if is_place {
+            lent.take(board, at.place, at.ticket)
+        } else {
+            Err(lent)
+        }
+    }
+
+    // Adds its place to those at which a loop is asked to look. A place beyond those of any board
+    // is no place.
+    pub(crate) fn note(self, places: &mut PlaceSet)
+        ensures noted { self.place < 4096 → Has places.new self.place }
+        ensures kept { (place : ℕ) → Has places.old place → Has places.new place }
+    {
+        let OwedLook { place } = self;
+        if place < MOST_PLACES {
+            places.insert(place);
+        }
+    }
+
+    /// Has the gate's loop look there later.
     pub fn put_off<'a, R: Net<Listener = TcpListener, Stream = TcpStream> + Clock>(
         self,
         gate: &mut SocketGate<'a, R>,
@@ -49,61 +109,15 @@ impl OwedLook {
         ensures owed { self.place < 4096 → Has gate.new.woken self.place }
         ensures kept { (place : ℕ) → Has gate.old.woken place → Has gate.new.woken place }
     {
-        let OwedLook { place } = self;
         let mut places = PlaceSet::new();
-        if place < MOST_PLACES {
-            places.insert(place);
-        }
-        gate.add_woken(&places);
-    }
-}
-
-impl OwedLooks {
-    pub(crate) fn of(places: PlaceSet) -> OwedLooks
-        ensures { result.places ≡ places }
-    {
-        OwedLooks { places }
-    }
-
-    /// Takes the looks that a gate owes.
-    pub fn of_gate<'a, R: Net<Listener = TcpListener, Stream = TcpStream> + Clock>(
-        gate: &mut SocketGate<'a, R>,
-    ) -> OwedLooks
-        ensures taken { result.places ≡ gate.old.woken }
-        ensures none { OwesNoLook gate.new.woken }
-    {
-        OwedLooks {
-            places: gate.take_woken(),
-        }
-    }
-
-    /// Takes a look out. `None`: no look is owed.
-    pub fn next(&mut self) -> Option<OwedLook>
-        ensures none { MatchOption result (OwesNoLook self.old.places) (λ it. Has self.old.places it.place) }
-        ensures left { MatchOption result (self.new ≡ self.old) (λ it. (other : ℕ) → Has self.new.places other ↔ ((other ≢ it.place) × Has self.old.places other)) }
-    {
-        let Some(place) = self.places.next(0) else {
-            return None;
-        };
-        self.places.remove(place);
-        Some(OwedLook { place })
-    }
-
-    /// Has the gate's loop look at the places later.
-    pub fn put_off<'a, R: Net<Listener = TcpListener, Stream = TcpStream> + Clock>(
-        self,
-        gate: &mut SocketGate<'a, R>,
-    )
-        ensures owed { (place : ℕ) → Has self.places place → Has gate.new.woken place }
-        ensures kept { (place : ℕ) → Has gate.old.woken place → Has gate.new.woken place }
-    {
-        let OwedLooks { places } = self;
+        self.note(&mut places);
         gate.add_woken(&places);
     }
 
-    pub fn end(self)
-        requires { OwesNoLook self.places }
+    // Ends it: no loop has this number, so nobody looks.
+    pub(crate) fn end_without_loop<N: DeskName + Ledger>(self, _shared: &Shared<'_, N>, home: usize)
+        requires { vec_len _shared.now.mail ≤ home }
     {
-        let OwedLooks { places: _ } = self;
+        let OwedLook { place: _ } = self;
     }
 }

@@ -1,3 +1,4 @@
+use crate::first_outside::NothingToAdmit;
 use crate::stopping::Over;
 
 /// A place may have come free for a request that waits outside for one, so somebody has to look
@@ -15,16 +16,17 @@ impl OwedAdmission {
 
     /// Makes one of two: one look serves both.
     pub fn and(self, other: OwedAdmission) -> OwedAdmission {
-        other.end();
+        let OwedAdmission { seen: _ } = other;
         self
     }
 
     /// Ends it with its loop: nobody is admitted once the proxy has ended.
     pub fn end_last(self, _over: Over) {
-        self.end();
+        let OwedAdmission { seen: _ } = self;
     }
 
-    pub(crate) fn end(self) {
+    // Ends it: somebody looked outside.
+    pub(crate) fn end(self, _nothing: &NothingToAdmit) {
         let OwedAdmission { seen: _ } = self;
     }
 }

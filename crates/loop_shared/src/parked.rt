@@ -2,6 +2,8 @@ ghost use Rattle.std.specs.Prelude.{◌↔◌, IsTrue};
 ghost use Rattle.loop_shared.specs.Hopeless.{IsHopeless};
 
 use crate::presence::Presence;
+use crate::stopping::Refusing;
+use crate::watching::Watched;
 use dispatch_state::Ticketed;
 use due_key::Moment;
 use exchange_driver::{Line, Live};
@@ -16,7 +18,7 @@ pub struct Parked {
     /// The server that was last tried for it without success.
     pub failed: Option<usize>,
     /// Some loop's poll watches its client.
-    pub watched: bool,
+    pub watched: Option<Watched>,
     /// When it began to wait for its place, if it had to.
     pub came: Option<Moment>,
     /// It is given up, and its client is told so.
@@ -27,7 +29,7 @@ pub struct Parked {
 #[derive(Drop)]
 pub enum GivenUpSet {
     /// All.
-    All,
+    All(Refusing),
     /// Those that had to wait for their place, and came at least this number of milliseconds before this moment.
     Late { now: Moment, millis: u64 },
 }
@@ -56,7 +58,7 @@ impl Parked {
             return false;
         }
         match (hopeless, &self.came) {
-            (GivenUpSet::All, _) => true,
+            (GivenUpSet::All(_), _) => true,
             (GivenUpSet::Late { .. }, None) => false,
             (GivenUpSet::Late { now, millis }, Some(came)) => {
                 *millis <= now.get().saturating_sub(came.get())

@@ -37,9 +37,7 @@ fn poll_of<R: Net>(rt: &R, front: &GateShared<'_>) -> Option<(Poll, Mailbox)> {
     let registry = poll.registry();
     let waker = Waker::new(registry, Token(Subject::Mailbox.number()?)).ok()?;
     let listener = front.listener.as_raw_fd();
-    if !watch(registry, listener, Subject::Listener, Interest::READABLE) {
-        return None;
-    }
+    let _watched = watch(registry, listener, Subject::Listener, Interest::READABLE)?;
     let places = Mutex::new(PlaceSet::new());
     Some((poll, Mailbox { places, waker }))
 }

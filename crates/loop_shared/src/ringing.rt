@@ -1,17 +1,16 @@
 //! The thread that checks the servers, and how threads that aren't loops report places.
 
-use crate::owed::OwedLooks;
+use crate::owed_looks::OwedLooks;
 use crate::shared::Shared;
 use dispatch_reports::EndedWindow;
 use due_key::Moment;
 use grant_board::RelaySeat;
 use locked_book::DeskName;
-use relay_workers::{Gate, Slot, checker};
-use run_gate::{Pauses, SocketGate};
+use relay_workers::{Gate, Slot, StopView, checker};
+use run_gate::{Checked, HandedOver, Pauses, SocketGate};
 use shared_desk::Changed;
 use std::net::{Net, TcpListener, TcpStream};
 use std::sync::Wait;
-use std::sync::atomic::AtomicBool;
 use std::sync::ledger::Ledger;
 use std::time::Clock;
 
@@ -38,6 +37,10 @@ impl<
 
     type Server = TcpStream;
 
+    type Check = Checked;
+
+    type Receipt = HandedOver;
+
     fn next(&mut self) -> Option<TcpStream> {
         None
     }
@@ -58,7 +61,7 @@ impl<
         self.gate.posted(seat);
     }
 
-    fn probe(&mut self, server: usize) -> Option<bool> {
+    fn probe(&mut self, server: usize) -> Option<Checked> {
         self.gate.probe(server)
     }
 
@@ -70,8 +73,8 @@ impl<
         self.gate.moment()
     }
 
-    fn window<M: DeskName>(&mut self, window: EndedWindow, changed: Changed<M>) {
-        self.gate.window(window, changed);
+    fn window<M: DeskName>(&mut self, window: EndedWindow, changed: Changed<M>) -> HandedOver {
+        self.gate.window(window, changed)
     }
 
     fn wake<M: DeskName>(&mut self, changed: Changed<M>) {
@@ -85,12 +88,12 @@ pub fn run_checks<
     'a,
     R: Net<Listener = TcpListener, Stream = TcpStream> + Clock + Print + Wait,
     N: DeskName + Ledger,
->(rt: &'a R, shared: &'a Shared<'a, N>, stop: &AtomicBool) {
+>(rt: &'a R, shared: &'a Shared<'a, N>, stop: StopView<'_>) {
     let Ok(gate) = SocketGate::new(shared.proxy.alloc, rt, shared.front) else {
         shared.give_up(rt);
         return;
     };
     let mut gate = Ringing { rt, shared, gate };
     let mut pauses = Pauses::new(rt, CHECK_PAUSE, CHECK_PAUSES);
-    checker(rt, shared.proxy, &mut gate, &mut pauses, stop);
+    checker(rt, shared.proxy, &mut gate, &mut pauses, &stop);
 }

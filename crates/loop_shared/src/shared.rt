@@ -3,7 +3,8 @@ ghost use Rattle.std.specs.Prelude.{◌≡◌, ◌<◌, ◌≤◌, ◌↔◌, Is
 use crate::descriptors::ConnectionBounds;
 use crate::mail::Mailbox;
 use crate::outside::Outside;
-use crate::owed::{OwedLook, OwedLooks};
+use crate::owed::OwedLook;
+use crate::owed_looks::OwedLooks;
 use crate::parked::Parked;
 use crate::parked_cells::leave_all;
 use crate::presence::Presence;
@@ -205,7 +206,9 @@ impl<N: DeskName + Ledger> Shared<'_, N> {
         };
         Terms {
             adds: additions(asks, self.front.forwarded_for, presence.address()),
-            willing: self.front.keeping.is_some() && self.has_room() && !self.is_stopping(),
+            willing: self.front.keeping.is_some()
+                && self.has_room()
+                && self.seen_stopping().is_none(),
             fresh,
         }
     }
@@ -235,7 +238,7 @@ impl<N: DeskName + Ledger> Shared<'_, N> {
     pub fn look_again<R: Wait>(&self, rt: &R, home: usize, look: OwedLook) {
         match self.mail.as_slice().get(home) {
             Some(mail) => mail.send(rt, look),
-            None => look.end(),
+            None => look.end_without_loop(self, home),
         }
     }
 }

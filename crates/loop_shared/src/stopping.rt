@@ -9,6 +9,20 @@ use std::sync::Wait;
 use std::sync::atomic::Ordering;
 use std::sync::ledger::Ledger;
 
+/// The proxy accepts no more clients, except for those that waited at the listener.
+#[derive(Clone, Copy)]
+pub struct Stopping {
+    // It is private, so no other module makes one.
+    seen: (),
+}
+
+/// Waiting requests are told that they aren't served.
+#[derive(Clone, Copy)]
+pub struct Refusing {
+    // It is private, so no other module makes one.
+    seen: (),
+}
+
 /// The proxy has ended.
 #[derive(Clone, Copy)]
 pub struct Over {
@@ -28,14 +42,19 @@ impl<N: DeskName + Ledger> Shared<'_, N> {
         }
     }
 
-    pub fn is_stopping(&self) -> bool {
-        self.stopping.load(Ordering::SeqCst)
+    /// Says whether the proxy accepts no more clients.
+    pub fn seen_stopping(&self) -> Option<Stopping> {
+        if self.stopping.load(Ordering::SeqCst) {
+            Some(Stopping { seen: () })
+        } else {
+            None
+        }
     }
 
     /// Notes that no client waits at the listener. Where no more are accepted, the system refuses
     /// new connections from now on.
     pub fn note_nobody_comes(&self) {
-        if self.is_stopping() && !self.deaf.swap(true, Ordering::SeqCst) {
+        if self.seen_stopping().is_some() && !self.deaf.swap(true, Ordering::SeqCst) {
             let _ = shutdown(self.front.listener.as_raw_fd(), SHUT_RDWR);
         }
     }
@@ -53,8 +72,13 @@ impl<N: DeskName + Ledger> Shared<'_, N> {
         }
     }
 
-    pub fn is_refusing(&self) -> bool {
-        self.refusing.load(Ordering::SeqCst)
+    /// Says whether waiting requests are told that they aren't served.
+    pub fn seen_refusing(&self) -> Option<Refusing> {
+        if self.refusing.load(Ordering::SeqCst) {
+            Some(Refusing { seen: () })
+        } else {
+            None
+        }
     }
 
     /// Ends the proxy: each thread is told.

@@ -1,17 +1,19 @@
 //! Requests that wait at their places.
 
-ghost use Rattle.std.specs.Prelude.{◌≡◌};
+ghost use Rattle.std.specs.Prelude.{◌≡◌, IfSome, IsSomeAnd};
+ghost use Rattle.loop_table.specs.declared.subject.Subject.TheVariants as subjects;
 ghost use Rattle.loop_shared.specs.Hopeless.{NotesHopeless};
 ghost use Rattle.relay_workers.specs.Turning.{GivesUp};
 
+use crate::leaving::{HasLeft, left};
 use crate::owed::OwedLook;
 use crate::parked::{GivenUpSet, Parked};
 use crate::shared::Shared;
 use locked_book::DeskName;
 use log_entries::Refusal;
+use loop_table::Subject;
+use proxy_config::Config;
 use relay_workers::Gate;
-use run_gate::has_left;
-use std::os::fd::AsRawFd;
 use std::sync::Wait;
 use std::sync::atomic::Ordering;
 use std::sync::ledger::Ledger;
@@ -35,18 +37,16 @@ impl<N: DeskName + Ledger> Shared<'_, N> {
     }
 
     /// Says whether a ticket's request still lies at a place although its client has left.
-    pub fn lies_left<R: Wait>(&self, rt: &R, place: usize, ticket: u64) -> bool {
-        let Some(cell) = self.cells.as_slice().get(place) else {
-            return false;
-        };
-        let cell = cell.lock(rt);
-        match &*cell {
-            Some(parked) if parked.at.ticket == ticket => match parked.client.socket() {
-                Some(live) => has_left(live.stream().as_raw_fd(), self.front.config.abortonclose),
-                None => false,
-            },
-            _ => false,
-        }
+    pub fn lies_left<R: Wait>(&self, rt: &R, place: usize, ticket: u64) -> Option<HasLeft>
+        ensures { IfSome result (λ it. it.subject ≡ subjects.Waiting place ticket) }
+    {
+        let cell = self.cells.as_slice().get(place)?;
+        left_in(
+            &*cell.lock(rt),
+            Subject::Waiting { place, ticket },
+            ticket,
+            self.front.config,
+        )
     }
 
     /// Notes that a request waits. Where requests can time out and none waited before, the first loop is told.
@@ -137,6 +137,18 @@ fn note_hopeless(cell: &mut Option<Parked>, hopeless: &GivenUpSet) -> Option<u64
         Some(parked) if parked.is_hopeless(hopeless) => {
             parked.late = true;
             Some(parked.at.ticket)
+        }
+        _ => None,
+    }
+}
+
+// Asks the system whether the client of a cell's request has left, where that has this ticket.
+fn left_in(cell: &Option<Parked>, subject: Subject, ticket: u64, config: &Config) -> Option<HasLeft>
+    ensures { IfSome result (λ it. (it.subject ≡ subject) × IsSomeAnd cell.now (λ parked. parked.at.ticket ≡ ticket)) }
+{
+    match cell {
+        Some(parked) if parked.at.ticket == ticket => {
+            left(parked.client.socket()?, subject, config)
         }
         _ => None,
     }

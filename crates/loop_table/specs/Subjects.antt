@@ -20,6 +20,11 @@ abbrev pub IsTooLarge : Subject → Type 0
 IsTooLarge (Waiting place ticket) = (4096 ≤ place) ⊎ (2 ^ 40 ≤ ticket)
 IsTooLarge _ = ⊥
 
+-- where it is a request that waits, its place is one of the 4096
+abbrev pub IsPlaced : Subject → Type 0
+IsPlaced (Waiting place ticket) = place < 4096
+IsPlaced _ = Unit {0}
+
 -- no subject has the number that this kind has above this one
 abbrev pub NamesNone : ℕ → ℕ → Type 0
 NamesNone kind above = (kind < 2 → 0 < above) × (kind ≡ 2 → 2 ^ 60 ≤ above) × (kind ≡ 3 → 2 ^ 60 ≤ above) × (kind ≢ 4) × (kind ≡ 5 → 2 ^ 60 ≤ above)

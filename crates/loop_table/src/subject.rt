@@ -1,5 +1,5 @@
 ghost use Rattle.std.specs.Prelude.{◌≡◌, ◌<◌, ◌≤◌, ◌^◌, ◌/◌, ◌%◌, IfNone, IfSome};
-ghost use Rattle.loop_table.specs.Subjects.{subject_number, AreSame, IsTooLarge, NamesNone};
+ghost use Rattle.loop_table.specs.Subjects.{subject_number, AreSame, IsPlaced, IsTooLarge, NamesNone};
 ghost use Rattle.loop_table.specs.declared.subject.Subject.{Subject};
 
 use crate::token::{MOST_CELLS, Token};
@@ -50,6 +50,7 @@ impl Subject {
     /// Returns the subject with this number, if any.
     pub fn of(number: usize) -> Option<Subject>
         ensures some { IfSome result (λ subject. subject_number subject ≡ number) }
+        ensures placed { IfSome result IsPlaced }
         ensures none { IfNone result (NamesNone (number % 8) (number / 8)) }
     {
         let above = number / 8;

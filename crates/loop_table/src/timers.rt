@@ -1,4 +1,4 @@
-ghost use Rattle.std.specs.Prelude.{◌≡◌, length, MatchOption, IfOk, OnOk, OnErr, IsTrue, ◌↔◌};
+ghost use Rattle.std.specs.Prelude.{◌≡◌, length, take, MatchOption, IfOk, IfSome, OnOk, OnErr, IsTrue, ◌↔◌};
 ghost use Rattle.loop_table.specs.Runs.{none_running, begun_once, touched, stopped};
 ghost use Rattle.loop_table.specs.Timers.{none_timed, with_timed, timed, later_at, Changes, MayRun, AreQuiet, IsOverdueAt, ArePatient, sooner_of};
 
@@ -114,8 +114,10 @@ impl Timers {
         }
     }
 
-    /// Takes out a timeout that has expired now, the first of its keyword; `None` only where none has.
+    /// Takes out a timeout that has expired now, the first of the first keyword of which one has;
+    /// `None` only where none has.
     pub fn take_overdue(&mut self) -> Option<Overdue>
+        ensures first { IfSome result (λ it. AreQuiet self.old.clock (take it.keyword self.old.timed)) }
         ensures over { MatchOption result (AreQuiet self.old.clock self.old.timed) (λ it. IsOverdueAt self.old it.keyword it.cell) }
         ensures left { MatchOption result (self.new ≡ self.old) (λ it. Changes self.old self.new it.keyword (λ runs. stopped runs it.cell)) }
     {
@@ -128,7 +130,8 @@ impl Timers {
     }
 
     fn overdue(&self) -> Option<(usize, usize)>
-        ensures { MatchOption result (AreQuiet self.now.clock self.now.timed) (λ it. IsOverdueAt self.now it.0 it.1) }
+        ensures first { IfSome result (λ it. AreQuiet self.now.clock (take it.0 self.now.timed)) }
+        ensures over { MatchOption result (AreQuiet self.now.clock self.now.timed) (λ it. IsOverdueAt self.now it.0 it.1) }
     {
         for (keyword, timed) in self.timed.iter().enumerate() {
             if let Some(cell) = timed.running.overdue(timed.timeout, self.clock) {

@@ -52,6 +52,7 @@ impl<T> TokenTable<T> {
     pub fn put(&mut self, value: T) -> Result<Token, T>
         ensures token { IfOk result (λ token. IsVacantToken self.old token) }
         ensures empty { IfOk result (λ token. slice_get self.old.values token.index ≡ Some None) }
+        ensures first { IfOk result (λ token. slice_get self.old.free 0 ≡ Some token.index) }
         ensures ok { IfOk result (λ token. self.new ≡ given self.old token value) }
         ensures err { IfErr result (λ back. (back ≡ value) × (self.old.free ≡ []) × (self.new ≡ self.old)) }
         ensures gone { (other : Token) → IsGone self.old other → IsGone self.new other }
@@ -69,17 +70,21 @@ impl<T> TokenTable<T> {
     pub fn open(&mut self) -> Option<Hole>
         ensures token { IfSome result (λ hole. IsVacantToken self.old hole.token) }
         ensures out { IfSome result (λ hole. IsOut self.new hole.token) }
+        ensures first { IfSome result (λ hole. slice_get self.old.free 0 ≡ Some hole.token.index) }
         ensures some { IfSome result (λ hole. self.new ≡ table_with_open self.old hole.token) }
         ensures none { IfNone result ((self.old.free ≡ []) × (self.new ≡ self.old)) }
         ensures gone { (other : Token) → IsGone self.old other → IsGone self.new other }
     {
-        let Some(index) = self.free.first() else {
+        let Some(cell) = self.free.first() else {
             return None;
         };
-        let generation = self.generations[index];
-        self.free.remove(index);
+        let generation = self.generations[cell];
+        self.free.remove(cell);
         Some(Hole {
-            token: Token { index, generation },
+            token: Token {
+                index: cell,
+                generation,
+            },
         })
     }
 

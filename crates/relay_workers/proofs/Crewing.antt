@@ -1,5 +1,5 @@
 -- The results of a crew's threads, member after member, the seats that are joined after them, and its checks.
-use Rattle.std.proofs.Common.{◌≡◌, ℕ, ◌+◌, List, [], ◌∷◌, ◌++◌, map, length, Option, Some, Result, Ok, Err, IfOk, ap, inl, refl, replicate, sym, subst, ◌∙◌}
+use Rattle.std.proofs.Common.{◌≡◌, ◌<◌, ℕ, suc, ◌+◌, All, List, [], ◌∷◌, ◌++◌, map, length, Option, Some, Result, Ok, Err, IfOk, ap, append-nil, arith, inl, refl, replicate, sym, subst, ◌∙◌}
 use Rattle.std.proofs.lemmas.List.{length-map}
 use Rattle.std.proofs.lemmas.List.Elements.{All-map}
 use Rattle.std.specs.List.{AllZip, flat_map}
@@ -52,6 +52,21 @@ joined_seats terms Left seat_of each them old new joined takes posts = record {
 pub of_ok : {A E : Type 0} (Known : A → Type 0) (result : Result A E) (it : A) → Some it ≡ result_ok result → IfOk result Known → Known it
 of_ok Known (Ok other) it is known = let same : it ≡ other = cc in subst Known (sym same) known
 of_ok Known (Err error) it is known = cc
+
+-- where no seat was split off, none is joined
+pub joins_none : {C S : Type 0} (terms : Terms) (Left : RelayView → Result Tally Stopped → Option (List (Notice C S)) → Option (List (Notice C S)) → Type 0)
+    (old new : RelayView) → new ≡ old → JoinsSeats terms Left old new
+joins_none terms Left old new same = subst (λ (it : RelayView). JoinsSeats terms Left old it) (sym same) (record {
+  seats = [];
+  each = λ k seat inside. absurd (omega arith);
+  joined = omega arith;
+  takes = sym (append-nil old.takes);
+  posts = sym (append-nil old.posts);
+})
+
+-- what holds of each holds of each behind the first
+pub behind_first : {A : Type 0} (P : A → Type 0) (items rest : List A) (first : A) → items ≡ first ∷ rest → All P items → All P rest
+behind_first {A = A} P items rest first is all = λ k default inside. subst (λ (them : List A). All P them) is all (suc k) default (omega arith)
 
 -- checks that were told to stop before their first round
 pub not_begun : {C S : Type 0} (terms : Terms) (setup : Setup) (servers : List Server) (first : Option (List (Notice C S))) (most : ℕ)

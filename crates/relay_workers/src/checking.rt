@@ -6,9 +6,9 @@ ghost use Rattle.relay_workers.specs.Gates.{noted};
 ghost use Rattle.relay_workers.specs.Gates.Notice.{Found, NotYet};
 ghost use Rattle.relay_workers.specs.Turning.{Reports};
 
-use crate::gate::{Gate, Pause};
+use crate::flag::StopFlag;
+use crate::gate::{EndedCheck, Gate, Pause};
 use crate::proxy::Proxy;
-use crate::stopping::StopFlag;
 use due_key::Moment;
 use locked_book::DeskName;
 use proxy_config::{Checks, Server};
@@ -31,7 +31,7 @@ pub fn checker<R: Wait, N: DeskName, G: Gate, P: Pause, S: StopFlag>(
     let mut next_checks = [Moment::zero(); MOST_SERVERS];
     pause.begin();
     for _ in rt.forever() {
-        if stop.is_told() {
+        if let Some(_sign) = stop.sign() {
             return;
         }
         check_each(rt, proxy, gate, &mut next_checks);
@@ -106,7 +106,8 @@ fn check_one<R: Wait, N: DeskName, G: Gate>(
     ensures not_yet { OnFalse result (G.notes gate.new ≡ noted (NotYet server) (G.notes gate.old)) }
 {
     match gate.probe(server) {
-        Some(ok) => {
+        Some(check) => {
+            let ok = check.has_passed();
             // A result that the dispatcher refuses is dropped.
             let _ = proxy.note_check(rt, gate, server, ok);
             true

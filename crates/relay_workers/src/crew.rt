@@ -10,6 +10,7 @@ ghost use Rattle.relay_workers.specs.declared.stopping.Stopped.TheVariants.{NoMe
 
 use crate::checking::checker;
 use crate::finished::Finished;
+use crate::flag::Stop;
 use crate::gate::{Gate, Pause};
 use crate::member_seat::{MemberSeat, join_members, split_members};
 use crate::proxy::{Proxy, Worker};
@@ -20,7 +21,6 @@ use locked_book::DeskName;
 use std::marker::PhantomData;
 use std::snapshot::Snapshot;
 use std::sync::Wait;
-use std::sync::atomic::{AtomicBool, Ordering};
 use std::thread::{Promise, Scope, Threads};
 use std::{thread, vec};
 
@@ -84,8 +84,8 @@ fn run_all<
     ensures all { IsOfCrew (SomeHasWorked G.Client.remaining G.Client.contents G.Server.remaining G.Server.contents N.terms N.setup) G.notes crew.items result.0 }
     ensures checks { CrewHasChecked N.terms N.setup (S.servers shared.now) (G.notes checks.0) (P.most checks.1) (G.notes result.1.gate) }
 {
-    let stop = AtomicBool::new(false);
-    let told = &stop;
+    let stop = Stop::new();
+    let stop = &stop;
     let mut members = crew.into_iter();
     let lent = seats.as_mut_slice();
     thread::scope(
@@ -96,7 +96,7 @@ fn run_all<
             requires unused { All (λ seat. IsUnused N.terms seat.idle.seat) lent.now }
             ensures all { IsOfCrew (SomeHasWorked G.Client.remaining G.Client.contents G.Server.remaining G.Server.contents N.terms N.setup) G.notes (into_iter_items members) result.0 }
             ensures checks { CrewHasChecked N.terms N.setup (S.servers shared.entry.now) (G.notes checks.0) (P.most checks.1) (G.notes result.1.gate) }
-        { run_threads(scope, rt, shared, lent, &mut members, checks, told) },
+        { run_threads(scope, rt, shared, lent, &mut members, checks, stop) },
     )
 }
 
@@ -117,7 +117,7 @@ fn run_threads<
     seats: &'s mut [MemberSeat<N, G>],
     crew: &mut vec::IntoIter<(G, P)>,
     checks: (G, P),
-    told: &'s AtomicBool,
+    stop: &'s Stop,
 ) -> (Result<Tally, Stopped>, Finished<G>)
     requires few { length (into_iter_items crew.old) ≤ length seats.old }
     requires unused { All (λ seat. IsUnused N.terms seat.idle.seat) seats.old }
@@ -132,16 +132,16 @@ fn run_threads<
     let checking = scope.spawn_with(
         promise,
         move || -> Finished<G>
-            requires { IsSend G.Client.row × IsSend G.Server.row }
+            requires { IsSend G.Client.row × IsSend G.Server.row × IsSend G.Check.row × IsSend G.Receipt.row }
             ensures { CrewHasChecked N.terms N.setup (S.servers shared.entry.now) (G.notes checks.0) (P.most checks.1) (G.notes result.gate) }
         {
             let (mut gate, mut pause) = checks;
-            checker(rt, shared.proxy(), &mut gate, &mut pause, told);
+            checker(rt, shared.proxy(), &mut gate, &mut pause, &stop.view());
             Finished::of(gate)
         },
     );
     let all = run_crew(scope, rt, shared, seats, crew);
-    told.store(true, Ordering::SeqCst);
+    stop.tell();
     match checking {
         Ok(handle) => (all, handle.join(rt)),
         Err(refused) => (all.and(Err(Stopped::NoMemory)), (refused.value)()),
@@ -203,7 +203,7 @@ fn run_crew<
         .spawn_with(
             promise,
             move || -> End<G>
-                requires sends { IsSend G.Client.row × IsSend G.Server.row }
+                requires sends { IsSend G.Client.row × IsSend G.Server.row × IsSend G.Check.row × IsSend G.Receipt.row }
                 requires unused { IsUnused N.terms seat.now.idle.seat }
                 ensures { EndsAs (SomeHasWorked G.Client.remaining G.Client.contents G.Server.remaining G.Server.contents N.terms N.setup) G.notes gate result }
             {

@@ -1,4 +1,4 @@
-ghost use Rattle.std.specs.Prelude.{◌≡◌, ◌+◌, ℕ, List, None, Option, IfSome, IfNone};
+ghost use Rattle.std.specs.Prelude.{◌≡◌, ◌+◌, ℕ, Bool, List, None, Option, IfSome, IfNone};
 ghost use Rattle.std.specs.Bool.{OnTrue, OnFalse};
 ghost use Rattle.base_places.specs.Sets.{Has};
 ghost use Rattle.relay_workers.specs.Carrying.{IsUntouched};
@@ -14,6 +14,16 @@ use locked_book::DeskName;
 use shared_desk::Changed;
 use std::io::{Read, Write};
 
+/// How a check of a server ended.
+pub trait EndedCheck {
+    /// That it passed.
+    ghost passed: { Self → Bool };
+
+    /// Says whether it passed.
+    fn has_passed(&self) -> bool
+        ensures { result ≡ passed self.now };
+}
+
 /// The source of a thread's clients, connections and moments. Each thread has its own.
 pub trait Gate {
     /// A client can't be dropped: the gate takes it back.
@@ -21,6 +31,12 @@ pub trait Gate {
 
     /// A connection can't be dropped either.
     type Server: Read + Write + Send;
+
+    /// What shows how a check ended.
+    type Check: EndedCheck + Send + Drop;
+
+    /// What shows that a window was taken.
+    type Receipt: Send + Drop;
 
     /// All that passed between it and the thread that asks it, in order. `None` where it notes
     /// nothing.
@@ -60,8 +76,8 @@ pub trait Gate {
 
     /// Looks at the check of a server, and begins one where none runs; `None` where it isn't over
     /// yet. It doesn't wait, so no server's checks delay another's.
-    fn probe(&mut self, server: usize) -> Option<bool>
-        ensures found { IfSome result (λ ok. notes self.new ≡ noted (Found server ok) (notes self.old)) }
+    fn probe(&mut self, server: usize) -> Option<Self::Check>
+        ensures found { IfSome result (λ check. notes self.new ≡ noted (Found server (Self.Check.passed check)) (notes self.old)) }
         ensures none { IfNone result (notes self.new ≡ noted (NotYet server) (notes self.old)) }
         ensures kept { (place : ℕ) → owes self.old place → owes self.new place };
 
@@ -80,7 +96,7 @@ pub trait Gate {
     /// Takes what is told of a window that ended, because the log was full or its time was over.
     /// Each window goes to the gate of one thread, and they may come to the gates in another order
     /// than they ended.
-    fn window<N: DeskName>(&mut self, window: EndedWindow, changed: Changed<N>)
+    fn window<N: DeskName>(&mut self, window: EndedWindow, changed: Changed<N>) -> Self::Receipt
         requires { WindowHasEnded window }
         ensures told { notes self.new ≡ noted (Ended window changed) (notes self.old) }
         ensures kept { (place : ℕ) → owes self.old place → owes self.new place };

@@ -238,7 +238,7 @@ impl<N: DeskName> Proxy<N> {
         let (ended, changed) = self.open().roll(rt, self.alloc);
         match ended {
             Ok(window) => {
-                gate.window(window, changed);
+                let _ = gate.window(window, changed);
                 Ok(())
             }
             Err(fault) => {
@@ -285,7 +285,7 @@ impl<N: DeskName> Proxy<N> {
         let (made, room) = self.open().make_room(rt, self.alloc);
         match made {
             Ok(Some(window)) => {
-                gate.window(window, room);
+                let _ = gate.window(window, room);
                 true
             }
             Ok(None) => {

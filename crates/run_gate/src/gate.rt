@@ -1,4 +1,4 @@
-ghost use Rattle.std.specs.Prelude.{◌≡◌, ◌*◌, ◌≤◌, ◌<◌, ◌⊎◌, ◌↔◌, ℕ, List, length, replicate, slice_get, slice_set, IfOk, IfErr, IfSome, IfNone, IsSomeAnd, IsTrue, None, Some, Ok, false};
+ghost use Rattle.std.specs.Prelude.{◌≡◌, ◌*◌, ◌≤◌, ◌<◌, ◌⊎◌, ◌↔◌, ℕ, List, length, replicate, slice_get, slice_set, is_none, IfOk, IfErr, IfSome, IfNone, IsSomeAnd, IsTrue, None, Some, Ok};
 ghost use Rattle.std.specs.Bool.{OnTrue, OnFalse};
 ghost use Rattle.std.specs.Duration.{as_nanos};
 ghost use Rattle.base_places.specs.Sets.{Has};
@@ -14,16 +14,16 @@ ghost use Rattle.run_gate.specs.Waits.{left, turnaround};
 
 use crate::dialing::dial;
 use crate::front::{GateShared, within};
-use crate::leaving::has_left;
-use crate::probing::Probe;
+use crate::leaving::told_of;
+use crate::probing::{Checked, Probe};
 use crate::waits::{duration, left, moment_of, patience, turnaround};
 use base_places::PlaceSet;
 use dispatch_reports::EndedWindow;
 use due_key::Moment;
 use grant_board::RelaySeat;
 use locked_book::DeskName;
-use log_requests::CheckFailure;
 use relay_workers::{Gate, Slot};
+use run_windows::HandedOver;
 use shared_desk::Changed;
 use std::alloc::{AllocError, Global};
 use std::net::{Net, SocketAddr, TcpListener, TcpStream};
@@ -159,7 +159,7 @@ impl<'a, R: Net<Listener = TcpListener, Stream = TcpStream> + Clock> SocketGate<
 
 impl<'a, R: Net<Listener = TcpListener, Stream = TcpStream> + Clock + Wait> SocketGate<'a, R> {
     // Takes the running check of a server, or begins one.
-    fn take_probe(&mut self, server: usize, now: Moment) -> Result<Probe, CheckFailure>
+    fn take_probe(&mut self, server: usize, now: Moment) -> Result<Probe, Checked>
         ensures taken { IfOk result (IsCheckOf self.old.front.now.config.now server now (running_at self.old.probes.items server)) }
         ensures failed { IfErr result (λ _. running_at self.old.probes.items server ≡ None) }
         ensures out { self.new.probes.items ≡ slice_set self.old.probes.items server None }
@@ -172,23 +172,20 @@ impl<'a, R: Net<Listener = TcpListener, Stream = TcpStream> + Clock + Wait> Sock
         }
         let config = self.front.config;
         let Some(it) = config.servers.as_slice().get(server) else {
-            return Err(CheckFailure::NoAddress);
+            return Probe::begin(self.rt, None, now, None);
         };
         let patience = patience(config.connect_timeout, it.check);
-        match self.address_of(server) {
-            Some(address) => Probe::begin(self.rt, address, now, patience),
-            None => Err(CheckFailure::NoAddress),
-        }
+        Probe::begin(self.rt, self.address_of(server), now, patience)
     }
 
-    // Reports a failed check to the event log. Returns false.
-    fn fails(&self, server: usize, failure: CheckFailure) -> bool
-        ensures { result ≡ false }
+    // Reports a check to the event log, where it failed. Returns it.
+    fn report(&self, server: usize, checked: Checked) -> Checked
+        ensures { result ≡ checked }
     {
-        if let Some(log) = self.front.log {
+        if let (Some(failure), Some(log)) = (checked.failure(), self.front.log) {
             log.note_failure(self.rt, server, failure);
         }
-        false
+        checked
     }
 
     // Returns a server's address by the last look-up of its name, and asks for another look-up, for
@@ -209,6 +206,10 @@ impl<'a, R: Net<Listener = TcpListener, Stream = TcpStream> + Clock + Wait> Gate
     type Client = TcpStream;
 
     type Server = TcpStream;
+
+    type Check = Checked;
+
+    type Receipt = HandedOver;
 
     ghost notes = { λ _. no_notes };
 
@@ -267,8 +268,8 @@ impl<'a, R: Net<Listener = TcpListener, Stream = TcpStream> + Clock + Wait> Gate
         ensures same { self.new ≡ self.old }
     {}
 
-    fn probe(&mut self, server: usize) -> Option<bool>
-        ensures found { IfSome result (λ ok. no_notes ≡ noted (Found server ok) no_notes) }
+    fn probe(&mut self, server: usize) -> Option<Checked>
+        ensures found { IfSome result (λ it. no_notes ≡ noted (Found server (is_none it.failure)) no_notes) }
         ensures none { IfNone result (no_notes ≡ noted (NotYet server) no_notes) }
         ensures kept { (place : ℕ) → Has self.old.woken place → Has self.new.woken place }
         ensures over { IfSome result (λ _. self.new.probes.items ≡ slice_set self.old.probes.items server None) }
@@ -278,12 +279,11 @@ impl<'a, R: Net<Listener = TcpListener, Stream = TcpStream> + Clock + Wait> Gate
         let now = self.now();
         let probe = match self.take_probe(server, now) {
             Ok(probe) => probe,
-            Err(failure) => return Some(self.fails(server, failure)),
+            Err(checked) => return Some(self.report(server, checked)),
         };
         let told = probe.told();
         match probe.ended(told, now) {
-            Some(Ok(())) => Some(true),
-            Some(Err(failure)) => Some(self.fails(server, failure)),
+            Some(checked) => Some(self.report(server, checked)),
             None => {
                 if let Some(place) = self.probes.get_mut(server) {
                     *place = Some(probe);
@@ -300,7 +300,7 @@ impl<'a, R: Net<Listener = TcpListener, Stream = TcpStream> + Clock + Wait> Gate
         ensures kept { (place : ℕ) → Has self.old.woken place → Has self.new.woken place }
         ensures same { self.new ≡ self.old }
     {
-        has_left(client.as_raw_fd(), self.front.config.abortonclose)
+        told_of(client.as_raw_fd()).is_end(self.front.config)
     }
 
     fn moment(&mut self) -> Moment
@@ -313,14 +313,15 @@ impl<'a, R: Net<Listener = TcpListener, Stream = TcpStream> + Clock + Wait> Gate
         self.now()
     }
 
-    fn window<N: DeskName>(&mut self, window: EndedWindow, changed: Changed<N>)
+    fn window<N: DeskName>(&mut self, window: EndedWindow, changed: Changed<N>) -> HandedOver
+        ensures handed { (result.window.value ≡ window) × (result.ended ≡ self.new.last) }
         ensures told { no_notes ≡ noted (Ended window changed) no_notes }
         ensures kept { (place : ℕ) → Has self.old.woken place → Has self.new.woken place }
         ensures same { self.new ≡ record self.old { last = self.new.last } }
     {
         let _ = changed.take(self.front.wakes);
         let ended = self.now();
-        self.front.windows.hand_over(self.rt, window, ended);
+        self.front.windows.hand_over(self.rt, window, ended)
     }
 
     fn wake<N: DeskName>(&mut self, changed: Changed<N>)

@@ -26,6 +26,10 @@ pub use addresses::Addresses;
 pub use clients::Clients;
 pub use front::{GateShared, within};
 pub use gate::SocketGate;
-pub use leaving::has_left;
+pub use leaving::{Told, told_of};
 pub use pauses::Pauses;
+pub use probing::Checked;
 pub use site::Site;
+
+// What a gate returns of a window.
+pub use run_windows::HandedOver;

@@ -4,3 +4,5 @@ pub mod Faults
 pub mod Parts
 pub mod Sizes
 pub mod Binds
+pub mod Logging
+pub mod Crews

@@ -1,20 +1,13 @@
-//! The listener of a proxy.
-
-ghost use Rattle.std.specs.Prelude.{◌≡◌};
-ghost use Rattle.std.specs.Net.Addr.{ipv4_octets};
-ghost use Rattle.std.specs.Net.Socket.{v4_ip, v4_port};
-ghost use Rattle.run_parts.specs.Binds.{octets_at};
+//! What a proxy is asked for beside its configuration, and what it prints at its start.
 
 use crate::crew::Crew;
 use crate::fault::ServeFault;
 use crate::preparing::never_queues;
-use libc::net::listen;
 use log_requests::Logs;
-use proxy_config::{Bind, Config};
+use proxy_config::Config;
 use run_admin::Admin;
 use run_control::Controls;
-use std::net::{Ipv4Addr, Net, SocketAddrV4, TcpListener, TcpStream};
-use std::os::fd::AsRawFd;
+use std::net::TcpListener;
 
 /// The options of a proxy beside its configuration.
 #[derive(Drop)]
@@ -41,40 +34,6 @@ pub struct RunOptions {
 pub struct Doors {
     pub listener: TcpListener,
     pub options: RunOptions,
-}
-
-/// The most connections that wait to be accepted, where the system allows that.
-const BACKLOG: i32 = 4096;
-
-/// Listens at the address of a configuration.
-pub fn open<R: Net<Listener = TcpListener, Stream = TcpStream>>(
-    rt: &R,
-    bind: Bind,
-) -> Result<TcpListener, ServeFault> {
-    let address = address_of(bind);
-    let listener = match TcpListener::bind(rt, address) {
-        Ok(listener) => listener,
-        Err(error) => {
-            let code = error.raw_os_error();
-            return Err(ServeFault::Listen { address, code });
-        }
-    };
-    if listen(listener.as_raw_fd(), BACKLOG) != 0 {
-        return Err(ServeFault::Read);
-    }
-    Ok(listener)
-}
-
-// Returns the address of a configuration: at all of the machine's addresses where it gives none.
-fn address_of(bind: Bind) -> SocketAddrV4
-    ensures ip { ipv4_octets (v4_ip result) ≡ octets_at bind.ip }
-    ensures port { v4_port result ≡ bind.port }
-{
-    let ip = match bind.ip {
-        Some(ip) => Ipv4Addr::from(ip),
-        None => Ipv4Addr::UNSPECIFIED,
-    };
-    SocketAddrV4::new(ip, bind.port)
 }
 
 /// Prints to standard error that it listens, and where no request can ever wait also that.

@@ -1,11 +1,13 @@
 //! What the threads of a proxy share beside its dispatcher.
 
-ghost use Rattle.std.specs.Prelude.{◌≡◌, IfOk};
+ghost use Rattle.std.specs.Prelude.{◌≡◌, IfOk, is_some, true};
+ghost use Rattle.std.specs.Arc.{arc_value};
 ghost use Rattle.std.specs.Option.{option_map};
 ghost use Rattle.run_gate.specs.Names.{LooksUpNames};
+ghost use Rattle.run_parts.specs.Logging.{CountsToo, WritesLogs, windows_sink};
 
+use crate::crew::Crew;
 use crate::fault::ServeFault;
-use crate::limits::LoopSizes;
 use crate::opening::RunOptions;
 use crate::preparing::{LOG, names_of};
 use config_setup::configured_limits_of;
@@ -20,12 +22,22 @@ use run_windows::WindowPrinter;
 use shared_desk::WakeKey;
 use std::alloc::{AllocError, Global};
 use std::net::TcpListener;
+use std::snapshot::Snapshot;
 use std::sync::Arc;
 use std::time::{Clock, Instant};
+
+/// What a service was asked for. Only `service_parts_of` makes it, for the parts that it makes.
+#[derive(Drop)]
+pub struct Asked {
+    config: Snapshot<Config>,
+    options: Snapshot<RunOptions>,
+    crew: Crew,
+}
 
 /// The parts beside serving; no loop waits for them.
 #[derive(Drop)]
 pub struct ServiceParts {
+    pub asked: Asked,
     /// The key to what calls of the desk change.
     pub wakes: WakeKey,
     pub windows: WindowPrinter,
@@ -41,19 +53,27 @@ pub struct ServiceParts {
     pub start: Instant,
 }
 
-/// Makes them for a configuration, with this number of loops and places, and the key to what calls
-/// of the desk change.
+/// Makes them for a configuration, with the options, the crew, and the key to what calls of the desk
+/// change.
 pub fn service_parts_of<R: Clock + AllocGlobal>(
     rt: &R,
     config: &Config,
     options: RunOptions,
-    threads: LoopSizes,
+    crew: Crew,
     wakes: WakeKey,
 ) -> Result<ServiceParts, ServeFault>
+    ensures asked { IfOk result (λ parts. (parts.asked.config.value ≡ config.now) × (parts.asked.options.value ≡ options) × (parts.asked.crew ≡ crew)) }
     ensures names { IfOk result (λ parts. LooksUpNames config.now parts.addresses) }
     ensures means { IfOk result (λ parts. (parts.controls ≡ options.controls) × (parts.admin ≡ options.admin)) }
     ensures options { IfOk result (λ parts. (parts.keeping ≡ options.keeping) × (parts.reusing ≡ options.reusing) × (parts.window ≡ options.window) × (parts.forwarded_for ≡ options.forwarded_for)) }
+    ensures log { IfOk result (λ parts. WritesLogs options.logs (is_some options.admin) parts.log) }
+    ensures windows { IfOk result (λ parts. (option_map arc_value parts.windows.sink ≡ windows_sink options.logs.access) × (is_some parts.windows.base ≡ is_some options.window)) }
 {
+    let asked = Asked {
+        config: Snapshot::of(config),
+        options: Snapshot::of(&options),
+        crew,
+    };
     let alloc = rt.alloc();
     let Ok(start) = Instant::now(rt) else {
         return Err(ServeFault::Read);
@@ -64,26 +84,25 @@ pub fn service_parts_of<R: Clock + AllocGlobal>(
         window,
         forwarded_for,
         controls,
-        mut logs,
+        logs,
         admin,
     } = options;
-    if admin.is_some() {
-        logs.numbers = Some(numbers_of(alloc, config, threads.places)?);
-    }
     let servers = config.servers.len();
     let names = names_of(alloc, config)?;
-    let loops = threads.loops;
     let base = base_of(rt, start);
     let windows = WindowPrinter::new(alloc, names, servers)?
         .dated(window.map(|_| base))
         .onto(sink_of(&logs)?);
     let extent = Extent {
         servers,
-        loops,
+        loops: crew.threads.loops,
         start,
         base,
     };
+    let counted = (config, crew.threads.places);
+    let log = log_of(alloc, logs, admin.is_some(), counted, extent)?;
     Ok(ServiceParts {
+        asked,
         wakes,
         windows,
         addresses: Addresses::new(alloc, config)?,
@@ -92,9 +111,55 @@ pub fn service_parts_of<R: Clock + AllocGlobal>(
         reusing,
         window,
         forwarded_for,
-        log: RequestLog::new(alloc, logs, extent)?,
+        log,
         admin,
         start,
+    })
+}
+
+// Makes the log of a service, which counts too where that is wanted, for a configuration with this
+// number of places.
+fn log_of(
+    alloc: Global,
+    logs: Logs,
+    counts: bool,
+    counted: (&Config, usize),
+    extent: Extent,
+) -> Result<Option<RequestLog>, AllocError>
+    ensures { IfOk result (WritesLogs logs counts) }
+{
+    let kept = also_counting(alloc, logs, counts, counted)?;
+    let log = RequestLog::new(alloc, kept, extent)?;
+    Ok(log)
+}
+
+// Adds the counters of a fresh proxy to its logs, where that is wanted.
+fn also_counting(
+    alloc: Global,
+    logs: Logs,
+    wanted: bool,
+    counted: (&Config, usize),
+) -> Result<Logs, AllocError>
+    ensures { IfOk result (CountsToo wanted logs) }
+{
+    let (config, places) = counted;
+    if wanted {
+        counting(alloc, logs, config, places)
+    } else {
+        Ok(logs)
+    }
+}
+
+// Adds the counters of a fresh proxy to its logs.
+fn counting(alloc: Global, logs: Logs, config: &Config, places: usize) -> Result<Logs, AllocError>
+    ensures { IfOk result (CountsToo true logs) }
+{
+    let Logs { access, events, .. } = logs;
+    let numbers = Some(numbers_of(alloc, config, places)?);
+    Ok(Logs {
+        access,
+        events,
+        numbers,
     })
 }
 
@@ -109,7 +174,9 @@ fn numbers_of(alloc: Global, config: &Config, places: usize) -> Result<ProxyNumb
 }
 
 // Returns the sink that the lines of windows share with those of the access log.
-fn sink_of(logs: &Logs) -> Result<Option<Arc<Sink>>, AllocError> {
+fn sink_of(logs: &Logs) -> Result<Option<Arc<Sink>>, AllocError>
+    ensures { IfOk result (λ sink. option_map arc_value sink ≡ windows_sink logs.now.access) }
+{
     match &logs.access {
         Some(access) if access.has_windows => Ok(Some(Arc::try_clone(&access.sink)?)),
         _ => Ok(None),
@@ -121,11 +188,10 @@ pub fn front_of<'a>(
     alloc: Global,
     config: &'a Config,
     listener: TcpListener,
-    requests: u64,
     beside: &'a ServiceParts,
 ) -> GateShared<'a>
     ensures config { result.config.now ≡ config.now }
-    ensures clients { result.clients.most ≡ requests }
+    ensures clients { result.clients.most ≡ beside.now.asked.crew.requests }
     ensures options { (result.keeping ≡ beside.now.keeping) × (result.reusing ≡ beside.now.reusing) × (result.window ≡ beside.now.window) × (result.forwarded_for ≡ beside.now.forwarded_for) }
     ensures start { result.start ≡ beside.now.start }
     ensures listener { result.listener ≡ listener }
@@ -137,7 +203,7 @@ pub fn front_of<'a>(
         alloc,
         config,
         listener,
-        clients: Clients::new(requests),
+        clients: Clients::new(beside.asked.crew.requests),
         start: beside.start,
         addresses: &beside.addresses,
         wakes: &beside.wakes,

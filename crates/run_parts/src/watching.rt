@@ -1,5 +1,8 @@
 //! The thread that answers at the admin address.
 
+ghost use Rattle.std.specs.Prelude.{◌≡◌, ◌⊎◌, None};
+ghost use Rattle.run_parts.specs.declared.writing.Writing.TheVariants as writings;
+
 use crate::descriptors::{count_descriptors, push_descriptors};
 use crate::writing::Writing;
 use due_key::Moment;
@@ -72,7 +75,9 @@ pub fn start_watching<'s, E, R: Clock + Threads + Wait + Sync>(
     scope: &Scope<'s, E>,
     rt: &'s R,
     front: &'s GateShared<'_>,
-) -> Writing {
+) -> Writing<()>
+    ensures { result ≡ writings.Nothing → (front.now.admin ≡ None) ⊎ (front.now.log ≡ None) }
+{
     let (Some(admin), Some(log)) = (front.admin, front.log) else {
         return Writing::Nothing;
     };
@@ -91,7 +96,7 @@ fn answer_all<R: Clock + Wait>(rt: &R, front: &GateShared<'_>, admin: &Admin, lo
 }
 
 /// Ends the answers.
-pub fn end_watching<R: Threads + Wait>(rt: &R, front: &GateShared<'_>, watching: Writing) {
+pub fn end_watching<R: Threads + Wait>(rt: &R, front: &GateShared<'_>, watching: Writing<()>) {
     if let Some(admin) = front.admin {
         admin.end();
     }

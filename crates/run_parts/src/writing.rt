@@ -1,8 +1,11 @@
 //! The thread that writes the logs.
 
+ghost use Rattle.std.specs.Prelude.{◌≡◌, ◌↔◌, IsTrue, None};
+ghost use Rattle.run_parts.specs.declared.writing.Writing.TheVariants as writings;
+
 use crate::lending::Lends;
 use locked_book::DeskName;
-use log_requests::RequestLog;
+use log_requests::{RequestLog, ScribeEnd};
 use run_gate::GateShared;
 use shared_desk::LogKey;
 use std::sync::Wait;
@@ -11,17 +14,19 @@ use std::thread::{JoinHandle, Scope, Threads};
 use std::time::Clock;
 
 /// The result of starting a thread beside serving.
-pub enum Writing {
+pub enum Writing<T> {
     /// It isn't wanted.
     Nothing,
-    Runs(JoinHandle<()>),
-    /// The thread was refused.
+    Runs(JoinHandle<T>),
+    /// The thread was refused, or the work is another's already.
     Failed,
 }
 
-impl Writing {
+impl<T> Writing<T> {
     /// Says whether it was wanted and couldn't be started.
-    pub fn has_failed(&self) -> bool {
+    pub fn has_failed(&self) -> bool
+        ensures { IsTrue result ↔ (self.now ≡ writings.Failed) }
+    {
         matches!(self, Writing::Failed)
     }
 }
@@ -40,12 +45,14 @@ pub fn start_writing<
     shared: &'s S,
     front: &'s GateShared<'_>,
     key: LogKey<N>,
-) -> Writing {
+) -> Writing<ScribeEnd>
+    ensures { result ≡ writings.Nothing → front.now.log ≡ None }
+{
     let Some(log) = front.log else {
         return Writing::Nothing;
     };
     let Some(scribe) = log.take_scribe(rt) else {
-        return Writing::Nothing;
+        return Writing::Failed;
     };
     let site = log_requests::LogSubject {
         names: front.windows.names(),
@@ -54,7 +61,7 @@ pub fn start_writing<
     let started = scope
         .spawn(move || {
             let desk = (&shared.proxy().desk, &key);
-            scribe.write_all(rt, log, desk, site);
+            scribe.write_all(rt, log, desk, site)
         })
         .ok();
     match started {
@@ -64,12 +71,14 @@ pub fn start_writing<
 }
 
 /// Ends the thread, after it has written what is left.
-pub fn end_writing<R: Threads + Wait>(rt: &R, front: &GateShared<'_>, writing: Writing) {
+pub fn end_writing<R: Threads + Wait>(rt: &R, front: &GateShared<'_>, writing: Writing<ScribeEnd>) {
     if let Some(log) = front.log {
         log.end();
     }
     match writing {
-        Writing::Runs(handle) => handle.join(rt),
+        Writing::Runs(handle) => {
+            handle.join(rt);
+        }
         Writing::Nothing | Writing::Failed => {}
     }
 }

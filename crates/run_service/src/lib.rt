@@ -18,4 +18,4 @@ pub use running::run;
 pub use serving::{listen_and_serve, serve_at};
 
 // The options of a service, and how it ends.
-pub use run_parts::{Doors, LogCopy, Logs, RunOptions, ServeFault};
+pub use run_parts::{Asked, Doors, LogCopy, Logs, RunOptions, ServeFault};

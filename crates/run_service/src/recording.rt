@@ -132,11 +132,9 @@ fn serve_on<
         },
         admin: None,
     };
-    let threads = watched.crew.threads;
     let ProxyKeys { log: key, wake } = keys;
-    let beside = service_parts_of(rt, &proxy.config, options, threads, wake)?;
-    let requests = watched.crew.requests;
-    let front = front_of(alloc, &proxy.config, listener, requests, &beside);
+    let beside = service_parts_of(rt, &proxy.config, options, watched.crew, wake)?;
+    let front = front_of(alloc, &proxy.config, listener, &beside);
     let site = Site {
         proxy: &proxy,
         front: &front,

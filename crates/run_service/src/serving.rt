@@ -1,8 +1,9 @@
-ghost use Rattle.std.specs.Prelude.{◌≡◌, ◌≤◌, ◌+◌, ◌^◌, [], true};
+ghost use Rattle.std.specs.Prelude.{◌≡◌, ◌≤◌, ◌+◌, ◌^◌, [], true, IfOk};
 ghost use Rattle.config_setup.specs.Setups.{SetupIsAsked};
 ghost use Rattle.log_entries.specs.declared.setup.Setup.{Setup};
 ghost use Rattle.locked_book.specs.Books.{terms_for};
 ghost use Rattle.proxy_config.specs.Sound.{IsSoundConfig};
+ghost use Rattle.run_parts.specs.Crews.{IsCrewFor};
 ghost use Rattle.run_parts.specs.Parts.{AreNew};
 
 use crate::ending::fault_of;
@@ -12,10 +13,10 @@ use locked_book::DeskName;
 use loop_events::Proxy;
 use proxy_config::Config;
 use run_parts::{
-    Crew, Doors, GateShared, Lends, LogKey, LoopSizes, Parts, ProxyKeys, RunLimits, RunOptions,
-    ServeFault, ServiceParts, Site, announce, announce_admin, close_logs, crew_of, end_watching,
-    end_writing, front_of, open, parts_of, service_parts_of, start_watching, start_writing,
-    tell_all,
+    Asked, Crew, Doors, GateShared, Lends, LogKey, LoopSizes, Parts, ProxyKeys, RunLimits,
+    RunOptions, ServeFault, ServiceParts, Site, announce, announce_admin, close_logs, crew_of,
+    end_watching, end_writing, front_of, open, parts_of, service_parts_of, start_watching,
+    start_writing, tell_all,
 };
 use std::alloc::Global;
 use std::marker::Brand;
@@ -40,10 +41,12 @@ pub fn listen_and_serve<
         + Copy
         + Send
         + 'static,
->(rt: &R, config: Config, options: RunOptions, sizes: RunLimits) -> Result<(), ServeFault>
+>(rt: &R, config: Config, options: RunOptions, sizes: RunLimits) -> Result<Asked, ServeFault>
     requires config { IsSoundConfig config }
+    ensures asked { IfOk result (λ it. (it.config.value ≡ config) × (it.options.value ≡ options)) }
+    ensures sizes { IfOk result (λ it. IsCrewFor sizes it.crew) }
 {
-    let listener = open(rt, config.bind)?;
+    let listener = open(rt, &config)?.listener();
     serve_at(rt, config, Doors { listener, options }, sizes)
 }
 
@@ -60,8 +63,10 @@ pub fn serve_at<
         + Copy
         + Send
         + 'static,
->(rt: &R, config: Config, doors: Doors, sizes: RunLimits) -> Result<(), ServeFault>
+>(rt: &R, config: Config, doors: Doors, sizes: RunLimits) -> Result<Asked, ServeFault>
     requires config { IsSoundConfig config }
+    ensures asked { IfOk result (λ it. (it.config.value ≡ config) × (it.options.value ≡ doors.options)) }
+    ensures sizes { IfOk result (λ it. IsCrewFor sizes it.crew) }
 {
     let crew = crew_of(rt, &config, sizes);
     announce(rt, &doors.listener, &config, crew)?;
@@ -83,19 +88,20 @@ fn serve_on<
         + Copy
         + Send
         + 'static,
->(rt: &R, config: Config, parts: Parts, doors: Doors, crew: Crew) -> Result<(), ServeFault>
+>(rt: &R, config: Config, parts: Parts, doors: Doors, crew: Crew) -> Result<Asked, ServeFault>
     requires named { parts.board ≡ N.board }
     requires ledger { (parts.ledger.name ≡ N.name) × (parts.ledger.parts ≡ N.parts) }
     requires room { 2 ^ 64 ≤ parts.ledger.parts + 1 }
     requires sound { IsSoundConfig config }
     requires parts { (setup : Setup) × AreNew setup parts × SetupIsAsked config setup × (N.terms ≡ terms_for setup) × (N.setup ≡ setup) × (setup.places ≡ crew.threads.places) }
+    ensures { IfOk result (λ it. (it.config.value ≡ config) × (it.options.value ≡ doors.options) × (it.crew ≡ crew)) }
 {
     let alloc = rt.alloc();
     let (proxy, keys, source) = proxy_of::<N, _>(rt, alloc, config, parts);
     let Doors { listener, options } = doors;
     let ProxyKeys { log: key, wake } = keys;
-    let beside = service_parts_of(rt, &proxy.config, options, crew.threads, wake)?;
-    let front = front_of(alloc, &proxy.config, listener, crew.requests, &beside);
+    let beside = service_parts_of(rt, &proxy.config, options, crew, wake)?;
+    let front = front_of(alloc, &proxy.config, listener, &beside);
     announce_admin(rt, &front);
     let site = Site {
         proxy: &proxy,
@@ -103,11 +109,17 @@ fn serve_on<
     };
     let ended = serve_clients(rt, &site, (&front, key), source, crew.threads);
     drop(front);
-    let ServiceParts { windows, log, .. } = beside;
+    let ServiceParts {
+        asked,
+        windows,
+        log,
+        ..
+    } = beside;
     let told = tell_all(rt, &proxy, windows);
     close_logs(rt, log.as_ref());
     told?;
-    ended
+    ended?;
+    Ok(asked)
 }
 
 /// Makes a fresh proxy of these parts, which are what the configuration describes, and the source
@@ -121,6 +133,7 @@ pub(crate) fn proxy_of<N: DeskName + Ledger, R: Threads>(
     requires named { parts.board ≡ N.board }
     requires sound { IsSoundConfig config }
     requires parts { (setup : Setup) × AreNew setup parts × SetupIsAsked config setup × (N.terms ≡ terms_for setup) × (N.setup ≡ setup) }
+    ensures config { result.0.config ≡ config }
     ensures named { (result.2.first.board ≡ N.board) × (result.2.first.view.terms ≡ N.terms) }
     ensures first { result.2.first.view.first ≡ true }
     ensures idle { result.2.first.view.passes ≡ [] }

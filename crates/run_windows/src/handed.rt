@@ -13,6 +13,7 @@ use late_cert::Reports;
 use std::alloc::{AllocError, Global};
 use std::collections::VecDeque;
 use std::mem;
+use std::snapshot::Snapshot;
 
 /// The most windows that wait to be printed.
 const MOST: usize = 16;
@@ -26,6 +27,13 @@ pub struct Numbered {
     pub began: Moment,
     pub ended: Moment,
     pub reports: Reports,
+}
+
+/// What shows that a window was handed over. Only `Handed::hand_over` makes it.
+#[derive(Drop)]
+pub struct HandedOver {
+    window: Snapshot<EndedWindow>,
+    ended: Moment,
 }
 
 /// All windows that were handed over, in numbers, and those that wait to be printed.
@@ -61,7 +69,8 @@ impl Handed {
 
     /// Adds a window that ended at this moment: it is counted, and waits to be printed, after the
     /// others. Where 16 wait already, it is left out.
-    pub fn hand_over(&mut self, window: EndedWindow, ended: Moment)
+    pub fn hand_over(&mut self, window: EndedWindow, ended: Moment) -> HandedOver
+        ensures shown { (result.window.value ≡ window) × (result.ended ≡ ended) }
         ensures windows { self.new.told.windows ≡ plus self.old.told.windows 1 }
         ensures sums { self.new.told.sums ≡ with_window window.servers.items self.old.told.sums }
         ensures room { length self.old.waiting.items < 16
@@ -70,6 +79,10 @@ impl Handed {
         ensures ended { self.new.ended ≡ ended }
         ensures same { (self.new.told.fault ≡ self.old.told.fault) × (self.new.is_over ≡ self.old.is_over) }
     {
+        let it = HandedOver {
+            window: Snapshot::of(&window),
+            ended,
+        };
         let EndedWindow { reports, servers } = window;
         self.told.count(servers.as_slice());
         if self.waiting.len() < MOST {
@@ -85,6 +98,7 @@ impl Handed {
             self.left_out = self.left_out.saturating_add(1);
         }
         self.ended = ended;
+        it
     }
 
     /// Takes the first one of those that wait.

@@ -9,7 +9,7 @@ mod printer;
 mod sums;
 mod text;
 
-pub use handed::{Handed, Numbered};
+pub use handed::{Handed, HandedOver, Numbered};
 pub use printed::{PrintFault, PrintedWindows};
 pub use printer::{WindowPrinter, lines_of};
 pub use sums::Sums;

@@ -1,7 +1,7 @@
 ghost use Rattle.std.specs.Prelude.{◌≡◌, IfOk, string_bytes};
 ghost use Rattle.run_windows.specs.Texts.{window_text};
 
-use crate::handed::{Handed, Numbered};
+use crate::handed::{Handed, HandedOver, Numbered};
 use crate::printed::{PrintFault, PrintedWindows};
 use crate::text::push_window;
 use dispatch_reports::EndedWindow;
@@ -41,14 +41,18 @@ impl WindowPrinter {
 
     /// Lets each line tell when its window began and ended, where moment 0 is this number of
     /// milliseconds after the Unix epoch.
-    pub fn dated(self, base: Option<i64>) -> WindowPrinter {
+    pub fn dated(self, base: Option<i64>) -> WindowPrinter
+        ensures { result ≡ record self { base = base } }
+    {
         let mut printer = self;
         printer.base = base;
         printer
     }
 
     /// Sends their lines to this sink, so that one writer has all.
-    pub fn onto(self, sink: Option<Arc<Sink>>) -> WindowPrinter {
+    pub fn onto(self, sink: Option<Arc<Sink>>) -> WindowPrinter
+        ensures { result ≡ record self { sink = sink } }
+    {
         let mut printer = self;
         printer.sink = sink;
         printer
@@ -63,9 +67,12 @@ impl WindowPrinter {
 
     /// Takes a window that ended at this moment. It is counted now, and printed later; where too
     /// many wait to be printed, it is left out.
-    pub fn hand_over<R: Wait>(&self, rt: &R, window: EndedWindow, ended: Moment) {
-        self.handed.lock(rt).hand_over(window, ended);
+    pub fn hand_over<R: Wait>(&self, rt: &R, window: EndedWindow, ended: Moment) -> HandedOver
+        ensures { (result.window.value ≡ window) × (result.ended ≡ ended) }
+    {
+        let it = self.handed.lock(rt).hand_over(window, ended);
         self.bell.notify_all();
+        it
     }
 
     /// Prints each window that is handed over, whole and in order, until no more come and all are

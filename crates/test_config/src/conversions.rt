@@ -155,3 +155,75 @@ fn a_configuration_of_haproxys_is_converted_or_refused(rt: HostRuntime) {
         is_converted(&rt, rt.alloc(), row);
     }
 }
+
+static QUEUE: Row = Row {
+    file: "\
+frontend f
+  mode http
+  bind :80
+  timeout client 4s
+  timeout queue 9s
+  default_backend b
+backend b
+  mode http
+  balance leastconn
+  timeout queue 3s
+  timeout client 8s
+  server a h:1
+",
+    frontend: None,
+    backend: None,
+    status: 0,
+    text: "\
+listen f
+    mode http
+    balance leastconn
+    bind *:80
+    timeout client 4s
+    # default_backend b
+    #   Its servers stand below.
+    timeout queue 3s
+    server a h:1
+",
+    notes: "",
+};
+
+#[test]
+fn a_queue_timeout_is_a_backends(rt: HostRuntime) {
+    is_converted(&rt, rt.alloc(), &QUEUE);
+}
+
+static DEFAULTS: Row = Row {
+    file: "\
+defaults
+  mode http
+  timeout connect 2s
+defaults
+  mode http
+  timeout connect 7s
+listen w
+  balance leastconn
+  bind :80
+  server a h:1
+defaults
+  mode http
+  timeout connect 9s
+",
+    frontend: None,
+    backend: None,
+    status: 0,
+    text: "\
+listen w
+    mode http
+    balance leastconn
+    timeout connect 7s
+    bind *:80
+    server a h:1
+",
+    notes: "",
+};
+
+#[test]
+fn a_section_inherits_from_the_last_defaults_before_it(rt: HostRuntime) {
+    is_converted(&rt, rt.alloc(), &DEFAULTS);
+}

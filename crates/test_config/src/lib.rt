@@ -27,3 +27,5 @@ mod rules;
 mod shown;
 #[cfg(test)]
 mod texts;
+#[cfg(test)]
+mod unwritten;

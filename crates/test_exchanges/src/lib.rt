@@ -11,6 +11,8 @@ mod driving;
 #[cfg(test)]
 mod exchanges;
 #[cfg(test)]
+mod metering;
+#[cfg(test)]
 mod playing;
 #[cfg(test)]
 mod signals;

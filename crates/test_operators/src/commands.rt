@@ -113,3 +113,19 @@ fn the_state_is_written_as_haproxy_does(rt: HostRuntime) -> Result<(), Fail> {
     assert!(rt; text.as_str().contains("\n1 dueproxy 2 b - 0 8 -\n"));
     Ok(())
 }
+
+#[test]
+fn a_drained_server_that_is_down_is_down_to_haproxy(rt: HostRuntime) -> Result<(), Fail> {
+    let alloc = rt.alloc();
+    let names = names(alloc)?;
+    for (up, status) in [(true, ",DRAIN,,\n"), (false, ",DOWN,,\n")] {
+        let mut state = state(alloc)?;
+        if let Some(drained) = state.servers.as_mut_slice().get_mut(1) {
+            drained.up = up;
+        }
+        let mut text = String::new(alloc);
+        push_stat(&mut text, &names, &state)?;
+        assert!(rt; text.as_str().contains(status), "{}", text.as_str());
+    }
+    Ok(())
+}

@@ -1,9 +1,11 @@
-//! Tests of a proxy's counters, as Prometheus gets them.
+//! Tests of a proxy's counters, as Prometheus and the page of the state get them.
 
 use base_verdict::Cause;
 use due_key::{Class, Due, Moment, Offset};
 use log_entries::{Arrival, Entry, Queue};
-use log_lines::{Account, During, EndedBy, Follower, Proportions, ProxyNumbers, push_metrics};
+use log_lines::{
+    Account, During, EndedBy, Follower, Proportions, ProxyNumbers, push_metrics, state_of,
+};
 use log_texts::Names;
 use std::alloc::Global;
 use std::process::Abort;
@@ -135,5 +137,43 @@ fn who_was_aborted_since_its_time_was_over_timed_out(rt: HostRuntime) {
         "dueproxy_outside_waiting 3\n",
     ] {
         assert!(rt; text.as_str().contains(line), "{}", line);
+    }
+}
+
+#[test]
+fn who_moved_waits_in_the_backends_queue(rt: HostRuntime) {
+    let entries = [
+        arrive(&rt, 1, 0, (0, 0)),
+        Entry::Joined(1, Queue::Server(1)),
+        Entry::Moved(1, 1),
+    ];
+    let (numbers, _) = counted(&rt, rt.alloc(), &entries);
+    let text = metrics(&rt, rt.alloc(), &numbers);
+    for line in [
+        "dueproxy_queue_waiting{queue=\"*\",class=\"0\"} 1\n",
+        "dueproxy_queue_waiting{queue=\"b\",class=\"0\"} 0\n",
+    ] {
+        assert!(rt; text.as_str().contains(line), "{}", line);
+    }
+}
+
+#[test]
+fn a_slot_is_shown_for_sixty_seconds(rt: HostRuntime) {
+    let alloc = rt.alloc();
+    let entries = [arrive(&rt, 1, 0, (999, 0)), Entry::Direct(1, 0)];
+    let (numbers, _) = counted(&rt, alloc, &entries);
+    let names = names(&rt, alloc);
+    for (now, minute) in [
+        (
+            59_999,
+            "\"minute\":[{\"class\":0,\"slots\":1,\"late\":1,\"worst\":999}]",
+        ),
+        (
+            60_000,
+            "\"minute\":[{\"class\":0,\"slots\":0,\"late\":0,\"worst\":null}]",
+        ),
+    ] {
+        let state = state_of(alloc, &names, &numbers, moment(&rt, now)).expect(&rt, "memory");
+        assert!(rt; state.as_str().contains(minute), "{}", state.as_str());
     }
 }

@@ -14,8 +14,14 @@ mod numbers;
 #[cfg(test)]
 mod pages;
 #[cfg(test)]
+mod patience;
+#[cfg(test)]
 mod printing;
 #[cfg(test)]
 mod questions;
 #[cfg(test)]
 mod sockets;
+#[cfg(test)]
+mod steering;
+#[cfg(test)]
+mod unprinted;

@@ -1,11 +1,13 @@
-use due_key::{Class, Moment, Offset};
-use log_lines::{Account, Asked, Dates, Format, Line, Load, Numbers, push_line};
+use crate::numbers::{arrive, moment};
+use base_verdict::Cause;
+use due_key::{Class, Offset};
+use log_entries::{Entry, Queue};
+use log_lines::{
+    Account, Asked, Dates, During, EndedBy, Follower, Format, Line, Load, Numbers, push_line,
+};
 use log_texts::Names;
+use std::alloc::Global;
 use std::process::Abort;
-
-fn moment(rt: &impl Abort, number: u64) -> Moment {
-    Moment::new(number).expect(rt, "a moment")
-}
 
 // This gives all references one lifetime.
 fn line_of<'x>(account: &'x Account, numbers: Option<&'x Numbers>, names: &'x Names) -> Line<'x> {
@@ -53,4 +55,39 @@ fn a_line_has_the_fields_of_httplog(rt: HostRuntime) {
             .starts_with("{\"time\":\"2001-09-09T01:46:40.040Z\"")
     );
     assert!(rt; text.as_str().contains("\"wait_ms\":20"));
+}
+
+// Returns the numbers of a request that was aborted while it waited.
+fn aborted(rt: &impl Abort, alloc: Global) -> Numbers {
+    let mut follower = Follower::new(alloc);
+    for entry in [
+        arrive(rt, 1, 0, 0),
+        Entry::Joined(1, Queue::Backend),
+        Entry::Abort(moment(rt, 9), 1),
+        Entry::Left(1, Cause::Aborted),
+    ] {
+        follower.follow(entry).expect(rt, "memory");
+    }
+    follower.take(1).expect(rt, "numbers")
+}
+
+#[test]
+fn who_was_aborted_since_its_time_was_over_left_by_a_timeout(rt: HostRuntime) {
+    let alloc = rt.alloc();
+    let numbers = aborted(&rt, alloc);
+    let names = Names::new(Vec::new(alloc));
+    let mut dates = Dates::new(alloc, 0);
+    for (format, by, left) in [
+        (Format::Text, EndedBy::ServerTime, " left=timeout\n"),
+        (Format::Text, EndedBy::Client, " left=aborted\n"),
+        (Format::Json, EndedBy::ServerTime, "\"left\":\"timeout\""),
+        (Format::Json, EndedBy::Client, "\"left\":\"aborted\""),
+    ] {
+        let mut account = Account::new(None, moment(&rt, 0));
+        account.end_by(by, During::Queue);
+        let line = line_of(&account, Some(&numbers), &names);
+        let mut text = String::new(alloc);
+        push_line(alloc, &mut text, &mut dates, format, &line).expect(&rt, "memory");
+        assert!(rt; text.as_str().contains(left), "{}", text.as_str());
+    }
 }

@@ -4,12 +4,12 @@ use log_entries::{Arrival, Entry, Queue};
 use log_lines::{Follower, Numbers};
 use std::process::Abort;
 
-fn moment(rt: &impl Abort, number: u64) -> Moment {
+pub(crate) fn moment(rt: &impl Abort, number: u64) -> Moment {
     Moment::new(number).expect(rt, "a moment")
 }
 
 // A request of class 0 that arrives at a moment and is due at another.
-fn arrive(rt: &impl Abort, ticket: u64, at: u64, due: i64) -> Entry {
+pub(crate) fn arrive(rt: &impl Abort, ticket: u64, at: u64, due: i64) -> Entry {
     let arrival = Arrival {
         ticket,
         due: Due::of(Moment::zero(), Offset::clamp(due)),

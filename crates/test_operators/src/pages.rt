@@ -26,7 +26,8 @@ impl NumberSource for Fake {
     }
 
     fn state(&self) -> Result<String, AllocError> {
-        String::from_str(self.alloc, "{}")
+        let now = self.now.get();
+        format!(in self.alloc; "{{\"before\":{now}}}")
     }
 }
 
@@ -59,7 +60,7 @@ fn each_path_has_its_answer(rt: HostRuntime) {
     let state = pages
         .answer(&asked(b"/state.json".as_slice()))
         .expect(&rt, "memory");
-    assert_eq!(rt; state.body.as_str(), "{}");
+    assert_eq!(rt; state.body.as_str(), "{\"before\":60}");
 }
 
 #[test]
@@ -74,6 +75,26 @@ fn a_text_is_made_anew_seldom(rt: HostRuntime) {
         let page = pages
             .answer(&asked(b"/metrics".as_slice()))
             .expect(&rt, "memory");
+        assert_eq!(rt; page.body.as_str(), wanted);
+    }
+}
+
+#[test]
+fn each_text_is_kept_for_its_own_path(rt: HostRuntime) {
+    let fake = Fake {
+        alloc: rt.alloc(),
+        now: Cell::new(0),
+        health: Readiness::Serves,
+    };
+    let mut pages = Pages::new(rt.alloc(), fake);
+    for (path, wanted) in [
+        (b"/state.json".as_slice(), "{\"before\":60}"),
+        (b"/state.json".as_slice(), "{\"before\":60}"),
+        (b"/metrics".as_slice(), "made before 180\n"),
+        (b"/state.json".as_slice(), "{\"before\":240}"),
+        (b"/metrics".as_slice(), "made before 300\n"),
+    ] {
+        let page = pages.answer(&asked(path)).expect(&rt, "memory");
         assert_eq!(rt; page.body.as_str(), wanted);
     }
 }

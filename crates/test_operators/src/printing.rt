@@ -10,7 +10,7 @@ use std::thread;
 use std::thread::Threads;
 
 // A window in which the only server was given this number of requests on arrival.
-fn window(rt: &impl Abort, alloc: Global, direct: usize) -> EndedWindow {
+pub(crate) fn window(rt: &impl Abort, alloc: Global, direct: usize) -> EndedWindow {
     let line = ServerLine {
         up: true,
         direct,

@@ -10,10 +10,20 @@ use std::test::Fail;
 
 /// A service that answers each line with itself, and ends after this number of rounds.
 #[derive(Drop)]
-struct Echo {
+pub(crate) struct Echo {
     alloc: Global,
     rounds: u32,
     ended: bool,
+}
+
+impl Echo {
+    pub(crate) fn new(alloc: Global, rounds: u32) -> Echo {
+        Echo {
+            alloc,
+            rounds,
+            ended: false,
+        }
+    }
 }
 
 impl Steers for Echo {
@@ -96,11 +106,7 @@ fn a_socket_is_attended_to(rt: HostRuntime) -> Result<(), Fail> {
     client.shutdown(Shutdown::Write)?;
     let mut other = UnixStream::connect(&rt, path)?;
     other.write_all(b"end\n".as_slice())?;
-    let mut echo = Echo {
-        alloc,
-        rounds: 6,
-        ended: false,
-    };
+    let mut echo = Echo::new(alloc, 6);
     attend(&rt, &controls, &mut echo)?;
     let mut got = Vec::new(alloc);
     client.read_to_end(&mut got)?;

@@ -8,6 +8,8 @@ mod assertions;
 #[cfg(test)]
 mod closing;
 #[cfg(test)]
+mod crowd;
+#[cfg(test)]
 mod drawn_scripts;
 #[cfg(test)]
 mod overtaking;
@@ -21,3 +23,5 @@ mod texts;
 mod traces;
 #[cfg(test)]
 mod views;
+#[cfg(test)]
+mod windows;

@@ -321,3 +321,11 @@ fn who_is_early_is_not_late_below_nothing(rt: HostRuntime) {
     has(&rt, &story, "5 ms: it gets a slot of s1, 96 ms early\n");
     has(&rt, &story, "so one of them is 96 ms early at most\n");
 }
+
+#[test]
+fn the_worst_slot_of_a_later_window_is_marked_at_its_moment(rt: HostRuntime) {
+    let picture = drawn(&rt, rt.alloc(), ROLLED.as_bytes());
+    // The slot is given at 10 of 21 ms, which are 1200 pixels from the 150th on: the arrow's point
+    // is at 721, and its left end 5 before that.
+    has(&rt, picture.as_slice(), "<path class=\"t\" d=\"M716 ");
+}

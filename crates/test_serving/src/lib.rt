@@ -5,9 +5,13 @@
 #[cfg(test)]
 mod echoes;
 #[cfg(test)]
-mod hanging;
+mod faked;
+#[cfg(test)]
+mod operators;
 #[cfg(test)]
 mod peers;
+#[cfg(test)]
+mod records;
 #[cfg(test)]
 mod runs;
 mod sizes;

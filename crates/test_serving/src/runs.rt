@@ -1,4 +1,4 @@
-use crate::hanging::Hanging;
+use crate::faked::Faked;
 use proxy_config::read;
 use run_parts::RunLimits;
 use run_service::{Doors, Logs, RunOptions, serve_at};
@@ -145,11 +145,21 @@ pub(crate) fn serve_keeping<
         + Send
         + 'static,
 >(rt: &R, text: &str, listener: TcpListener, sizes: (u32, u32), keeping: Keeping) -> bool {
-    let (clients, places) = sizes;
-    let Ok(config) = read(rt.alloc(), text.as_bytes()) else {
-        return false;
-    };
-    let doors = Doors {
+    let doors = doors_of(listener, keeping, no_logs());
+    serve_doors(rt, text, doors, sizes, keeping.loops)
+}
+
+pub(crate) fn no_logs() -> Logs {
+    Logs {
+        access: None,
+        events: None,
+        numbers: None,
+    }
+}
+
+// The options of a run with these rules for connections and these logs.
+pub(crate) fn doors_of(listener: TcpListener, keeping: Keeping, logs: Logs) -> Doors {
+    Doors {
         listener,
         options: RunOptions {
             keeping: keeping.clients,
@@ -157,15 +167,31 @@ pub(crate) fn serve_keeping<
             window: None,
             forwarded_for: false,
             controls: None,
-            logs: Logs {
-                access: None,
-                events: None,
-                numbers: None,
-            },
+            logs,
             admin: None,
         },
+    }
+}
+
+// Serves this number of clients at this number of places, with this number of loops.
+pub(crate) fn serve_doors<
+    R: Net<Listener = TcpListener, Stream = TcpStream>
+        + Clock
+        + Print
+        + Eprint
+        + AllocGlobal
+        + Threads
+        + Wait
+        + Sync
+        + Copy
+        + Send
+        + 'static,
+>(rt: &R, text: &str, doors: Doors, sizes: (u32, u32), loops: u32) -> bool {
+    let (clients, places) = sizes;
+    let Ok(config) = read(rt.alloc(), text.as_bytes()) else {
+        return false;
     };
-    match RunLimits::new(Some(clients), Some(keeping.loops), None, places, clients) {
+    match RunLimits::new(Some(clients), Some(loops), None, places, clients) {
         Some(sizes) => serve_at(rt, config, doors, sizes).is_ok(),
         None => false,
     }
@@ -437,5 +463,5 @@ fn a_look_up_that_hangs_holds_up_neither_start_nor_end(rt: HostRuntime) {
         order: Order::InTurn,
         places: 8,
     };
-    play(&Hanging::new(rt), &row);
+    play(&Faked::hanging(rt), &row);
 }

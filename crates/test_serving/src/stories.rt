@@ -1,6 +1,6 @@
 //! Stories of clients, a proxy and a server, one step after the other.
 
-use crate::hanging::Hanging;
+use crate::faked::Faked;
 use crate::peers::{Peers, Step};
 use crate::runs::{Keeping, ONCE, serve_keeping};
 use std::alloc::Global;
@@ -72,7 +72,7 @@ pub(crate) fn tell<R: Net<Stream = TcpStream> + Clock>(
     wrong
 }
 
-fn clients_of(steps: &[Step]) -> u32 {
+pub(crate) fn clients_of(steps: &[Step]) -> u32 {
     let mut clients = 0u32;
     for step in steps {
         if matches!(step, Step::Comes(_)) {
@@ -520,5 +520,10 @@ fn a_look_up_that_hangs_holds_up_no_check(rt: HostRuntime) {
             Step::Ends(0, HI_TOLD),
         ],
     };
-    play_with(&Hanging::new(rt), story, ONCE, "check inter 100ms fall 10");
+    play_with(
+        &Faked::hanging(rt),
+        story,
+        ONCE,
+        "check inter 100ms fall 10",
+    );
 }

@@ -12,9 +12,9 @@ use grant_board::{Board, Pass, RelaySeat, Taking};
 use locked_book::DeskName;
 use log_texts::Names;
 use proxy_config::{Config, read};
-use relay_workers::{Gate, Proxy, Slot, arrive};
+use relay_workers::{EndedCheck, Gate, Proxy, Slot, arrive};
 use req_view::{View, Viewed, view};
-use run_gate::{Addresses, Clients, GateShared, SocketGate, has_left};
+use run_gate::{Addresses, Clients, GateShared, SocketGate, told_of};
 use run_windows::WindowPrinter;
 use std::alloc::Global;
 use std::io::{Read, Write};
@@ -50,19 +50,22 @@ fn an_end_is_seen_behind_unread_bytes(rt: HostRuntime) {
     let (accepted, _) = listener.accept().expect(&rt, "a client");
     client.write_all(b"x").expect(&rt, "a byte written");
     let connection = accepted.as_raw_fd();
-    assert!(rt; !has_left(connection, true));
+    let alloc = rt.alloc();
+    let counts = config_of(&rt, alloc, " option abortonclose\n", 1);
+    let does_not = config_of(&rt, alloc, "", 1);
+    assert!(rt; !told_of(connection).is_end(&counts));
     drop(client);
     thread::sleep(&rt, Duration::from_millis(20));
-    assert!(rt; has_left(connection, true));
-    assert!(rt; !has_left(connection, false));
+    assert!(rt; told_of(connection).is_end(&counts));
+    assert!(rt; !told_of(connection).is_end(&does_not));
 }
 
 // A configuration with one server, at a port of this machine.
-fn config_of(rt: &impl Abort, alloc: Global, port: u16) -> Config
+fn config_of(rt: &impl Abort, alloc: Global, settings: &str, port: u16) -> Config
     ensures { IsSoundConfig result }
 {
     let text = format!(in alloc;
-        "listen w\n bind :1\n server it 127.0.0.1:{port} check inter 1s\n"
+        "listen w\n bind :1\n{settings} server it 127.0.0.1:{port} check inter 1s\n"
     ).expect(rt, "memory");
     read(alloc, text.as_bytes()).expect(rt, "a configuration")
 }
@@ -70,9 +73,8 @@ fn config_of(rt: &impl Abort, alloc: Global, port: u16) -> Config
 // Returns the result of a check of the gate's server, within a second.
 fn checked<G: Gate>(clock: &impl Clock, gate: &mut G) -> Option<bool> {
     for _ in 0..1000 {
-        let ended = gate.probe(0);
-        if ended.is_some() {
-            return ended;
+        if let Some(check) = gate.probe(0) {
+            return Some(check.has_passed());
         }
         thread::sleep(clock, Duration::from_millis(1));
     }
@@ -198,7 +200,7 @@ fn a_gate_takes_clients_and_checks_servers(rt: HostRuntime) {
     let far = listening(&rt);
     let near = listening(&rt);
     let client = TcpStream::connect(&rt, address(&rt, &near)).expect(&rt, "a connection");
-    let config = config_of(&rt, alloc, address(&rt, &far).port());
+    let config = config_of(&rt, alloc, "", address(&rt, &far).port());
     let opened = open(&rt, alloc, config, 4096);
     asks_anew::<Brand, _>(&rt, alloc, opened, near, far);
     drop(client);

@@ -17,7 +17,9 @@ use grant_board::{Board, Closing, KeeperSeat, RelaySeat};
 use late_cert::Running;
 use locked_book::DeskName;
 use proxy_config::{Config, read};
-use relay_workers::{Gate, Pause, Proxy, ProxyKeys, Slot, Stopped, Tally, Worker, checker, worker};
+use relay_workers::{
+    EndedCheck, Gate, Pause, Proxy, ProxyKeys, Slot, Stop, Stopped, Tally, Worker, checker, worker,
+};
 use shared_desk::{Changed, DeskQueue, WakeKey};
 use std::alloc::Global;
 use std::io::{self, Read, Write};

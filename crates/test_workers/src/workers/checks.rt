@@ -6,7 +6,6 @@ ghost use Rattle.proxy_config.specs.Sound.{IsSoundConfig};
 use super::fakes::{Fake, Few, Scene, Seen};
 use super::scenes::plain;
 use super::*;
-use std::sync::atomic::AtomicBool;
 use std::thread::Threads;
 
 // The result of a checker: how often it looked, and whether the server is up afterwards.
@@ -22,8 +21,11 @@ fn check_thrice<N: DeskName, R: Abort + Wait>(
 ) -> Checked {
     let before = seen.probes.load(Ordering::SeqCst);
     let mut gate = Fake::new(Scene { up, ..plain() }, seen);
-    let stop = AtomicBool::new(stopped);
-    checker(rt, proxy, &mut gate, &mut Few::new(3), &stop);
+    let stop = Stop::new();
+    if stopped {
+        stop.tell();
+    }
+    checker(rt, proxy, &mut gate, &mut Few::new(3), &stop.view());
     let read = proxy.desk.look(rt).book().servers(proxy.alloc);
     let lines = read.expect(rt, "memory");
     let is_up = lines.iter().all(|line| line.up);

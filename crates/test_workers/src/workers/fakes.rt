@@ -121,10 +121,28 @@ pub(crate) struct Fake<'a> {
     now: u64,
 }
 
+/// The check of a server that is up, or isn't.
+#[derive(Drop)]
+pub(crate) struct Up {
+    is_up: bool,
+}
+
+impl EndedCheck for Up {
+    ghost passed = { λ up. up.is_up };
+
+    fn has_passed(&self) -> bool {
+        self.is_up
+    }
+}
+
 impl<'a> Gate for Fake<'a> {
     type Client = Peer<'a>;
 
     type Server = Peer<'a>;
+
+    type Check = Up;
+
+    type Receipt = ();
 
     fn next(&mut self) -> Option<Peer<'a>> {
         if self.came == self.scene.clients {
@@ -167,9 +185,11 @@ impl<'a> Gate for Fake<'a> {
 
     fn posted(&mut self, _seat: &RelaySeat) {}
 
-    fn probe(&mut self, _server: usize) -> Option<bool> {
+    fn probe(&mut self, _server: usize) -> Option<Up> {
         self.seen.probes.fetch_add(1, Ordering::SeqCst);
-        Some(self.scene.up)
+        Some(Up {
+            is_up: self.scene.up,
+        })
     }
 
     fn gone(&mut self, _client: &mut Peer<'a>) -> bool {

@@ -1,5 +1,5 @@
 -- What a look for the answer's head finds, and how the exchange is judged by it.
-use Rattle.std.proofs.Common.{◌≡◌, ◌≢◌, ◌∙◌, ◌⊎◌, ℕ, inl, inr, [], sym, arith}
+use Rattle.std.proofs.Common.{◌≡◌, ◌≢◌, ◌∙◌, ◌∷◌, ℕ, List, refl, inl, inr, [], sym, arith}
 use Rattle.exchange_machine.specs.declared.forwarding.Forwarding.{Forwarding}
 use Rattle.exchange_machine.specs.Findings.{LacksHeadRoom}
 use Rattle.exchange_machine.specs.declared.sides.Down.TheVariants.{Heads}
@@ -27,11 +27,15 @@ refused_is_no_answer is = cc
 
 without_room : (p : Forwarding) (outcome : Outcome) (next : Exchange)
     → (count : ℕ) × (p.phase ≡ Heads count) × LacksHeadRoom count p
-    → ((p.down.out ≢ []) × RelaysOn p outcome next) ⊎ StarvesIn p outcome next
+    → (p.down.out ≢ [] → RelaysOn p outcome next) → (p.down.out ≡ [] → StarvesIn p outcome next)
     → AwaitsAnswer p outcome next
-without_room p outcome next head (inl waits) =
-    inr (inl (record { count = head.0; heads = head.1; room = head.2; behind = waits.0; relays = waits.1 }))
-without_room p outcome next head (inr starves) = inr (inr (inr starves))
+without_room p outcome next head waits starves = by_out p.down.out refl
+  where
+    by_out : (out : List ℕ) → p.down.out ≡ out → AwaitsAnswer p outcome next
+    by_out [] is = inr (inr (inr (starves is)))
+    by_out (byte ∷ rest) is =
+        let behind : p.down.out ≢ [] = λ none. cc in
+        inr (inl (record { count = head.0; heads = head.1; room = head.2; behind = behind; relays = waits behind }))
 
 pub returns-in-Answer-clause-judged : goal.returns-in-Answer-clause-judged
 returns-in-Answer-clause-judged c =
@@ -56,7 +60,7 @@ pub returns-in-Full-clause-judged : goal.returns-in-Full-clause-judged
 returns-in-Full-clause-judged c =
     judged_at_head _ _ _ _ _ c.use_held.ensures.uses c.read_heads.ensures.uses c.use_held.ensures.all c.read_heads.ensures.up
     (λ at. c.read_heads.ensures.stays (c.use_held.ensures.phase ∙ at)) (λ h is. c.read_heads.ensures.passes h (c.use_held.ensures.passes h is)) (c.read_heads.ensures.heads (λ answered. full_is_no_answer (sym c.in-Full.is ∙ answered)))
-    (without_room _ _ _ (c.read_heads.ensures.full c.in-Full.is) c.no_room-in-Full.ensures.does)
+    (without_room _ _ _ (c.read_heads.ensures.full c.in-Full.is) c.no_room-in-Full.ensures.waits c.no_room-in-Full.ensures.starves)
 
 pub returns-in-Short-clause-judged : goal.returns-in-Short-clause-judged
 returns-in-Short-clause-judged c =
@@ -69,3 +73,6 @@ returns-in-Refused-clause-judged c =
     judged_at_head _ _ _ _ _ c.use_held.ensures.uses c.read_heads.ensures.uses c.use_held.ensures.all c.read_heads.ensures.up
     (λ at. c.read_heads.ensures.stays (c.use_held.ensures.phase ∙ at)) (λ h is. c.read_heads.ensures.passes h (c.use_held.ensures.passes h is)) (c.read_heads.ensures.heads (λ answered. refused_is_no_answer (sym c.in-Refused.is ∙ answered)))
     (let none = c.read_heads.ensures.none c.in-Refused.is in inr (inr (inl (record { count = none.0; heads = none.1; none = none.2; stops = c.refused_badly.ensures.does }))))
+
+pub returns-in-Full-clause-at : goal.returns-in-Full-clause-at
+returns-in-Full-clause-at c h is = c.no_room-in-Full.ensures.at h (c.read_heads.ensures.passes h (c.use_held.ensures.passes h is))

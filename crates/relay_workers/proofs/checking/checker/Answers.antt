@@ -13,14 +13,14 @@ loop-init g c =
 pub loop-preserved : goal.loop-preserved
 loop-preserved g c = round _ _ _ _ _ _ c.loop.invariant c.check_each.ensures c.if-not-turn.ensures.more
 
-pub returns-then-is_told : goal.returns-then-is_told
-returns-then-is_told g c = (
+pub returns-in-Some-sign : goal.returns-in-Some-sign
+returns-in-Some-sign g c = (
   _,
   _,
   _,
   subst (λ (most : ℕ). HasChecked g.N.BoardName.terms g.N.DeskName.setup c.args.proxy.now.config.servers (g.G.Gate.notes c.args.gate.now) most
       (g.G.Gate.notes c.loop.gate) c.loop.next_checks (g.P.Pause.left c.loop.pause)) c.begin.ensures.left c.loop.invariant,
-  inl (c.if-is_told.ensures, refl, refl),
+  inl (c.in-Some-sign.ensures, refl, refl),
 )
 
 pub returns-then-not-turn : goal.returns-then-not-turn

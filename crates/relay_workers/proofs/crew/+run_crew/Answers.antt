@@ -1,10 +1,12 @@
-use Rattle.std.proofs.Common.{◌≡◌, Err, inr, refl, sym, arith, subst}
+use denote.Param.Send.{sendable}
+use Rattle.std.proofs.Common.{rules, ◌≡◌, Err, inr, refl, sym, arith, subst}
 use Rattle.std.proofs.lemmas.List.{nil_from_length}
 use Rattle.std.specs.Vec.Iter.{into_iter_items}
 use Rattle.relay_workers.specs.Crews.{EndsAs}
 use Rattle.relay_workers.specs.Serving.{SomeHasWorked}
 use Rattle.relay_workers.specs.declared.stopping.Stopped.TheVariants.{NoMemory}
-use Rattle.relay_workers.proofs.Crewing.{nobody, one_more, of_ok}
+use Rattle.relay_workers.specs.Seats.{IsUnused}
+use Rattle.relay_workers.proofs.Crewing.{behind_first, nobody, one_more, of_ok}
 use Rattle.relay_workers.proofs.crew.+run_crew.Goals as goal
 
 pub returns-in_default : goal.returns-in_default
@@ -25,6 +27,13 @@ pub spawn_with-requires-clause-keeps : goal.spawn_with-requires-clause-keeps
 spawn_with-requires-clause-keeps g t c κs within = λ result ends. subst (λ gate. EndsAs
     (SomeHasWorked g.G.Client.Read.remaining g.G.Client.Write.contents g.G.Server.Read.remaining g.G.Server.Write.contents g.N.BoardName.terms g.N.DeskName.setup) g.G.Gate.notes gate result)
     (sym c.of.ensures) ends
+
+pub spawn_with-requires-clause-runs : goal.spawn_with-requires-clause-runs
+spawn_with-requires-clause-runs g t c κs within = search (rules, sendable) depth 60 fits 20000
+
+pub run_crew-others-requires-clause-unused : goal.run_crew-others-requires-clause-unused
+run_crew-others-requires-clause-unused g t c κs within =
+    behind_first (λ seat. IsUnused g.N.BoardName.terms seat.idle.seat) c.args.seats.now c.in-Some.rest.now c.in-Some.seat.now c.in-Some.ensures.cases.0 c.requires.unused
 
 -- its thread can't be started
 pub returns-in_default-started : goal.returns-in_default-started

@@ -6,7 +6,7 @@ use Rattle.grant_board.specs.RelayCalls.{Relay}
 use Rattle.grant_board.specs.Views.{Grant}
 use Rattle.grant_board.specs.declared.returned.Return.{Return}
 use Rattle.relay_workers.specs.Serving.{HasLeftSeat}
-use Rattle.relay_workers.proofs.Crewing.{joined_seats, not_begun}
+use Rattle.relay_workers.proofs.Crewing.{joined_seats, joins_none, not_begun}
 use Rattle.relay_workers.proofs.Crosses.{proxy_sync}
 use Rattle.relay_workers.proofs.crew.serve.Goals as goal
 
@@ -15,6 +15,10 @@ run_all-all-requires-sync-S g c κs within = let s = proxy_sync g.row.N g.N.Desk
 
 pub returns-in_default-clause-checks : goal.returns-in_default-clause-checks
 returns-in_default-clause-checks g c = not_begun _ _ _ _ _ _ (ap g.G.Gate.notes c.of.ensures)
+
+pub returns-in_default-clause-joins : goal.returns-in_default-clause-joins
+returns-in_default-clause-joins g c =
+    joins_none _ _ _ _ (ap (λ (seat : Relay). seat.view) c.in_default.ensures.none)
 
 -- each seat's type says what was done with it
 pub returns-clause-joins : goal.returns-clause-joins

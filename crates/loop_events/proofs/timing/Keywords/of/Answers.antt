@@ -1,6 +1,6 @@
 -- a timeout keeps its number while others are added
 use Rattle.std.proofs.Common.{Option, Some, subst, ℕ}
-use Rattle.loop_events.specs.Timeouts.{IsTimed}
+use Rattle.loop_shared.specs.Timed.{IsTimed}
 use Rattle.loop_events.proofs.timing.Keywords.of.Goals as goal
 
 pub returns : goal.returns

@@ -22,4 +22,5 @@ returns-clause-some c =
       closes = ap (λ (it : Outside). it.standing) c.end_time.ensures.same ∙ (c.close.ensures.closed out).0
           ∙ ap (λ (table : Table (Box Standing)). closed table c.in_ok-standing.hole.token) lends.left.0
           ∙ ap (λ (token : Token). closed (lent old.standing c.args.token) token) lends.hole;
+      patience = ap (λ (it : Outside). it.patience) c.end_time.ensures.same;
     }

@@ -10,5 +10,5 @@ returns-clause-some c =
       c.in_ok-token.token,
       subst (λ (cell : ℕ). IsOverdueAt now c.in-Some.overdue.keyword cell) (sym c.in_ok-token.ensures.index)
           (subst (λ (timers : Timeouts). IsOverdueAt timers c.in-Some.overdue.keyword c.in-Some.overdue.cell) c.look_at_clock.ensures c.in-Some.ensures.over),
-      record { standing = gone.standing; stood = gone.stood; held = gone.held; order = gone.order; closes = gone.closes },
+      record { standing = gone.standing; stood = gone.stood; held = gone.held; order = gone.order; closes = gone.closes; patience = gone.patience },
     )

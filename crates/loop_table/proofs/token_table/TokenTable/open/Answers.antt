@@ -19,7 +19,7 @@ invariant_of-result g c =
 
 pub invariant_of-self : goal.invariant_of-self
 invariant_of-self g c =
-    rw c.remove.ensures (cells_opened _ _ _ c.self.invariant c.in-Some.index (first_among _ _ c.in-Some.ensures.first))
+    rw c.remove.ensures (cells_opened _ _ _ c.self.invariant c.in-Some.cell (first_among _ _ c.in-Some.ensures.first))
 
 pub returns-clause-token : goal.returns-clause-token
 returns-clause-token g c =

@@ -4,8 +4,8 @@ use Rattle.run_gate.proofs.Running.{not_over, laid_twice}
 use Rattle.run_gate.proofs.gate.SocketGateGate.probe.Goals as goal
 
 -- the check is laid back
-pub returns-in-Some-clause-running : goal.returns-in-Some-clause-running
-returns-in-Some-clause-running g c =
+pub returns-in-Some-get_mut-clause-running : goal.returns-in-Some-get_mut-clause-running
+returns-in-Some-get_mut-clause-running g c =
     let probe = c.in-Ok.probe in
     let then : c.take_probe.new.self.last ≡ c.now-now.result = search rules in (
       probe,

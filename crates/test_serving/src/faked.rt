@@ -3,19 +3,28 @@
 use std::alloc::Global;
 use std::fmt::Display;
 use std::io::{self, ErrorKind};
-use std::net::{Net, SocketAddr, TcpListener, TcpStream};
+use std::net::{IpAddr, Ipv4Addr, Net, SocketAddr, TcpListener, TcpStream};
 use std::process::Abort;
 use std::sync::Wait;
 use std::thread;
 use std::thread::Threads;
 use std::time::{Clock, Duration};
 
+/// What a look-up of a name gives.
+#[derive(Clone, Copy)]
+enum LookUp {
+    Real,
+    /// It takes ten minutes.
+    Hangs,
+    /// Nobody listens at the address that it gives before this moment; later it gives 127.0.0.1.
+    Moves(Duration),
+}
+
 /// A runtime like the one below, except for look-ups of names and what is printed.
 #[derive(Clone, Copy)]
 pub(crate) struct Faked<R> {
     rt: R,
-    /// A look-up takes ten minutes.
-    hangs: bool,
+    look_up: LookUp,
     /// Printing a text fails that these words aren't in.
     words: &'static str,
 }
@@ -24,7 +33,15 @@ impl<R> Faked<R> {
     pub(crate) fn hanging(rt: R) -> Faked<R> {
         Faked {
             rt,
-            hangs: true,
+            look_up: LookUp::Hangs,
+            words: "",
+        }
+    }
+
+    pub(crate) fn moving(rt: R, at: Duration) -> Faked<R> {
+        Faked {
+            rt,
+            look_up: LookUp::Moves(at),
             words: "",
         }
     }
@@ -32,10 +49,16 @@ impl<R> Faked<R> {
     pub(crate) fn picky(rt: R, words: &'static str) -> Faked<R> {
         Faked {
             rt,
-            hangs: false,
+            look_up: LookUp::Real,
             words,
         }
     }
+}
+
+// Returns the address of a name that moves, which nobody listens at before it did.
+fn moved_address(has_moved: bool, port: u16) -> SocketAddr {
+    let last = if has_moved { 1 } else { 2 };
+    SocketAddr::new(IpAddr::V4(Ipv4Addr::new(127, 0, 0, last)), port)
 }
 
 impl<R: Net<Listener = TcpListener, Stream = TcpStream> + Clock> Net for Faked<R> {
@@ -52,11 +75,21 @@ impl<R: Net<Listener = TcpListener, Stream = TcpStream> + Clock> Net for Faked<R
     }
 
     fn lookup_host(&self, host: &str, port: u16, found: &mut [SocketAddr]) -> io::Result<usize> {
-        if self.hangs {
-            thread::sleep(&self.rt, Duration::from_secs(600));
-            return Ok(0);
+        match self.look_up {
+            LookUp::Real => self.rt.lookup_host(host, port, found),
+            LookUp::Hangs => {
+                thread::sleep(&self.rt, Duration::from_secs(600));
+                Ok(0)
+            }
+            LookUp::Moves(at) => {
+                let has_moved = at <= self.rt.monotonic()?;
+                let Some(first) = found.get_mut(0) else {
+                    return Ok(0);
+                };
+                *first = moved_address(has_moved, port);
+                Ok(1)
+            }
         }
-        self.rt.lookup_host(host, port, found)
     }
 }
 

@@ -7,6 +7,8 @@ mod echoes;
 #[cfg(test)]
 mod faked;
 #[cfg(test)]
+mod names;
+#[cfg(test)]
 mod operators;
 #[cfg(test)]
 mod peers;

@@ -64,7 +64,7 @@ fn answer_all(listener: &TcpListener, count: u32, text: &[u8]) -> bool {
     answer_all(listener, count - 1, text) && answer(client, text)
 }
 
-fn answer_each(listener: &TcpListener, count: u32, text: &[u8]) -> bool {
+pub(crate) fn answer_each(listener: &TcpListener, count: u32, text: &[u8]) -> bool {
     for _ in 0..count {
         let is_answered = match listener.accept() {
             Ok((client, _)) => answer(client, text),

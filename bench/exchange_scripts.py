@@ -80,6 +80,20 @@ class Maker:
         self.connection = None
 
     def made(self):
+        return self.made_of_heads() if self.chance.randrange(40) == 0 else self.made_of_moves()
+
+    def made_of_heads(self):
+        """A client that takes nothing for a while, and heads for it, often more than can wait for it."""
+        chance = self.chance
+        heads = [long_head(b"103", chance.randrange(6000)) for _ in range(chance.randrange(2, 9))]
+        answer = long_head(b"200", chance.randrange(6000))[:-2] + b"Content-Length: 2\r\n\r\nhi"
+        moves = [GET, GRANT, CONNECTED, ("client-takes", chance.choice([0, 0, 10])), *(("server", it) for it in [*heads, answer])]
+        moves.insert(chance.randrange(5, len(moves) + 1), ("client-flows", None))
+        for move in moves:
+            self.add([move])
+        return "", self.groups
+
+    def made_of_moves(self):
         self.client = self.cut(b"".join(self.request() for _ in range(self.chance.choice([1, 1, 2, 3]))))
         for _ in range(self.chance.choice([6, 12, 20, 40, 60])):
             if self.model.stage == "over":
@@ -240,6 +254,10 @@ class Maker:
         chance = self.chance
         version = chance.choice([b"HTTP/1.1"] * 9 + [b"HTTP/1.0"])
         return version + b" %03d" % status + chance.choice(REASONS) + chance.choice([b"\r\n"] * 9 + [b"\n"])
+
+def long_head(status, size):
+    return b"HTTP/1.1 " + status + b" X\r\nA: " + b"a" * size + b"\r\n\r\n"
+
 
 GET = ("client", b"GET /a HTTP/1.1\r\nHost: h\r\n\r\n")
 HI = ("server", b"HTTP/1.1 200 OK\r\nContent-Length: 2\r\n\r\nhi")

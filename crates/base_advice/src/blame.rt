@@ -1,6 +1,6 @@
 //! The word of a script's faulty line that can't stand there, and why.
 
-use crate::forms::{EVENTS, Form, HEADERS, form_of};
+use crate::forms::{EVENTS, Form, HEADERS, ROLL, form_of};
 use crate::slips::nearest;
 use proxy_words::{Lines, Words, long_number};
 use std::alloc::{AllocError, Global};
@@ -56,6 +56,10 @@ pub(crate) fn blame_of(alloc: Global, script: &[u8], number: usize) -> Result<Bl
     }
     if long_number(first).is_some() {
         return blame_of_event(alloc, line);
+    }
+    if first == ROLL.keyword.as_bytes() {
+        let shape = misfit(&ROLL, line, 1);
+        return Ok(shape.unwrap_or(Blame::new(None, LineFault::Length(ROLL.looks))));
     }
     if form_of(&EVENTS, first).is_some() {
         return Ok(Blame::new(Some(0), LineFault::NoMoment));
@@ -147,7 +151,7 @@ fn blame_of_header(script: &[u8], number: usize, name: &[u8]) -> Blame {
 // Says whether a line that isn't faulty is an event.
 fn is_event(line: &[u8]) -> bool {
     let first = word_at(line, 0);
-    long_number(first).is_some() || first == b"roll".as_slice()
+    long_number(first).is_some() || first == ROLL.keyword.as_bytes()
 }
 
 /// Returns the line with this number, counted from 1; an empty one where there is none.

@@ -130,6 +130,14 @@ pub(crate) static EVENTS: [Form; 7] = [
     },
 ];
 
+/// The end of a window.
+pub(crate) static ROLL: Form = Form {
+    keyword: "roll",
+    word_kinds: &[],
+    least: 0,
+    looks: "roll",
+};
+
 /// Returns the form with this keyword, among these.
 pub(crate) fn form_of(forms: &'static [Form], word: &[u8]) -> Option<&'static Form> {
     forms.iter().find(|form| word == form.keyword.as_bytes())

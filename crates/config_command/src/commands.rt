@@ -14,7 +14,7 @@ begins with # is a comment. The header lines, and what stands without them:
   retries N              further tries where a connection fails (3)
   redispatch             the last try goes elsewhere, and so does the queue of a
                          server that goes down or is closed (off)
-  queue-timeout N        the longest keep_alive in a queue in ms, 0 for no limit (0)
+  queue-timeout N        the longest stay in a queue in ms, 0 for no limit (0)
   server NAME MAXCONN MAXQUEUE WEIGHT [RISE FALL]
                          one more server, checked where it has RISE and FALL
                          (server s1 1 0 1)

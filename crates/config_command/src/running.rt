@@ -71,7 +71,7 @@ const PLACES: &str = "Requests that are served or wait, 1 to 4096";
 const WAITING: &str =
     "While so many requests wait beyond the places, no client is accepted, 1 to 65536 [default: 65536]";
 
-const KEEP: &str = "Lets a client keep_alive for further requests on its connection";
+const KEEP: &str = "Lets a client stay for further requests on its connection";
 
 const KEEP_ALIVE_HELP: &str =
     "A client that stays and asks for nothing is closed after so many ms, from 1 on";
@@ -80,7 +80,7 @@ const REUSE: &str =
     "Uses connections of servers for further requests: idempotent ones without a body";
 
 const IDLE_HELP: &str =
-    "So many unused connections of a server keep_alive open at most, 1 to 4096, with --reuse";
+    "So many unused connections of a server stay open at most, 1 to 4096, with --reuse";
 
 const WINDOW: &str =
     "Ends a window of the log after so many ms, too, and prints its reports with the time, from 100 on";

@@ -28,7 +28,7 @@ abbrev pub names_of : Option IpAddr → List (List ℕ)
 names_of None = []
 names_of (Some address) = ip_text address ∷ []
 
--- The head has the same method, target and version. Its fields are those that are handed on, as
+-- The head has the same method and target. Its fields are those that are handed on, as
 -- they came, and after them the proxy's own, which name this client once, or none.
 pub record AsksAlike (client : Option IpAddr) (r : Request) (head : RequestHead) : Type 0 where
   pub method : head.method ≡ r.method

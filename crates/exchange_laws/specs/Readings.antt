@@ -30,7 +30,7 @@ pub record AreReadSo (ws : List Whole) : Type 0 where
 abbrev pub IsNamedIn : Whole → Type 0
 IsNamedIn w = IsNamed w.adds.client
 
--- The message is the request of this exchange: it has the same request line, and its body is the
+-- The message is the request of this exchange: it has the same method and target, and its body is the
 -- client's as that one frames it, for a chunked body without its extensions and trailers.
 pub record IsMessageOf (w : Whole) (m : Message) : Type 0 where
   pub asks : AsksAlike w.adds.client (request_of w.head) m.head

@@ -10,7 +10,7 @@ use exchange_seated::{Linked, Posting, WaitingExchange};
 use locked_book::DeskName;
 use log_entries::Refusal;
 use log_lines::EndedBy;
-use loop_shared::{Gate, Outsider, Parked, arrive_as};
+use loop_shared::{Gate, Outsider, Parked};
 use loop_table::Hole;
 use prio_rules::{Wish, decide};
 use std::net::{Net, TcpListener, TcpStream};
@@ -40,10 +40,10 @@ impl<
         }
         let wish = decide(&self.shared.proxy.config, queued.view());
         self.note_asked(&mut visit, queued.view(), Some(&wish));
-        if self.shared.has_outside() {
+        let Some(nobody) = self.shared.seen_nobody_outside() else {
             return self.go_outside(queued, visit, &wish, hole);
-        }
-        match arrive_as(self.rt, self.shared.proxy, &mut self.gate, &wish) {
+        };
+        match self.shared.arrive(self.rt, &mut self.gate, &wish, nobody) {
             Ok(at) => self.park(queued, visit, at, hole),
             Err(Refusal::PlacesFull) => self.go_outside(queued, visit, &wish, hole),
             Err(_) => self.turn_away(queued, visit, hole),

@@ -4,12 +4,15 @@
 //! afterwards, so one of the two should find the other. No clause says that; it is argued here
 //! only.
 
-ghost use Rattle.std.specs.Prelude.{◌≡◌, IfErr, IfSome, IfNone};
+ghost use Rattle.std.specs.Prelude.{◌≡◌, IfOk, IfErr, IfSome, IfNone};
+ghost use Rattle.relay_workers.specs.Admissions.{arrival, IsAdmittedAs, IsRefusedFor};
+ghost use Rattle.relay_workers.specs.Turning.{IsAnswered};
+ghost use Rattle.shared_desk.specs.Answers.{AnswersArrival};
 ghost use Rattle.loop_shared.specs.Admissions.{Admits};
 ghost use Rattle.loop_shared.specs.Outsides.{HasGone};
 ghost use Rattle.loop_table.specs.declared.subject.Subject.TheVariants as subjects;
 
-use crate::first_outside::{NothingToAdmit, admit_one};
+use crate::first_outside::{NobodyOutside, NothingToAdmit, admit_one};
 use crate::leaving::HasLeft;
 use crate::outside::{Outside, Outsider};
 use crate::owed_admission::OwedAdmission;
@@ -19,11 +22,12 @@ use crate::watching::watch_anew;
 use dispatch_state::Ticketed;
 use due_key::Moment;
 use locked_book::DeskName;
+use log_entries::Refusal;
 use loop_table::{Subject, Token};
 use mio::{Interest, Registry};
 use prio_rules::Wish;
 use proxy_config::Config;
-use relay_workers::Gate;
+use relay_workers::{Gate, arrive_as};
 use std::os::fd::AsRawFd;
 use std::sync::Wait;
 use std::sync::atomic::Ordering;
@@ -41,9 +45,20 @@ pub enum Admission {
 }
 
 impl<N: DeskName + Ledger> Shared<'_, N> {
-    /// Says whether a request waits for a place.
-    pub fn has_outside(&self) -> bool {
-        self.outsiders() != 0
+    /// Asks for a place for a request that comes now, with this wish. Refused as the dispatcher's
+    /// `arrive` is.
+    pub fn arrive<R: Wait, G: Gate>(
+        &self,
+        rt: &R,
+        gate: &mut G,
+        wish: &Wish,
+        _nobody: NobodyOutside,
+    ) -> Result<Ticketed, Refusal>
+        ensures ok { IfOk result (λ it. IsAdmittedAs N.terms N.setup wish.now it) }
+        ensures err { IfErr result (λ refusal. IsRefusedFor N.terms N.setup wish.now.pin refusal) }
+        ensures answered { IsAnswered N.terms N.setup (AnswersArrival N.terms N.setup (arrival wish.now) wish.now.pin) result (G.notes gate.old) (G.notes gate.new) }
+    {
+        arrive_as(rt, self.proxy, gate, wish)
     }
 
     /// Returns the number of requests that wait for a place.
@@ -75,7 +90,8 @@ impl<N: DeskName + Ledger> Shared<'_, N> {
     ) -> Admission
         ensures { Admits N.terms N.setup result (G.notes gate.old) (G.notes gate.new) }
     {
-        if let Some(nothing) = self.seen_nobody_outside() {
+        if let Some(nobody) = self.seen_nobody_outside() {
+            let nothing = nobody.admit();
             owed.end(&nothing);
             return Admission::Rests(nothing);
         }

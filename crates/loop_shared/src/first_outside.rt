@@ -20,19 +20,35 @@ pub struct NothingToAdmit {
     seen: (),
 }
 
-impl<N: DeskName + Ledger> Shared<'_, N> {
-    // Says that no request waits for a place.
-    pub(crate) fn seen_nobody_outside(&self) -> Option<NothingToAdmit> {
-        nothing_of(self.outsiders())
+/// Somebody looked outside, and no request waited there. A request that comes may ask for a place
+/// then, since it passes none that came before it (`Shared::arrive`).
+#[derive(Drop)]
+pub struct NobodyOutside {
+    // It is private, so no other module makes one.
+    seen: (),
+}
+
+impl NobodyOutside {
+    // Where nobody waits, nothing is to be admitted.
+    pub(crate) fn admit(self) -> NothingToAdmit {
+        let NobodyOutside { seen: _ } = self;
+        NothingToAdmit { seen: () }
     }
 }
 
-// Says that nothing is to be admitted where this number of requests waits outside.
-fn nothing_of(outsiders: u64) -> Option<NothingToAdmit>
+impl<N: DeskName + Ledger> Shared<'_, N> {
+    /// Says that no request waits for a place; `None` where one does.
+    pub fn seen_nobody_outside(&self) -> Option<NobodyOutside> {
+        nobody_of(self.outsiders())
+    }
+}
+
+// Says that nobody waits where this number of requests waits outside.
+fn nobody_of(outsiders: u64) -> Option<NobodyOutside>
     ensures { is_some result ≡ (outsiders == 0) }
 {
     if outsiders == 0 {
-        Some(NothingToAdmit { seen: () })
+        Some(NobodyOutside { seen: () })
     } else {
         None
     }

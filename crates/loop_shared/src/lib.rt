@@ -38,7 +38,7 @@ mod windows;
 pub use admission::Admission;
 pub use descriptors::{ConnectionBounds, ServerConnections, most_connections};
 pub use dialing::{DialFault, Dialed};
-pub use first_outside::NothingToAdmit;
+pub use first_outside::{NobodyOutside, NothingToAdmit};
 pub use granted::GrantedRequest;
 pub use leaving::HasLeft;
 pub use looking::Looked;
@@ -61,5 +61,5 @@ pub use watching::{Watched, watch, watch_anew};
 pub use windows::run_windows;
 
 // The loops get the items of the layers below from this crate.
-pub use relay_workers::{Gate, Proxy, Stop, arrive_as, join_all, split_off};
+pub use relay_workers::{Gate, Proxy, Stop, join_all, split_off};
 pub use run_gate::{GateShared, Site, SocketGate};

@@ -67,7 +67,7 @@ impl<N: DeskName + Ledger> Shared<'_, N> {
     /// noted by the thread that brings it.
     pub fn look_for_waits<R: Wait>(&self, rt: &R) {
         self.waits.store(false, Ordering::SeqCst);
-        if self.has_outside() {
+        if self.seen_nobody_outside().is_none() {
             self.waits.store(true, Ordering::SeqCst);
             return;
         }

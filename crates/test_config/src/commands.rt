@@ -55,7 +55,20 @@ const STAYING: RunNumbers = RunNumbers {
     forwarded_for: true,
 };
 
-static COMMANDS: [CommandRow; 35] = [
+// The shortest times, and the most unused connections.
+const SHORTEST: RunNumbers = RunNumbers {
+    workers: None,
+    loops: None,
+    waiting: None,
+    places: 1024,
+    requests: 0,
+    keeping: Some(1),
+    reusing: Some(4096),
+    window: Some(100),
+    forwarded_for: false,
+};
+
+static COMMANDS: [CommandRow; 38] = [
     // `run` has its sizes.
     (
         "dueproxy run file --workers 7",
@@ -64,6 +77,18 @@ static COMMANDS: [CommandRow; 35] = [
     (
         "dueproxy run file --keep-alive --reuse --window 60000 --forwarded-for",
         Expected::Run("file", STAYING),
+    ),
+    (
+        "dueproxy run file --keep-alive --keep-alive-timeout 1 --reuse --reuse-idle 4096 --window 100",
+        Expected::Run("file", SHORTEST),
+    ),
+    (
+        "dueproxy run file --keep-alive-timeout 0",
+        Expected::Nothing(2),
+    ),
+    (
+        "dueproxy run file --keep-alive --keep-alive-timeout 0",
+        Expected::Nothing(2),
     ),
     ("dueproxy run file --reuse-idle 0", Expected::Nothing(2)),
     ("dueproxy run file --reuse-idle 4097", Expected::Nothing(2)),

@@ -227,3 +227,139 @@ listen w
 fn a_section_inherits_from_the_last_defaults_before_it(rt: HostRuntime) {
     is_converted(&rt, rt.alloc(), &DEFAULTS);
 }
+
+static SERVERS_DEFAULTS: Row = Row {
+    file: "\
+listen w
+  mode http
+  balance leastconn
+  bind :80
+  default-server maxconn 10 weight 7
+  server a h:1 maxconn 3
+  server b h:2
+  default-server maxconn 20
+  server c h:3 weight 9
+",
+    frontend: None,
+    backend: None,
+    status: 0,
+    text: "\
+listen w
+    mode http
+    balance leastconn
+    bind *:80
+    server a h:1 weight 7 maxconn 3
+    server b h:2 weight 7 maxconn 10
+    server c h:3 weight 9 maxconn 20
+",
+    notes: "",
+};
+
+#[test]
+fn a_servers_own_words_hold_before_those_of_default_server(rt: HostRuntime) {
+    is_converted(&rt, rt.alloc(), &SERVERS_DEFAULTS);
+}
+
+static METHODS: Row = Row {
+    file: "\
+listen w
+  mode http
+  balance leastconn
+  bind :80
+  acl m method -i GET POST
+  acl n method -i get
+  acl p path -i /A
+  http-request set-priority-class int(1) if m
+  http-request set-priority-class int(3) if p
+  server a h:1
+",
+    frontend: None,
+    backend: None,
+    status: 0,
+    text: "\
+listen w
+    mode http
+    balance leastconn
+    bind *:80
+    acl m method GET POST
+    # acl n method -i get
+    #   Its test isn't there, so rules that name it are left out too.
+    acl p path -i /A
+    http-request set-priority-class int(1) if m
+    http-request set-priority-class int(3) if p
+    server a h:1
+",
+    notes: "",
+};
+
+#[test]
+fn a_method_is_compared_with_its_case(rt: HostRuntime) {
+    is_converted(&rt, rt.alloc(), &METHODS);
+}
+
+const TWO_BACKENDS: &str = "\
+frontend f
+  mode http
+  bind :80
+  acl x path /x
+  use_backend b if x
+  default_backend c
+backend b
+  balance leastconn
+  mode http
+  server a h:1
+backend c
+  mode http
+  server d h:2
+";
+
+static CHOSEN: [Row; 2] = [
+    Row {
+        file: TWO_BACKENDS,
+        frontend: None,
+        backend: Some("b"),
+        status: 6,
+        text: "\
+listen f
+    mode http
+    balance leastconn
+    bind *:80
+    acl x path /x
+    # use_backend b if x
+    #   Requests for which its condition doesn't hold would not have come to these servers: here they do.
+    # default_backend c
+    #   Its requests would have gone to another backend's servers: here they go to those below.
+    server a h:1
+",
+        notes: "\
+line 5: use_backend b: Requests for which its condition doesn't hold would not have come to these servers: here they do.
+line 6: default_backend c: Its requests would have gone to another backend's servers: here they go to those below.
+",
+    },
+    Row {
+        file: "frontend f\n mode http\n bind :80\n acl x path /x\n use_backend b if x\n default_backend b\nbackend b\n balance leastconn\n mode http\n server a h:1\n",
+        frontend: None,
+        backend: None,
+        status: 0,
+        text: "\
+listen f
+    mode http
+    balance leastconn
+    bind *:80
+    acl x path /x
+    # use_backend b if x
+    #   Its servers stand below.
+    # default_backend b
+    #   Its servers stand below.
+    server a h:1
+",
+        notes: "",
+    },
+];
+
+#[test]
+fn a_condition_counts_where_other_requests_have_another_backend(rt: HostRuntime) {
+    for row in &CHOSEN {
+        is_converted(&rt, rt.alloc(), row);
+    }
+}

@@ -55,7 +55,7 @@ struct ScriptRow {
     text: &'static str,
 }
 
-static SCRIPTS: [ScriptRow; 9] = [
+static SCRIPTS: [ScriptRow; 11] = [
     ScriptRow {
         script: "placs 3",
         number: 1,
@@ -110,6 +110,25 @@ line 1: 0 done
 line 1: 0 tick 1
                ^
   The line is M tick.
+",
+    },
+    ScriptRow {
+        script: "0 tick\nroll 0 1",
+        number: 2,
+        text: "\
+line 2: roll 0 1
+             ^
+  The line is roll.
+",
+    },
+    ScriptRow {
+        script: "rol",
+        number: 1,
+        text: "\
+line 1: rol
+        ^^^
+  No line begins so: an event begins with its moment.
+  Did you mean roll?
 ",
     },
     ScriptRow {

@@ -9,7 +9,7 @@ const OLD: &[u8] = b"GET /a HTTP/1.0\r\nHost: h\r\n\r\n";
 const OLD_KEPT: &[u8] = b"GET /a HTTP/1.0\r\nHost: h\r\nConnection: Keep-Alive\r\n\r\n";
 
 // requests that came one after the other, and their answers
-static CHAINS: [Row; 7] = [
+static CHAINS: [Row; 8] = [
     Row {
         name: "two requests in one piece",
         moves: &[
@@ -131,6 +131,25 @@ static CHAINS: [Row; 7] = [
         moves: &[
             Move::Client(
                 b"GET /a HTTP/1.1\r\nHost: h\r\n\r\nGET\r\n\r\nGET /b HTTP/1.1\r\nHost: h\r\n\r\n",
+            ),
+            Move::Grant,
+            Move::Connected(true),
+            Move::Server(HI),
+            Move::Again,
+            Move::Barred,
+            Move::Answered(false),
+        ],
+        aborts: false,
+        sent: GET,
+        told: b"HTTP/1.1 200 OK\r\nContent-Length: 2\r\n\r\nhiHTTP/1.1 400 Bad Request\r\nContent-Length: 0\r\nConnection: close\r\n\r\n",
+        counts: (1, 0, 0),
+        stage: Stage::Telling,
+    },
+    Row {
+        name: "a request whose length isn't certain is refused, and is the last",
+        moves: &[
+            Move::Client(
+                b"GET /a HTTP/1.1\r\nHost: h\r\n\r\nPOST /b HTTP/1.1\r\nHost: h\r\nContent-Length: x\r\n\r\n",
             ),
             Move::Grant,
             Move::Connected(true),

@@ -41,6 +41,9 @@ const UNAVAILABLE: &[u8] =
 
 const HINTS: &[u8] = b"HTTP/1.1 103 Early Hints\r\n\r\n";
 
+const THREE_HINTS: &[u8] =
+    b"HTTP/1.1 103 Early Hints\r\n\r\nHTTP/1.1 103 Early Hints\r\n\r\nHTTP/1.1 103 Early Hints\r\n\r\n";
+
 // answers, early and late
 static ANSWERS: [Row; 8] = [
     Row {
@@ -166,7 +169,7 @@ static ANSWERS: [Row; 8] = [
 ];
 
 // connections and messages that break
-static FAULTS: [Row; 9] = [
+static FAULTS: [Row; 11] = [
     Row {
         name: "no answer",
         moves: &[
@@ -174,6 +177,41 @@ static FAULTS: [Row; 9] = [
             Move::Grant,
             Move::Connected(true),
             Move::Server(b"nonsense\r\n\r\n"),
+        ],
+        aborts: false,
+        sent: GET,
+        told: GATEWAY,
+        counts: (1, 0, 0),
+        stage: Stage::Leaving,
+    },
+    Row {
+        name: "an answer whose length isn't certain",
+        moves: &[
+            Move::Client(GET),
+            Move::Grant,
+            Move::Connected(true),
+            Move::Server(
+                b"HTTP/1.1 200 OK\r\nContent-Length: 2\r\nTransfer-Encoding: chunked\r\n\r\n0\r\n\r\n",
+            ),
+        ],
+        aborts: false,
+        sent: GET,
+        told: GATEWAY,
+        counts: (1, 0, 0),
+        stage: Stage::Leaving,
+    },
+    Row {
+        name: "nine heads before the answer, none of which was taken",
+        moves: &[
+            Move::Client(GET),
+            Move::Grant,
+            Move::Connected(true),
+            Move::Stall,
+            Move::Server(THREE_HINTS),
+            Move::Server(THREE_HINTS),
+            Move::Server(THREE_HINTS),
+            Move::Server(HI),
+            Move::Flow,
         ],
         aborts: false,
         sent: GET,
@@ -296,7 +334,7 @@ static FAULTS: [Row; 9] = [
 ];
 
 // without a server, without a request
-static REFUSALS: [Row; 4] = [
+static REFUSALS: [Row; 5] = [
     Row {
         name: "no server",
         moves: &[
@@ -323,6 +361,15 @@ static REFUSALS: [Row; 4] = [
     Row {
         name: "half a head",
         moves: &[Move::Client(b"GET /a HT"), Move::Over(TimeoutKind::Client)],
+        aborts: false,
+        sent: b"",
+        told: BAD,
+        counts: (0, 0, 0),
+        stage: Stage::Telling,
+    },
+    Row {
+        name: "a head whose length of the body is no number",
+        moves: &[Move::Client(b"POST /a HTTP/1.1\r\nHost: h\r\nContent-Length: x\r\n\r\n")],
         aborts: false,
         sent: b"",
         told: BAD,

@@ -177,3 +177,41 @@ fn a_slot_is_shown_for_sixty_seconds(rt: HostRuntime) {
         assert!(rt; state.as_str().contains(minute), "{}", state.as_str());
     }
 }
+
+#[test]
+fn after_lost_entries_nobody_is_known_to_wait_or_to_be_served(rt: HostRuntime) {
+    let entries = [
+        arrive(&rt, 1, 0, (0, 0)),
+        Entry::Direct(1, 0),
+        arrive(&rt, 2, 0, (0, 0)),
+        Entry::Joined(2, BACKEND),
+        arrive(&rt, 3, 0, (0, 0)),
+        Entry::Joined(3, Queue::Server(1)),
+    ];
+    let (mut numbers, _) = counted(&rt, rt.alloc(), &entries);
+    numbers.roll();
+    let before = [
+        "dueproxy_places_in_use 3\n",
+        "dueproxy_server_served{server=\"a\\\"1\"} 1\n",
+        "dueproxy_queue_waiting{queue=\"*\",class=\"0\"} 1\n",
+        "dueproxy_queue_waiting{queue=\"b\",class=\"0\"} 1\n",
+        "dueproxy_windows_total 1\n",
+        "dueproxy_left_out_total{what=\"gaps\"} 0\n",
+    ];
+    let after = [
+        "dueproxy_places_in_use 0\n",
+        "dueproxy_server_served{server=\"a\\\"1\"} 0\n",
+        "dueproxy_windows_total 3\n",
+        "dueproxy_left_out_total{what=\"gaps\"} 1\n",
+    ];
+    let text = metrics(&rt, rt.alloc(), &numbers);
+    for line in before {
+        assert!(rt; text.as_str().contains(line), "{}", text.as_str());
+    }
+    numbers.skip(2);
+    let text = metrics(&rt, rt.alloc(), &numbers);
+    for line in after {
+        assert!(rt; text.as_str().contains(line), "{}", text.as_str());
+    }
+    assert!(rt; !text.as_str().contains("dueproxy_queue_waiting{"));
+}

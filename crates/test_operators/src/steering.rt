@@ -4,9 +4,10 @@ use due_key::Moment;
 use late_cert::Reports;
 use log_entries::{Intake, Refusal};
 use log_texts::Names;
-use run_control::{Answer, CommandExecutor, Standing, Steered, Steers, Tended};
+use run_control::{Answer, Awaited, CommandExecutor, Standing, Steered, Steers, Tended};
 use std::alloc::{AllocError, Global};
 use std::cell::Cell;
+use std::process::Abort;
 use std::test::Fail;
 
 /// What a proxy sees of its steering.
@@ -15,6 +16,8 @@ struct Seen {
     now: Cell<u64>,
     limited: Cell<Option<Intake>>,
     refused: Cell<bool>,
+    /// The number of requests that each server serves.
+    served: Cell<usize>,
 }
 
 impl Seen {
@@ -23,6 +26,7 @@ impl Seen {
             now: Cell::new(0),
             limited: Cell::new(None),
             refused: Cell::new(false),
+            served: Cell::new(0),
         }
     }
 }
@@ -43,7 +47,7 @@ impl<'a> Steered for Stubborn<'a> {
     fn standing(&self, _server: usize) -> Standing {
         Standing {
             up: true,
-            served: 0,
+            served: self.seen.served.get(),
             waiting: 0,
         }
     }
@@ -164,5 +168,54 @@ fn the_earlier_of_two_ends_holds(rt: HostRuntime) -> Result<(), Fail> {
         assert_eq!(rt; steered.tend(), Tended::Soon);
         assert!(rt; seen.refused.get());
     }
+    Ok(())
+}
+
+// Drains the second server, which serves two requests, and returns what is awaited then.
+fn draining(
+    rt: &impl Abort,
+    steered: &mut CommandExecutor<Stubborn<'_>>,
+    seen: &Seen,
+) -> Result<Awaited, Fail> {
+    seen.served.set(2);
+    match steered.told(b"drain b --wait".as_slice())? {
+        Answer::Later(awaited) => {
+            assert!(rt; steered.look(awaited)?.is_none());
+            Ok(awaited)
+        }
+        _ => {
+            assert!(rt; false);
+            Ok(Awaited::End)
+        }
+    }
+}
+
+#[test]
+fn a_drain_is_told_once_its_server_serves_nobody(rt: HostRuntime) -> Result<(), Fail> {
+    let seen = Seen::new();
+    let mut steered = steered(rt.alloc(), &seen)?;
+    let awaited = draining(&rt, &mut steered, &seen)?;
+    seen.served.set(1);
+    assert!(rt; steered.look(awaited)?.is_none());
+    seen.served.set(0);
+    let told = steered.look(awaited)?;
+    assert_eq!(rt;
+        told.as_ref().map(|text| text.as_str()),
+        Some("ok server b limit closed served 0\n")
+    );
+    Ok(())
+}
+
+#[test]
+fn a_drain_is_told_once_its_server_is_opened_again(rt: HostRuntime) -> Result<(), Fail> {
+    let seen = Seen::new();
+    let mut steered = steered(rt.alloc(), &seen)?;
+    let awaited = draining(&rt, &mut steered, &seen)?;
+    let _ = steered.told(b"ready b".as_slice())?;
+    let told = steered.look(awaited)?;
+    assert_eq!(rt;
+        told.as_ref().map(|text| text.as_str()),
+        Some("ok server b limit 5 served 2\n")
+    );
     Ok(())
 }

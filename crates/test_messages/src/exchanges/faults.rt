@@ -59,10 +59,17 @@ struct Faulty {
     told: &'static [u8],
 }
 
-static REQUESTS: [Faulty; 8] = [
+static REQUESTS: [Faulty; 9] = [
     Faulty {
         side: Side::Request,
         bytes: b"GET / HTTP/2.0\r\n",
+        turns: TURNS,
+        fault: Fault::Head,
+        told: b"",
+    },
+    Faulty {
+        side: Side::Request,
+        bytes: b"GET / HTTP/2.0",
         turns: TURNS,
         fault: Fault::Head,
         told: b"",
